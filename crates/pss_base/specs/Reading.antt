@@ -1,0 +1,62 @@
+-- What one call of a reader of lines does.
+use Rattle.std.specs.Prelude.{ℕ, ◌≡◌, ◌⊎◌, ◌+◌, ◌<◌, ◌++◌, List, [], ◌∷◌, length, Bool, true, false, not, IsTrue}
+use Rattle.std.specs.declared.option.Option.{Option}
+use Rattle.std.specs.Io.KnownBytes.{prepend_known, Consumes, IsAtEnd}
+use Rattle.pss_base.specs.declared.lines.LineStep.{LineStep}
+use Rattle.pss_base.specs.declared.lines.LineStep.TheVariants.{Line, TooLong, End, Limit, ReadFault, NoMemory}
+use Rattle.pss_base.specs.Lines.{has_lf, bytes_of, line_of}
+
+pub record Reading : Type 0 where
+  -- the bytes that were read and belong to no line yet
+  pub ahead : List ℕ
+  pub lines_left : ℕ
+  pub bytes_left : ℕ
+  -- the end was seen
+  pub at_end : Bool
+  pub live : Bool
+
+abbrev pub new_reading : ℕ → ℕ → Reading
+new_reading n b = record { ahead = []; lines_left = n; bytes_left = b; at_end = false; live = true }
+
+-- all that is to come: what the reader has, and then what its source has
+abbrev pub to_come : Reading → Option (List ℕ) → Option (List ℕ)
+to_come reader left = prepend_known reader.ahead left
+
+-- one line was taken, and is told by this step
+pub record TakesLine (old new : Reading) (before after : Option (List ℕ)) (step : LineStep) : Type 0 where
+  pub raw : List ℕ × Bool
+  pub one : has_lf raw.0 ≡ false
+  pub taken : Consumes before after (bytes_of raw)
+  pub told : step ≡ line_of raw
+  pub lines : old.lines_left ≡ new.lines_left + 1
+  pub bytes : old.bytes_left ≡ new.bytes_left + length (bytes_of raw)
+  pub last : raw.1 ≡ false → (0 < length raw.0) × IsAtEnd after
+  -- the end was not seen before, and was now where the line has no line feed
+  pub more : old.at_end ≡ false
+  pub end : new.at_end ≡ not raw.1
+  pub live : IsTrue new.live
+
+-- no line was taken, but maybe the first bytes of one
+abbrev pub TakesNoLine : Option (List ℕ) → Option (List ℕ) → Type 0
+TakesNoLine before after = (part : List ℕ) × Consumes before after part × (has_lf part ≡ false)
+
+-- one byte more than may be read of a line, or after so many lines
+pub record IsOver (old : Reading) (before after : Option (List ℕ)) : Type 0 where
+  pub part : List ℕ
+  pub next : ℕ
+  pub taken : Consumes before after (part ++ next ∷ [])
+  pub one : has_lf part ≡ false
+  pub more : old.at_end ≡ false
+  pub over : (old.lines_left ≡ 0) ⊎ (length part ≡ old.bytes_left)
+
+abbrev pub Steps : Reading → Reading → Option (List ℕ) → Option (List ℕ) → LineStep → Type 0
+Steps old new before after (Line text) = TakesLine old new before after (Line text)
+Steps old new before after TooLong = TakesLine old new before after TooLong
+Steps old new before after End = Consumes before after [] × (IsTrue old.at_end ⊎ IsAtEnd after) × IsTrue new.live
+Steps old new before after Limit = IsOver old before after
+Steps old new before after ReadFault = TakesNoLine before after × (new.ahead ≡ []) × (old.at_end ≡ false)
+Steps old new before after NoMemory = TakesNoLine before after × (old.at_end ≡ false)
+
+abbrev pub is_read_fault : LineStep → Bool
+is_read_fault ReadFault = true
+is_read_fault _ = false

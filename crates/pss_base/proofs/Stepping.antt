@@ -6,11 +6,11 @@ use Rattle.std.specs.declared.option.Option.{Option}
 use Rattle.std.specs.Str.Lines.{strip_carriage_return}
 use Rattle.std.specs.Io.KnownBytes.{Consumes, IsAtEnd}
 use Rattle.pss_base.specs.Lines.{bytes_of}
-use Rattle.pss_base.specs.Reading.{Reading, TakesLine, Steps}
+use Rattle.pss_base.specs.Reading.{Reading, TakesLine, NextLine}
 use Rattle.pss_base.specs.Parts.{PartOf, StopsAt, told_of, stopped_by, is_stopped_by_fault, most_bytes, reading_after}
-use Rattle.pss_base.specs.declared.lines.Part.{Part}
-use Rattle.pss_base.specs.declared.lines.Stop.{Stop}
-use Rattle.pss_base.specs.declared.lines.Stop.TheVariants.{Limit, ReadFault, NoMemory}
+use Rattle.pss_base.specs.declared.part.Part.{Part}
+use Rattle.pss_base.specs.declared.part.Stop.{Stop}
+use Rattle.pss_base.specs.declared.part.Stop.TheVariants.{Limit, ReadFault, NoMemory}
 use Rattle.pss_base.specs.declared.lines.LineStep.{LineStep}
 use Rattle.pss_base.specs.declared.lines.LineStep.TheVariants.{Line, TooLong, End}
 
@@ -27,7 +27,7 @@ is_fault Limit = false
 is_fault ReadFault = true
 is_fault NoMemory = false
 
-pub stops : (old new : Reading) (before after : Option (List ℕ)) (stop : Stop) → (IsTrue (is_fault stop) → new.ahead ≡ []) → old.at_end ≡ false → StopsAt stop (most_bytes old.lines_left old.bytes_left) before after → Steps old new before after (stopped_by stop)
+pub stops : (old new : Reading) (before after : Option (List ℕ)) (stop : Stop) → (IsTrue (is_fault stop) → new.ahead ≡ []) → old.at_end ≡ false → StopsAt stop (most_bytes old.lines_left old.bytes_left) before after → NextLine old new before after (stopped_by stop)
 stops old new before after Limit empty open_ at = record { part = at.0; next = at.1; taken = at.2; one = at.3; more = open_; over = over_by old.lines_left old.bytes_left _ at.4 }
 stops old new before after ReadFault empty open_ at = (at, empty refl, open_)
 stops old new before after NoMemory empty open_ at = (at, open_)
@@ -52,7 +52,7 @@ pub told : (longest n : ℕ) (body kept : List ℕ) (ended : Bool) → kept ≡ 
 told longest n body kept ended is count =
     rw count (chosen (nat_lt longest (length body)) _ _ (λ f. let same : kept ≡ body = is ∙ take_all longest body (not_less longest (length body) f) in rw same))
 
-pub as_step : (long : Bool) (text : List ℕ) (old new : Reading) (before after : Option (List ℕ)) → TakesLine old new before after (if long then TooLong else Line text) → Steps old new before after (if long then TooLong else Line text)
+pub as_step : (long : Bool) (text : List ℕ) (old new : Reading) (before after : Option (List ℕ)) → TakesLine old new before after (if long then TooLong else Line text) → NextLine old new before after (if long then TooLong else Line text)
 as_step true text old new before after takes = takes
 as_step false text old new before after takes = takes
 
@@ -73,9 +73,9 @@ size_open : (body : List ℕ) (ended : Bool) → ended ≡ false → length (byt
 size_open body ended e = rw e
 
 pub takes : (old new : Reading) (part : Part) (before after : Option (List ℕ)) → PartOf part (most_bytes old.lines_left old.bytes_left) before after → part.size ≢ 0
-    → new.lines_left ≡ old.lines_left - 1 → new.bytes_left ≡ old.bytes_left - part.size → new.at_end ≡ not part.ended → IsTrue new.live → old.at_end ≡ false
+    → new.lines_left ≡ old.lines_left - 1 → new.bytes_left ≡ old.bytes_left - part.size → new.at_end ≡ not part.ended → old.at_end ≡ false
     → TakesLine old new before after (told_of part)
-takes old new part before after is some lines bytes end live open_ = record {
+takes old new part before after is some lines bytes end open_ = record {
   raw = (is.body, part.ended);
   one = is.so_far.one;
   taken = is.taken;
@@ -85,13 +85,12 @@ takes old new part before after is some lines bytes end live open_ = record {
   last = λ e. (omega (arith, some, is.size, size_open is.body part.ended e), is.last e);
   more = open_;
   end = end;
-  live = live;
 }
 
-ends : (old new : Reading) (part : Part) (most : ℕ) (before after : Option (List ℕ)) → PartOf part most before after → part.size ≡ 0 → IsTrue new.live → Steps old new before after End
-ends old new part most before after is none live =
+ends : (old new : Reading) (part : Part) (most : ℕ) (before after : Option (List ℕ)) → PartOf part most before after → part.size ≡ 0 → NextLine old new before after End
+ends old new part most before after is none =
     let empty : bytes_of (is.body, part.ended) ≡ [] = no_bytes is.body part.ended (sym none ∙ is.size) in
-    (subst (Consumes before after) empty is.taken, inr (is.last (no_feed is.body part.ended (sym none ∙ is.size))), live)
+    (subst (Consumes before after) empty is.taken, inr (is.last (no_feed is.body part.ended (sym none ∙ is.size))))
 
 is_none : (n : ℕ) → (n == 0) ≡ true → n ≡ 0
 is_none n e = grind (arith, common_steps)
@@ -100,15 +99,15 @@ is_some_size : (n : ℕ) → (n == 0) ≡ false → n ≢ 0
 is_some_size n e = grind (arith, common_steps)
 
 by_size : (b : Bool) (old mid : Reading) (part : Part) (before after : Option (List ℕ)) → (part.size == 0) ≡ b → PartOf part (most_bytes old.lines_left old.bytes_left) before after
-    → mid.lines_left ≡ old.lines_left → mid.bytes_left ≡ old.bytes_left → IsTrue mid.live → old.at_end ≡ false
+    → mid.lines_left ≡ old.lines_left → mid.bytes_left ≡ old.bytes_left → old.at_end ≡ false
     → let new : Reading = record { ahead = mid.ahead; lines_left = if b then mid.lines_left else mid.lines_left - 1; bytes_left = mid.bytes_left - part.size; at_end = not part.ended; live = mid.live } in
-    Steps old new before after (if b then End else told_of part)
-by_size true old mid part before after e is lines bytes live open_ = ends old mid part _ before after is (is_none part.size e) live
-by_size false old mid part before after e is lines bytes live open_ =
+    NextLine old new before after (if b then End else told_of part)
+by_size true old mid part before after e is lines bytes open_ = ends old mid part _ before after is (is_none part.size e)
+by_size false old mid part before after e is lines bytes open_ =
     as_step (nat_lt 65536 part.count) _ old _ before after
-    (takes old _ part before after is (is_some_size part.size e) (ap (λ n. n - 1) lines) (ap (λ n. n - part.size) bytes) refl live open_)
+    (takes old _ part before after is (is_some_size part.size e) (ap (λ n. n - 1) lines) (ap (λ n. n - part.size) bytes) refl open_)
 
 pub after_part : (old mid : Reading) (part : Part) (before after : Option (List ℕ)) → PartOf part (most_bytes old.lines_left old.bytes_left) before after
-    → mid.lines_left ≡ old.lines_left → mid.bytes_left ≡ old.bytes_left → IsTrue mid.live → old.at_end ≡ false
-    → Steps old (reading_after mid part) before after (if part.size == 0 then End else told_of part)
+    → mid.lines_left ≡ old.lines_left → mid.bytes_left ≡ old.bytes_left → old.at_end ≡ false
+    → NextLine old (reading_after mid part) before after (if part.size == 0 then End else told_of part)
 after_part old mid part before after = by_size (part.size == 0) old mid part before after refl

@@ -6,7 +6,7 @@ use Rattle.std.specs.Io.KnownBytes.{Consumes, IsAtEnd, Keeps}
 use Rattle.std.proofs.KnownBytes.{Consumes-trans, Consumes-nil, Consumes-kept}
 use Rattle.pss_base.specs.Lines.{has_lf}
 use Rattle.pss_base.specs.Parts.{SoFar, PartOf}
-use Rattle.pss_base.specs.declared.lines.Part.{Part}
+use Rattle.pss_base.specs.declared.part.Part.{Part}
 
 pub has_lf-append : (xs : List ℕ) (b : ℕ) → has_lf xs ≡ false → b ≢ 10 → has_lf (xs ++ b ∷ []) ≡ false
 has_lf-append [] b none ne = grind (arith, common_steps)

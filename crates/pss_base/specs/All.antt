@@ -1,8 +1,8 @@
 -- What reading all bytes gives.
 use Rattle.std.specs.Prelude.{ℕ, ◌≡◌, ◌<◌, List, length, take, Bool, true, false, Result, Ok, Err, IfSome}
 use Rattle.std.specs.declared.option.Option.{Option}
-use Rattle.pss_base.specs.declared.lines.ReadAll.{ReadAll}
-use Rattle.pss_base.specs.declared.lines.ReadAll.TheVariants.{OverLimit, ReadFault, NoMemory}
+use Rattle.pss_base.specs.declared.whole.ReadAll.{ReadAll}
+use Rattle.pss_base.specs.declared.whole.ReadAll.TheVariants.{OverLimit, ReadFault, NoMemory}
 
 abbrev pub IsRefused : ReadAll → ℕ → Option (List ℕ) → Type 0
 IsRefused (OverLimit bytes) limit left = (length bytes ≡ limit) × IfSome left (λ all. (limit < length all) × (bytes ≡ take limit all))

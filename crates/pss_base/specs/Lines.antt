@@ -1,5 +1,5 @@
 -- The lines of bytes, as the bytes of each without its line feed, and whether it has one.
-use Rattle.std.specs.Prelude.{ℕ, ◌-◌, List, [], ◌∷◌, ◌++◌, length, Bool, true, false, if◌then◌else◌, ◌==◌, nat_lt, nat_le, map, ◌&&◌}
+use Rattle.std.specs.Prelude.{ℕ, ◌-◌, List, [], ◌∷◌, ◌++◌, length, Bool, true, false, if◌then◌else◌, ◌==◌, nat_lt, nat_le, map, filter, ◌&&◌}
 use Rattle.std.specs.Str.Lines.{strip_carriage_return}
 use Rattle.pss_base.specs.declared.lines.LineStep.{LineStep}
 use Rattle.pss_base.specs.declared.lines.LineStep.TheVariants.{Line, TooLong}
@@ -29,5 +29,15 @@ abbrev pub within : ℕ → ℕ → List (List ℕ × Bool) → List (List ℕ �
 within n b [] = []
 within n b (raw ∷ raws) = if nat_lt 0 n && nat_le (length (bytes_of raw)) b then raw ∷ within (n - 1) (b - length (bytes_of raw)) raws else []
 
+-- bytes come after the limit
+abbrev pub is_over : ℕ → ℕ → List (List ℕ × Bool) → Bool
+is_over n b [] = false
+is_over n b (raw ∷ raws) = if nat_lt 0 n && nat_le (length (bytes_of raw)) b then is_over (n - 1) (b - length (bytes_of raw)) raws else true
+
+-- what a reader of so many lines and bytes tells of the bytes, line by line
 abbrev pub lines : ℕ → ℕ → List ℕ → List LineStep
 lines n b bytes = map line_of (within n b (raw_lines bytes))
+
+-- the lines whose line feed is among the bytes
+abbrev pub ended_lines : List ℕ → List LineStep
+ended_lines bytes = map line_of (filter (λ raw. raw.1) (raw_lines bytes))

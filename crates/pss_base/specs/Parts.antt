@@ -2,9 +2,9 @@
 use Rattle.std.specs.Prelude.{ℕ, ◌≡◌, ◌≤◌, ◌++◌, List, [], ◌∷◌, length, take, Bool, true, false, not, nat_lt, ◌==◌, if◌then◌else◌, ◌-◌, Result, Ok, Err}
 use Rattle.std.specs.declared.option.Option.{Option}
 use Rattle.std.specs.Io.KnownBytes.{Consumes, IsAtEnd}
-use Rattle.pss_base.specs.declared.lines.Part.{Part}
-use Rattle.pss_base.specs.declared.lines.Stop.{Stop}
-use Rattle.pss_base.specs.declared.lines.Stop.TheVariants.{Limit, ReadFault, NoMemory}
+use Rattle.pss_base.specs.declared.part.Part.{Part}
+use Rattle.pss_base.specs.declared.part.Stop.{Stop}
+use Rattle.pss_base.specs.declared.part.Stop.TheVariants.{Limit, ReadFault, NoMemory}
 use Rattle.std.specs.Str.Lines.{strip_carriage_return}
 use Rattle.pss_base.specs.declared.lines.LineStep.{LineStep}
 use Rattle.pss_base.specs.declared.lines.LineStep.TheVariants.{Line, TooLong}

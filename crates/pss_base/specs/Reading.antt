@@ -34,7 +34,6 @@ pub record TakesLine (old new : Reading) (before after : Option (List ℕ)) (ste
   -- the end was not seen before, and was now where the line has no line feed
   pub more : old.at_end ≡ false
   pub end : new.at_end ≡ not raw.1
-  pub live : IsTrue new.live
 
 -- no line was taken, but maybe the first bytes of one
 abbrev pub TakesNoLine : Option (List ℕ) → Option (List ℕ) → Type 0
@@ -49,14 +48,28 @@ pub record IsOver (old : Reading) (before after : Option (List ℕ)) : Type 0 wh
   pub more : old.at_end ≡ false
   pub over : (old.lines_left ≡ 0) ⊎ (length part ≡ old.bytes_left)
 
-abbrev pub Steps : Reading → Reading → Option (List ℕ) → Option (List ℕ) → LineStep → Type 0
-Steps old new before after (Line text) = TakesLine old new before after (Line text)
-Steps old new before after TooLong = TakesLine old new before after TooLong
-Steps old new before after End = Consumes before after [] × (IsTrue old.at_end ⊎ IsAtEnd after) × IsTrue new.live
-Steps old new before after Limit = IsOver old before after
-Steps old new before after ReadFault = TakesNoLine before after × (new.ahead ≡ []) × (old.at_end ≡ false)
-Steps old new before after NoMemory = TakesNoLine before after × (old.at_end ≡ false)
+-- what a call of the reader brings, by what is to come before it and after it
+abbrev pub NextLine : Reading → Reading → Option (List ℕ) → Option (List ℕ) → LineStep → Type 0
+NextLine old new before after (Line text) = TakesLine old new before after (Line text)
+NextLine old new before after TooLong = TakesLine old new before after TooLong
+NextLine old new before after End = Consumes before after [] × (IsTrue old.at_end ⊎ IsAtEnd after)
+NextLine old new before after Limit = IsOver old before after
+NextLine old new before after ReadFault = TakesNoLine before after × (new.ahead ≡ []) × (old.at_end ≡ false)
+NextLine old new before after NoMemory = TakesNoLine before after × (old.at_end ≡ false)
+
+-- the reader may be called again
+abbrev pub goes_on : LineStep → Bool
+goes_on (Line text) = true
+goes_on TooLong = true
+goes_on End = true
+goes_on Limit = false
+goes_on ReadFault = false
+goes_on NoMemory = false
 
 abbrev pub is_read_fault : LineStep → Bool
+is_read_fault (Line text) = false
+is_read_fault TooLong = false
+is_read_fault End = false
+is_read_fault Limit = false
 is_read_fault ReadFault = true
-is_read_fault _ = false
+is_read_fault NoMemory = false

@@ -1,4 +1,4 @@
-use Rattle.std.proofs.Common.{refl, ◌∙◌, ap}
+use Rattle.std.proofs.Common.{refl}
 use Rattle.pss_base.proofs.Stepping.{stops, fault_as, after_part}
 use Rattle.pss_base.specs.Reading.{Reading}
 use Rattle.pss_base.proofs.lines.LineReader.next.Goals as goal
@@ -12,4 +12,4 @@ returns-in-Ok-clause-step g c =
     let i = c.self.inside in
     let mid : Reading = record { ahead = c.read_part.new.ahead; lines_left = i.lines_left; bytes_left = i.bytes_left; at_end = i.at_end; live = i.live } in
     rw (c.take.ensures.step, c.take.ensures.new, ← c.self.view_is)
-    (after_part _ mid c.in-Ok.part _ _ (rw c.most_of-most.ensures at c.in-Ok.ensures.ok) refl refl (ap (λ (r : Reading). r.live) c.self.view_is ∙ c.requires) c.if-self.false)
+    (after_part _ mid c.in-Ok.part _ _ (rw c.most_of-most.ensures at c.in-Ok.ensures.ok) refl refl c.if-self.false)

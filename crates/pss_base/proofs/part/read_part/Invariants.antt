@@ -1,7 +1,7 @@
 use Rattle.std.proofs.Common.{◌≡◌, ◌-◌}
 use Rattle.std.specs.Io.KnownBytes.{prepend_known}
 use Rattle.pss_base.proofs.Taking.{Taken}
-use Rattle.pss_base.proofs.lines.read_part.Given as goal
+use Rattle.pss_base.proofs.part.read_part.Given as goal
 
 abbrev pub invariant-bytes : goal.invariant-bytes
 invariant-bytes g l = record {

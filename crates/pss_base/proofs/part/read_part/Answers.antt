@@ -1,6 +1,6 @@
 use Rattle.std.proofs.Common.{rules, ◌≡◌, ◌++◌, ◌∷◌, [], nat_lt, if◌then◌else◌}
 use Rattle.pss_base.proofs.Taking.{one_more, at_feed, over, stopped_at}
-use Rattle.pss_base.proofs.lines.read_part.Goals as goal
+use Rattle.pss_base.proofs.part.read_part.Goals as goal
 
 pub returns-then-count-most-clause-err : goal.returns-then-count-most-clause-err
 returns-then-count-most-clause-err g c = over _ _ _ _ _ _ _ c.bytes.invariant.taken (rw c.in-Some.is at c.in-Ok.ensures.byte) c.if-count-most.true

@@ -1,0 +1,4 @@
+pub mod Moments
+pub mod Tape
+pub mod Outside
+pub mod Told

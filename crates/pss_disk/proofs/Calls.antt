@@ -1,7 +1,7 @@
 -- One call more.
-use Rattle.std.proofs.Common.{◌≡◌, ◌⊎◌, ⊎_elim, ℕ, zero, List, [], ◌∷◌, ◌++◌, Some, refl, ap, sym, ◌∙◌, length, take, append_assoc, append-nil}
+use Rattle.std.proofs.Common.{◌≡◌, ◌⊎◌, ⊎_elim, ℕ, zero, List, [], ◌∷◌, ◌++◌, refl, ap, sym, ◌∙◌, length, append_assoc, append-nil}
 use Rattle.std.proofs.Math.Seq.{take-length}
-use Rattle.pss_disk.specs.Moments.{Moment, Through, DuringSpeak, spoke, last_moment}
+use Rattle.pss_disk.specs.Moments.{Through, DuringSpeak, spoke}
 use Rattle.pss_disk.specs.Tape.{Tape, spoken_in, moment_at, moments_from, moments_of, now_of, recorded, uncounted}
 use Rattle.pss_disk.specs.declared.memory.Call.{Call}
 use Rattle.pss_disk.specs.declared.memory.Call.TheVariants.{Failed, Spoke}

@@ -1,5 +1,5 @@
 -- What a station in memory has: all its calls, one after another.
-use Rattle.std.specs.Prelude.{ℕ, List, [], ◌∷◌, ◌++◌, length, Some}
+use Rattle.std.specs.Prelude.{ℕ, List, [], ◌∷◌, ◌++◌, Some}
 use Rattle.pss_disk.specs.Moments.{Moment, settled}
 use Rattle.pss_disk.specs.declared.memory.Call.{Call}
 use Rattle.pss_disk.specs.declared.memory.Call.TheVariants.{Failed, Spoke}

@@ -1,6 +1,8 @@
 //! PSDL texts: for now those of one storage type with one member and one storage home.
 #![tactic(auto)]
 
-mod first_form;
+mod form;
+mod names;
+mod tokens;
 
-pub use first_form::FirstForm;
+pub use form::{FirstForm, first_form};

@@ -1,0 +1,3 @@
+pub mod Scanning
+pub mod Tables
+pub mod Spelled

@@ -1,0 +1,12 @@
+pub mod Paths
+pub mod Changes
+pub mod Walks
+pub mod Maps
+pub mod Lists
+pub mod Sound
+pub mod Settled
+pub mod Taken
+pub mod Added
+pub mod Heads
+pub mod Told
+pub mod Whole

@@ -1,0 +1,5 @@
+pub mod Names
+pub mod Rings
+pub mod Meaning
+pub mod Linked
+pub mod Cells

@@ -1,0 +1,9 @@
+//! Nodes that stand in two rings each, one of a row and one of a column, in one slab.
+#![tactic(auto)]
+
+mod cells;
+mod names;
+mod pool;
+
+pub use names::{Col, Node, Row};
+pub use pool::Pool;

@@ -1,0 +1,49 @@
+-- What the slots of an index stand for.
+use Rattle.std.specs.Prelude.{ℕ, ◌≡◌, List, [], ◌∷◌, Option, Some, None, Bool, true, false, cond}
+use Rattle.std.specs.Ordering.{nat_cmp}
+use Rattle.std.specs.Cmp.Lexicographic.{slice_cmp}
+use Rattle.std.specs.Str.{bytes_eq}
+use Rattle.std.specs.Map.{lookup}
+use Rattle.std.specs.declared.vec.Vec.{Vec}
+use Rattle.std.specs.FinMap as map
+use Rattle.std.specs.FinSet as set
+use Rattle.key_index.specs.declared.slots.Slot.{Slot}
+
+-- the map with this serial at a key, or without the key
+abbrev pub with_held : Option ℕ → List ℕ → map.FinMap (slice_cmp nat_cmp) ℕ → map.FinMap (slice_cmp nat_cmp) ℕ
+with_held None key m = map.remove m key
+with_held (Some serial) key m = map.insert m key serial
+
+-- the set with a key, or without it
+abbrev pub with_reserved : Bool → List ℕ → set.FinSet (slice_cmp nat_cmp) → set.FinSet (slice_cmp nat_cmp)
+with_reserved true key s = set.insert s key
+with_reserved false key s = set.remove s key
+
+-- the serial in a slot
+abbrev pub serial_at : Option Slot → Option ℕ
+serial_at None = None
+serial_at (Some slot) = slot.serial
+
+-- a slot says that its key is reserved
+abbrev pub is_reserved_at : Option Slot → Bool
+is_reserved_at None = false
+is_reserved_at (Some slot) = slot.reserved
+
+module _ {Z : Type 0} where
+  -- the slot of a key
+  abbrev pub slot_at : List ℕ → List (Vec ℕ Z × Slot) → Option Slot
+  slot_at key es = lookup (λ k. bytes_eq key k.items) es
+
+  -- the slot of this key is another one, and all others stay
+  abbrev pub Turns : List (Vec ℕ Z × Slot) → List (Vec ℕ Z × Slot) → List ℕ → Option Slot → Type 0
+  Turns old new key slot = (q : List ℕ) → slot_at q new ≡ cond (bytes_eq q key) slot (slot_at q old)
+
+  -- the map that the slots have written: of two for one key the first counts
+  abbrev pub held_of : List (Vec ℕ Z × Slot) → map.FinMap (slice_cmp nat_cmp) ℕ
+  held_of [] = map.empty
+  held_of (e ∷ es) = with_held e.1.serial e.0.items (held_of es)
+
+  -- the set likewise
+  abbrev pub reserved_of : List (Vec ℕ Z × Slot) → set.FinSet (slice_cmp nat_cmp)
+  reserved_of [] = set.empty
+  reserved_of (e ∷ es) = with_reserved e.1.reserved e.0.items (reserved_of es)

@@ -1,0 +1,12 @@
+pub mod WordLaws
+pub mod Numbers
+pub mod ByPlace
+pub mod Keeping
+pub mod Hex
+pub mod Rounds
+pub mod Shapes
+pub mod Said
+pub mod Progress
+pub mod Exits
+pub mod AtMoments
+pub mod Ending

@@ -1,0 +1,13 @@
+pub mod Words
+pub mod Command
+pub mod Asked
+pub mod Machine
+pub mod Texts
+pub mod State
+pub mod View
+pub mod Forms
+pub mod Turns
+pub mod Runs
+pub mod Ends
+pub mod Schema
+pub mod Codes

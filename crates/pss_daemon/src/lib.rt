@@ -1,0 +1,23 @@
+//! The service: a text in PSDL and a script come in, one reply for each command goes out. The machine behind it is a
+//! catalog of one storage home, kept in memory.
+#![tactic(auto)]
+
+mod command;
+mod forms;
+mod machine;
+mod planning;
+mod reply;
+mod schema;
+mod service;
+mod serving;
+mod status;
+mod telling;
+mod words;
+
+pub use forms::{Plan, Usage};
+pub use planning::plan;
+pub use service::pssd;
+pub use status::Status;
+
+#[cfg(test)]
+mod tests;

@@ -1,0 +1,82 @@
+//! The program: it makes the service's words, opens the schema's file, and takes standard input as script and standard
+//! output as speech. All else is the service's.
+#![tactic(auto)]
+
+use pss_base::{Bytes, NoMemory, StdSource};
+use pss_daemon::{Plan, Status, plan, pssd};
+use pss_disk::RealStation;
+use std::alloc::Global;
+use std::env::FillError;
+use std::fs;
+use std::fs::File;
+use std::process::ExitCode;
+use std::rt::{Env, Files};
+use std::str::from_utf8;
+
+/// The first room for a word. It is doubled where the word is longer.
+const FIRST_ROOM: usize = 4096;
+
+/// How often the room is doubled, to more than a system passes.
+const DOUBLINGS: u32 = 20;
+
+// The word of a number, where there is one.
+fn word(rt: &impl Env, alloc: Global, number: usize) -> Result<Option<Bytes>, NoMemory> {
+    for doubling in 0..DOUBLINGS {
+        let mut room = vec![in alloc; 0u8; FIRST_ROOM << doubling]?;
+        match rt.arg(number, &mut room) {
+            Ok(len) => {
+                let mut word = Bytes::new(alloc);
+                word.extend(&room[..len])?;
+                return Ok(Some(word));
+            }
+            Err(FillError::NotPresent) => return Ok(None),
+            Err(FillError::TooLong) => {}
+        }
+    }
+    Err(NoMemory)
+}
+
+// The words behind the program's name.
+fn words(rt: &impl Env, alloc: Global) -> Result<Vec<Bytes>, NoMemory> {
+    let mut words = Vec::new(alloc);
+    for number in 1..usize::MAX {
+        match word(rt, alloc, number)? {
+            Some(word) => words.push(word)?,
+            None => return Ok(words),
+        }
+    }
+    Ok(words)
+}
+
+// The file of a name, where it can be opened.
+fn open<R: Files>(rt: &R, name: &[u8]) -> Option<R::File> {
+    let Ok(name) = from_utf8(name) else {
+        return None;
+    };
+    fs::open(rt, name).ok()
+}
+
+// The schema's file, where the words name one that can be opened.
+fn open_schema<R: Files>(rt: &R, words: &[Bytes]) -> Option<R::File> {
+    let Ok(Plan::Run { schema, .. }) = plan(words) else {
+        return None;
+    };
+    let name = words.get(schema)?;
+    open(rt, name.as_slice())
+}
+
+fn run(rt: &HostRuntime) -> Result<Status, NoMemory> {
+    let alloc = rt.alloc();
+    let words = words(rt, alloc)?;
+    let mut schema = StdSource::new(open_schema(rt, &words));
+    let mut script = StdSource::new(Some(rt.stdin()));
+    let mut station: RealStation<File, _> = RealStation::new(None, rt.stdout());
+    Ok(pssd(alloc, &words, &mut schema, &mut script, &mut station))
+}
+
+fn main(rt: HostRuntime) -> ExitCode {
+    match run(&rt) {
+        Ok(status) => ExitCode::from(status.code()),
+        Err(NoMemory) => ExitCode::from(Status::NoMemory.code()),
+    }
+}

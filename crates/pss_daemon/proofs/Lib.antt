@@ -3,6 +3,8 @@ pub mod Numbers
 pub mod ByPlace
 pub mod Keeping
 pub mod Hex
+pub mod CommandLaws
+pub mod Refusals
 pub mod Rounds
 pub mod Shapes
 pub mod Said

@@ -1,5 +1,5 @@
 -- The commands, and the words that they are written in.
-use Rattle.std.specs.Prelude.{ℕ, ◌≡◌, List, [], ◌∷◌, IsTrue, codes, if◌then◌else◌, Some, None}
+use Rattle.std.specs.Prelude.{ℕ, ◌≡◌, List, [], ◌∷◌, IsTrue, codes, if◌then◌else◌, Some, None, ◌↔◌}
 use Rattle.std.specs.declared.option.Option.{Option}
 use Rattle.std.specs.Option.{option_map}
 use Rattle.std.specs.Str.{bytes_eq}
@@ -43,3 +43,7 @@ asked_of verb session rest =
 abbrev pub command_of : List (List ℕ) → Option Command
 command_of (verb ∷ session ∷ rest) = if is_name session then asked_of verb session rest else None
 command_of _ = None
+
+-- words are a command's exactly where the command is read from them: so they are the words of one command at most
+abbrev pub CommandsAreExact : Type 0
+CommandsAreExact = (words : List (List ℕ)) (command : Command) → (command_of words ≡ Some command) ↔ IsCommand words command

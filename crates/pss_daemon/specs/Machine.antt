@@ -1,5 +1,5 @@
 -- What a line does to the sessions and the catalog, and its reply.
-use Rattle.std.specs.Prelude.{ℕ, ◌+◌, ℤ, List, [], ◌∷◌, ◌++◌, Bool, true, ◌==◌, nat_lt, slice_index, map, if◌then◌else◌, Some, None}
+use Rattle.std.specs.Prelude.{ℕ, ◌≡◌, IsTrue, ◌+◌, ℤ, List, [], ◌∷◌, ◌++◌, Bool, true, false, ◌==◌, nat_lt, slice_index, map, if◌then◌else◌, Some, None}
 use Rattle.std.specs.declared.option.Option.{Option}
 use Rattle.std.specs.Option.{option_map, option_map_or, option_to_list}
 use Rattle.std.specs.List.{find, slice_get}
@@ -144,3 +144,16 @@ after_all form kept (line ∷ lines) = after_all form (turn form kept line).0 li
 abbrev pub replies : FirstForm → Kept → List LineStep → List Reply
 replies form kept [] = []
 replies form kept (line ∷ lines) = option_to_list (turn form kept line).1 ++ replies form (turn form kept line).0 lines
+
+-- the reply says that nothing was done
+abbrev pub is_refusal : Reply → Bool
+is_refusal reply.NotBuilt = true
+is_refusal reply.NoSession = true
+is_refusal reply.NoEntry = true
+is_refusal reply.Done = false
+is_refusal (reply.Entry number pid) = false
+is_refusal (reply.Val value) = false
+
+-- a refused line leaves all as it was
+abbrev pub RefusalsChangeNothing : Type 0
+RefusalsChangeNothing = (form : FirstForm) (kept : Kept) (line : LineStep) (answer : Reply) → (turn form kept line).1 ≡ Some answer → IsTrue (is_refusal answer) → (turn form kept line).0 ≡ kept

@@ -2,7 +2,7 @@
 ghost use Rattle.std.specs.Prelude.{◌≡◌, ◌∷◌, codes, [], ◌&&◌};
 ghost use Rattle.std.specs.Str.{bytes_eq};
 ghost use Rattle.pss_daemon.specs.Words.{words};
-ghost use Rattle.pss_daemon.specs.Command.{command_of, open_of, create_of, get_of};
+ghost use Rattle.pss_daemon.specs.Command.{command_of, open_of, create_of, get_of, CommandsAreExact};
 ghost use Rattle.pss_daemon.specs.Asked.{seen};
 
 use crate::words::{is_end, is_identifier, is_name, next_word, read_entry};
@@ -95,3 +95,8 @@ pub fn read_command<'a>(verb: &[u8], rest: &'a [u8]) -> Option<Command<'a>>
         None
     }
 }
+
+/// Words are read as a command exactly where they are that command's words, so they are those of one command at most.
+pub fn commands_are_exact()
+    ensures { CommandsAreExact }
+{}

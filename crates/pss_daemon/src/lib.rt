@@ -14,7 +14,9 @@ mod status;
 mod telling;
 mod words;
 
+pub use command::commands_are_exact;
 pub use forms::{Plan, Usage};
+pub use machine::refusals_change_nothing;
 pub use planning::plan;
 pub use service::pssd;
 pub use status::Status;

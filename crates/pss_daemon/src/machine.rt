@@ -4,7 +4,7 @@ ghost use Rattle.std.specs.Option.{option_map};
 ghost use Rattle.std.specs.Str.{bytes_eq};
 ghost use Rattle.pss_daemon.specs.Asked.{seen_of};
 ghost use Rattle.pss_daemon.specs.Command as command;
-ghost use Rattle.pss_daemon.specs.Machine.{turn, first, record_for, done_by, opened, created};
+ghost use Rattle.pss_daemon.specs.Machine.{turn, first, record_for, done_by, opened, created, RefusalsChangeNothing};
 ghost use Rattle.pss_daemon.specs.View.{kept_of, kept_with, session_with};
 ghost use Rattle.pss_daemon.specs.Words.{words};
 
@@ -241,3 +241,8 @@ fn get(
     };
     told(form, member, value)
 }
+
+/// A line whose reply is a refusal leaves all that is kept as it was.
+pub fn refusals_change_nothing()
+    ensures { RefusalsChangeNothing }
+{}

@@ -4,10 +4,12 @@ use Rattle.std.specs.Str.Lines.{strip_carriage_return}
 use Rattle.pss_base.specs.declared.lines.LineStep.{LineStep}
 use Rattle.pss_base.specs.declared.lines.LineStep.TheVariants.{Line, TooLong}
 
+-- a line feed is among the bytes
 abbrev pub has_lf : List ℕ → Bool
 has_lf [] = false
 has_lf (b ∷ bs) = if b == 10 then true else has_lf bs
 
+-- a byte in front of the first line
 abbrev pub onto : ℕ → List (List ℕ × Bool) → List (List ℕ × Bool)
 onto b [] = (b ∷ [], false) ∷ []
 onto b (raw ∷ raws) = (b ∷ raw.0, raw.1) ∷ raws
@@ -21,6 +23,7 @@ raw_lines (b ∷ bs) = if b == 10 then ([], true) ∷ raw_lines bs else onto b (
 abbrev pub bytes_of : List ℕ × Bool → List ℕ
 bytes_of raw = if raw.1 then raw.0 ++ 10 ∷ [] else raw.0
 
+-- what is told of a line
 abbrev pub line_of : List ℕ × Bool → LineStep
 line_of raw = if nat_lt 65536 (length raw.0) then TooLong else Line (if raw.1 then strip_carriage_return raw.0 else raw.0)
 

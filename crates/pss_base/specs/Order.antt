@@ -9,6 +9,7 @@ use Rattle.pss_base.specs.Reading.{Reading, NextLine}
 abbrev pub lines_to : Reading → List ℕ → List LineStep
 lines_to r bytes = lines r.lines_left r.bytes_left bytes
 
+-- a byte comes after the reader's limits
 abbrev pub is_over_to : Reading → List ℕ → Bool
 is_over_to r bytes = is_over r.lines_left r.bytes_left (raw_lines bytes)
 

@@ -19,6 +19,7 @@ pub record SoFar (taken kept : List ℕ) (n most : ℕ) : Type 0 where
   pub count : n ≡ length taken
   pub within : n ≤ most
 
+-- what was read of a line, up to its line feed, the end, or so many bytes
 pub record PartOf (part : Part) (most : ℕ) (before after : Option (List ℕ)) : Type 0 where
   pub body : List ℕ
   pub so_far : SoFar body part.text part.count most
@@ -27,28 +28,34 @@ pub record PartOf (part : Part) (most : ℕ) (before after : Option (List ℕ)) 
   pub fits : part.size ≤ most
   pub last : part.ended ≡ false → IsAtEnd after
 
+-- why no line was read, and what was taken of it
 abbrev pub StopsAt : Stop → ℕ → Option (List ℕ) → Option (List ℕ) → Type 0
 StopsAt Limit most before after = (part : List ℕ) × (b : ℕ) × Consumes before after (part ++ b ∷ []) × (has_lf part ≡ false) × (length part ≡ most)
 StopsAt ReadFault most before after = (part : List ℕ) × Consumes before after part × (has_lf part ≡ false)
 StopsAt NoMemory most before after = (part : List ℕ) × Consumes before after part × (has_lf part ≡ false)
 
+-- the source failed
 abbrev pub is_stopped_by_fault : Result Part Stop → Bool
 is_stopped_by_fault (Ok part) = false
 is_stopped_by_fault (Err Limit) = false
 is_stopped_by_fault (Err ReadFault) = true
 is_stopped_by_fault (Err NoMemory) = false
 
+-- what is told of a line by what was read of it
 abbrev pub told_of : Part → LineStep
 told_of part = if nat_lt 65536 part.count then TooLong else Line (if part.ended then strip_carriage_return part.text else part.text)
 
+-- what is told where no line was read
 abbrev pub stopped_by : Stop → LineStep
 stopped_by Limit = step.Limit
 stopped_by ReadFault = step.ReadFault
 stopped_by NoMemory = step.NoMemory
 
+-- how many bytes the next line may have
 abbrev pub most_bytes : ℕ → ℕ → ℕ
 most_bytes lines_left bytes_left = if lines_left == 0 then 0 else bytes_left
 
+-- the reader behind a line
 abbrev pub reading_after : Reading → Part → Reading
 reading_after r part = record {
   ahead = r.ahead;

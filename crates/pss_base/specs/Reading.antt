@@ -6,6 +6,7 @@ use Rattle.pss_base.specs.declared.lines.LineStep.{LineStep}
 use Rattle.pss_base.specs.declared.lines.LineStep.TheVariants.{Line, TooLong, End, Limit, ReadFault, NoMemory}
 use Rattle.pss_base.specs.Lines.{has_lf, bytes_of, line_of}
 
+-- a reader of lines between its calls
 pub record Reading : Type 0 where
   -- the bytes that were read and belong to no line yet
   pub ahead : List ℕ
@@ -15,6 +16,7 @@ pub record Reading : Type 0 where
   pub at_end : Bool
   pub live : Bool
 
+-- a reader of so many lines and bytes that has read nothing
 abbrev pub new_reading : ℕ → ℕ → Reading
 new_reading n b = record { ahead = []; lines_left = n; bytes_left = b; at_end = false; live = true }
 
@@ -66,6 +68,7 @@ goes_on Limit = false
 goes_on ReadFault = false
 goes_on NoMemory = false
 
+-- the source failed
 abbrev pub is_read_fault : LineStep → Bool
 is_read_fault (Line text) = false
 is_read_fault TooLong = false

@@ -3,6 +3,7 @@ use Rattle.std.specs.Prelude.{ℕ}
 use Rattle.pss_daemon.specs.declared.status.Status.{Status}
 use Rattle.pss_daemon.specs.declared.status.Status.TheVariants as status
 
+-- the exit status that tells how the call ended
 abbrev pub code_of : Status → ℕ
 code_of status.Ok = 0
 code_of status.Usage = 1

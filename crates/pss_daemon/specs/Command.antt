@@ -5,6 +5,7 @@ use Rattle.std.specs.Option.{option_map}
 use Rattle.std.specs.Str.{bytes_eq}
 use Rattle.pss_daemon.specs.Words.{is_name, is_identifier, entry_of}
 
+-- what a line asks for, with the words that it names things by
 pub data Command : Type 0 where
   Open : (session : List ℕ) → Command
   Create : (session home : List ℕ) → (values : List (List ℕ)) → Command

@@ -28,6 +28,7 @@ usage_line = codes "usage: pssd check SCHEMA | init SCHEMA STORE | run SCHEMA ST
 abbrev pub not_built_line : List ℕ
 not_built_line = codes "not built" ++ 10 ∷ []
 
+-- the words are none of the forms
 abbrev pub IsNoPlan : List (List ℕ) → Type 0
 IsNoPlan words = (plan : Plan) → IsPlanOf words plan → ⊥
 
@@ -42,6 +43,7 @@ IsOther (Init schema store) = Unit {0}
 IsOther (Run schema store) = ⊥
 IsOther (Demo rounds store) = Unit {0}
 
+-- a text that is not of the first form
 abbrev pub IsOtherText : List ℕ → Type 0
 IsOtherText text = (form : FirstForm) → IsFirstForm text form → ⊥
 
@@ -94,6 +96,7 @@ Ends status.ReadFault call old new =
 Ends status.SpeakFault call old new = SaidSome call.words call.schema call.script call.before call.after
 Ends status.NoMemory call old new = (call.after ≡ call.before) ⊎ EndsServing status.NoMemory call
 
+-- no count rose
 abbrev pub AreSame : Counts → Counts → Type 0
 AreSame old new = (new.schema ≡ old.schema) × (new.script ≡ old.script) × (new.speech ≡ old.speech)
 

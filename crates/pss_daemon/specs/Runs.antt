@@ -38,6 +38,7 @@ Says status.NoMemory form n b script left old new = IfSome script (λ bytes. (k 
 Says status.Usage form n b script left old new = ⊥
 Says status.NotBuilt form n b script left old new = ⊥
 
+-- a source failed
 abbrev pub is_read_fault : Status → Bool
 is_read_fault status.ReadFault = true
 is_read_fault status.Ok = false
@@ -47,6 +48,7 @@ is_read_fault status.SpeakFault = false
 is_read_fault status.ScriptTooLong = false
 is_read_fault status.NotBuilt = false
 
+-- speech failed
 abbrev pub is_speak_fault : Status → Bool
 is_speak_fault status.SpeakFault = true
 is_speak_fault status.Ok = false

@@ -13,6 +13,7 @@ IsOf Other schema = IfSome schema IsOtherText
 IsOf ReadFault schema = Unit {0}
 IsOf NoMemory schema = Unit {0}
 
+-- the source failed
 abbrev pub is_fault : Schema → Bool
 is_fault (Form form) = false
 is_fault Other = false

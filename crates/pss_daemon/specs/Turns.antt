@@ -20,6 +20,7 @@ Speaks Went bytes old new = new ≡ append_known old bytes
 Speaks SpeakFault bytes old new = (k : ℕ) × (new ≡ append_known old (take k bytes))
 Speaks NoMemory bytes old new = new ≡ old
 
+-- speech failed
 abbrev pub is_fault : Turn → Bool
 is_fault Went = false
 is_fault SpeakFault = true

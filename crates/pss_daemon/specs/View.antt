@@ -15,11 +15,11 @@ object_of value = record { home = the_home; values = value ∷ [] }
 abbrev pub entry_of : ℕ → Entry
 entry_of serial = record { number = serial; pid = record { home = the_home; serial = serial } }
 
--- the values by serial, from 1
+-- the objects of these values with their serials, from 1
 abbrev pub by_serial : List ℤ → List (ℕ × Object)
 by_serial values = enumerate_from 1 (map object_of values)
 
--- the objects of these values
+-- the catalog of these values
 abbrev pub objects_with : List ℤ → catalog.FinMap nat_cmp Object
 objects_with values = catalog.from_entries (by_serial values)
 
@@ -27,7 +27,7 @@ objects_with values = catalog.from_entries (by_serial values)
 abbrev pub session_with : List ℕ → List ℤ → Session
 session_with name values = record { name = name; next_entry = length values + 1; entries = map (λ e. entry_of e.0) (enumerate_from 1 values) }
 
--- what is kept then
+-- what is kept where the session of this name created these values
 abbrev pub kept_with : List ℕ → List ℤ → Kept
 kept_with name values = record { objects = objects_with values; next_serial = length values + 1; sessions = session_with name values ∷ [] }
 

@@ -16,15 +16,17 @@ use pss_base::{Bytes, LineStep, NoMemory, Pid};
 use std::alloc::Global;
 use std::marker::Model;
 
+// The number of the one storage home.
 const THE_HOME: u32 = 1;
 
+// How many objects a run creates at most.
 const MOST_OBJECTS: usize = 256;
 
-// The session that is open: its name, and the values that it created, by serial from 1.
+// The open session: its name, and the values of the objects that it created, in order of their serials from 1.
 #[derive(Drop)]
-pub struct OpenSession {
-    pub name: Bytes,
-    pub values: Vec<i32>,
+struct OpenSession {
+    name: Bytes,
+    values: Vec<i32>,
 }
 
 /// Serves lines, one at a time, over a catalog of one storage home.

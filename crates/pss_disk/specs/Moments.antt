@@ -19,6 +19,7 @@ pub record Moment : Type 0 where
   pub spoken : Option (List ℕ)
   pub disk : Option Disk
 
+-- an octet is in one of the ranges
 abbrev pub is_covered : List Range → ℕ → Bool
 is_covered [] i = false
 is_covered (range ∷ ranges) i = (nat_le range.at i && nat_lt i (range.at + range.count)) || is_covered ranges i
@@ -41,6 +42,7 @@ spoke bytes m = record { spoken = append_known m.spoken bytes; disk = m.disk }
 abbrev pub DuringSpeak : List ℕ → Moment → Moment → Type 0
 DuringSpeak bytes now m = (n : ℕ) × (m ≡ spoke (take n bytes) now)
 
+-- each moment has P
 abbrev pub Each : (Moment → Type 0) → List Moment → Type 0
 Each P [] = ⊤
 Each P (m ∷ ms) = P m × Each P ms

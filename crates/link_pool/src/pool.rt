@@ -170,8 +170,7 @@ impl<T> Pool<T> {
         ensures steps { steps.new ≡ steps.old + 1 }
         ensures rings { AreRings self.new }
     {
-        steps.tick();
-        let node = first_of(&self.cells, Side::Rows, row.number)?;
+        let node = first_of(&self.cells, Side::Rows, row.number, steps)?;
         let Seat { row: _, col, item } = take_out(&mut self.cells, node.number);
         Some((col, item))
     }
@@ -188,8 +187,7 @@ impl<T> Pool<T> {
         ensures steps { steps.new ≡ steps.old + 1 }
         ensures rings { AreRings self.new }
     {
-        steps.tick();
-        let node = first_of(&self.cells, Side::Cols, col.number)?;
+        let node = first_of(&self.cells, Side::Cols, col.number, steps)?;
         let Seat { row, col: _, item } = take_out(&mut self.cells, node.number);
         Some((row, item))
     }
@@ -200,8 +198,7 @@ impl<T> Pool<T> {
         ensures first { result ≡ first_in self.now.rows row }
         ensures steps { steps.new ≡ steps.old + 1 }
     {
-        steps.tick();
-        first_of(&self.cells, Side::Rows, row.number)
+        first_of(&self.cells, Side::Rows, row.number, steps)
     }
 
     /// The node behind another in its row. None exactly where that is the last. One step.
@@ -210,8 +207,7 @@ impl<T> Pool<T> {
         ensures next { IsSomeAnd (row_in self.now node) (λ row. result ≡ following node (list_in self.now.rows row)) }
         ensures steps { steps.new ≡ steps.old + 1 }
     {
-        steps.tick();
-        next_of(&self.cells, Side::Rows, node.number)
+        next_of(&self.cells, Side::Rows, node.number, steps)
     }
 
     /// The first node of a column. None exactly where the column has no node. One step.
@@ -220,8 +216,7 @@ impl<T> Pool<T> {
         ensures first { result ≡ first_in self.now.cols col }
         ensures steps { steps.new ≡ steps.old + 1 }
     {
-        steps.tick();
-        first_of(&self.cells, Side::Cols, col.number)
+        first_of(&self.cells, Side::Cols, col.number, steps)
     }
 
     /// The node behind another in its column. None exactly where that is the last. One step.
@@ -230,8 +225,7 @@ impl<T> Pool<T> {
         ensures next { IsSomeAnd (col_in self.now node) (λ col. result ≡ following node (list_in self.now.cols col)) }
         ensures steps { steps.new ≡ steps.old + 1 }
     {
-        steps.tick();
-        next_of(&self.cells, Side::Cols, node.number)
+        next_of(&self.cells, Side::Cols, node.number, steps)
     }
 
     /// The item of a node.

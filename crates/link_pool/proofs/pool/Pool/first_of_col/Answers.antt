@@ -9,6 +9,6 @@ first_of-requires-clause-head g c = col_found c.self.inside.cells c.self.inside.
 
 pub returns-clause-first : goal.returns-clause-first
 returns-clause-first g c =
-    c.first_of.ensures
+    c.first_of.ensures.first
     ∙ first_told Cols c.self.inside.cells c.args.col (col_found c.self.inside.cells c.self.inside.promised c.args.self.now c.self.view_is c.args.col c.requires)
     ∙ ap (λ m. first_in m.cols c.args.col) c.self.view_is

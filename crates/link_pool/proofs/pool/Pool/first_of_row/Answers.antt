@@ -9,6 +9,6 @@ first_of-requires-clause-head g c = row_found c.self.inside.cells c.self.inside.
 
 pub returns-clause-first : goal.returns-clause-first
 returns-clause-first g c =
-    c.first_of.ensures
+    c.first_of.ensures.first
     ∙ first_told Rows c.self.inside.cells c.args.row (row_found c.self.inside.cells c.self.inside.promised c.args.self.now c.self.view_is c.args.row c.requires)
     ∙ ap (λ m. first_in m.rows c.args.row) c.self.view_is

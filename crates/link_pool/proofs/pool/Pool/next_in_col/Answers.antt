@@ -12,4 +12,4 @@ next_of-requires-clause-node g c = seat_found c.self.inside.cells c.self.inside.
 pub returns-clause-next : goal.returns-clause-next
 returns-clause-next g c =
     subst (λ m. IsSomeAnd (col_in m c.args.node) (λ col. c.next_of.result ≡ following c.args.node (list_in m.cols col))) c.self.view_is
-    (following_told Cols c.self.inside.cells c.self.invariant.sound.cols c.args.node c.next_of.result c.next_of.ensures)
+    (following_told Cols c.self.inside.cells c.self.invariant.sound.cols c.args.node c.next_of.result c.next_of.ensures.next)

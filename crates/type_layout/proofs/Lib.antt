@@ -1,0 +1,12 @@
+mod Vectors
+mod Rows
+pub mod Counting
+pub mod OfType
+pub mod Bases
+pub mod Joining
+pub mod Keyed
+pub mod Lookups
+pub mod Places
+pub mod Apart
+pub mod KeysTell
+pub mod Records

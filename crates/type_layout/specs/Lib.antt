@@ -1,0 +1,15 @@
+pub mod Types
+pub mod Codes
+pub mod Views
+pub mod Members
+pub mod HomeCodes
+pub mod Values
+pub mod Defaults
+pub mod Spelling
+pub mod Schemas
+pub mod Keys
+pub mod ShapeText
+pub mod Sound
+pub mod Catalog
+pub mod Testing
+pub mod Laws

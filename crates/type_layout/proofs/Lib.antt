@@ -10,3 +10,4 @@ pub mod Places
 pub mod Apart
 pub mod KeysTell
 pub mod Records
+pub mod Sounding

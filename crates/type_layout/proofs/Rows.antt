@@ -1,11 +1,9 @@
 -- The definitions on worked rows.
-use Rattle.std.proofs.Common.{ℕ, ◌≡◌, List, [], ◌∷◌, ◌++◌, true, false, None, refl}
+use Rattle.std.proofs.Common.{ℕ, ◌≡◌, List, [], ◌∷◌, ◌++◌, true, false, refl}
 use Rattle.std.specs.Prelude.{pos, codes}
 use Rattle.std.specs.Fmt.{digits}
-use Rattle.type_layout.specs.declared.home.HomeNo.{HomeNo}
-use Rattle.type_layout.specs.declared.key.KeyNo.{KeyNo}
-use Rattle.type_layout.specs.declared.schema.Schema.{Schema}
-use Rattle.type_layout.specs.Types.{PlainType, Long, LongLong, Boolean, Octet, Str, RefTo, PlainValue, Int, Truth, Text, Ref, PlainMember}
+use Rattle.type_layout.specs.Types.{PlainType, Long, LongLong, Boolean, Octet, Str, Int, Truth, Text, PlainMember}
+use Rattle.type_layout.specs.People.{home_1, key_0, person, people, ann}
 use Rattle.type_layout.specs.Spelling.{record_spelling}
 use Rattle.type_layout.specs.Schemas.{descends}
 use Rattle.type_layout.specs.Keys.{key_bytes}
@@ -13,12 +11,6 @@ use Rattle.type_layout.specs.ShapeText.{shape_text}
 
 abbrev member : List ℕ → PlainType → PlainMember
 member name type = record { name = name; type = type; readonly = false }
-
-abbrev home_1 : HomeNo
-home_1 = record { 0 = 1 }
-
-abbrev key_0 : KeyNo
-key_0 = record { 0 = 0 }
 
 -- (1, "ab", TRUE)
 mixed : record_spelling (member [] Long ∷ member [] (Str 0) ∷ member [] Boolean ∷ []) (Int (pos 1) ∷ Text (97 ∷ 98 ∷ []) ∷ Truth true ∷ [])
@@ -31,25 +23,6 @@ padded : record_spelling (member [] Octet ∷ member [] LongLong ∷ []) (Int (p
 padded = refl
 
 -- ---- people, whose bosses are people
-
-abbrev person : List PlainMember
-person = member (codes "ssn") (Str 0) ∷ member (codes "name") (Str 0) ∷ member (codes "boss") (RefTo (home_1 ∷ [])) ∷ []
-
-abbrev people : Schema
-people = record {
-  homes = record {
-    name = codes "PersonHomeBase";
-    base = None;
-    layout = record { members = person };
-    keys = key_0 ∷ [];
-    factories = [];
-  } ∷ [];
-  keys = record { name = codes "ssn"; home = home_1; members = 0 ∷ [] } ∷ [];
-  provided = [];
-}
-
-abbrev ann : List PlainValue
-ann = Text (49 ∷ []) ∷ Text (codes "Ann") ∷ Ref None ∷ []
 
 -- ("1", "Ann", nil)
 of_ann : record_spelling person ann

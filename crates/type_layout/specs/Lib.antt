@@ -13,3 +13,4 @@ pub mod Sound
 pub mod Catalog
 pub mod Testing
 pub mod Laws
+pub mod People

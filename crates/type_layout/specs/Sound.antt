@@ -1,6 +1,6 @@
 -- Which types, layouts and schemas may be: each condition by itself.
-use Rattle.std.specs.Prelude.{ℕ, ◌+◌, ◌^◌, ◌<◌, ◌≤◌, ◌≡◌, ◌↔◌, List, [], ◌∷◌, length, map, Option, Some, None, Bool, false, ◌&&◌, ◌||◌, ◌==◌, nat_le, IsTrue, IsSome}
-use Rattle.std.specs.List.{slice_get, list_all, IsDistinct}
+use Rattle.std.specs.Prelude.{ℕ, ◌+◌, ◌^◌, ◌<◌, ◌≤◌, ◌≡◌, ◌↔◌, List, [], ◌∷◌, length, map, Option, Some, None, Bool, true, false, ◌&&◌, ◌||◌, ◌==◌, nat_le, IsTrue, IsSome, not}
+use Rattle.std.specs.List.{slice_get, list_all, list_any}
 use Rattle.std.specs.Str.{bytes_eq}
 use Rattle.type_layout.specs.declared.home.HomeNo.{HomeNo}
 use Rattle.type_layout.specs.declared.key.KeyNo.{KeyNo}
@@ -15,6 +15,11 @@ use Rattle.type_layout.specs.Spelling.{record_spelling}
 use Rattle.type_layout.specs.Schemas.{given, home_at, key_at, members_at, descends, has_key}
 use Rattle.type_layout.specs.Keys.{may_be_keyed}
 use Rattle.type_layout.specs.ShapeText.{shape_text}
+
+-- no one of the list is the same as a later one
+abbrev pub are_distinct : {A : Type 0} → (A → A → Bool) → List A → Bool
+are_distinct same [] = true
+are_distinct same (x ∷ xs) = not (list_any (same x) xs) && are_distinct same xs
 
 -- ---- types
 
@@ -37,7 +42,7 @@ Rise last (h ∷ hs) = (last < h.0) × Rise h.0 hs
 
 -- names of enumerators
 abbrev pub AreEnumerators : List (List ℕ) → Type 0
-AreEnumerators names = (0 < length names) × (length names < 2 ^ 32) × IsTrue (list_all is_name names) × IsDistinct bytes_eq names
+AreEnumerators names = (0 < length names) × (length names < 2 ^ 32) × IsTrue (list_all is_name names) × IsTrue (are_distinct bytes_eq names)
 
 abbrev pub HasField : PlainFields → Type 0
 HasField no_fields = ⊥
@@ -80,7 +85,7 @@ IsSoundLayout members = EachMember members (λ m. IsSound m.type)
 
 -- numbers of members that are there, none twice
 abbrev pub AreMembers : List ℕ → List PlainMember → Type 0
-AreMembers indexes members = IsTrue (list_all (λ i. nat_le (i + 1) (length members)) indexes) × IsDistinct (λ i j. i == j) indexes
+AreMembers indexes members = IsTrue (list_all (λ i. nat_le (i + 1) (length members)) indexes) × IsTrue (are_distinct (λ i j. i == j) indexes)
 
 -- ---- schemas
 
@@ -112,7 +117,7 @@ IsKeyMember own other i =
 
 pub record IsSoundSchema (S : Schema) : Type 0 where
   pub few_homes : length S.homes ≤ 4096
-  pub home_names : IsDistinct bytes_eq (map (λ home. home.name) S.homes)
+  pub home_names : IsTrue (are_distinct bytes_eq (map (λ home. home.name) S.homes))
   -- layouts
   pub few_members : EachHome S (λ h home. length home.layout.members ≤ 255)
   pub layouts : EachHome S (λ h home. IsSoundLayout home.layout.members)
@@ -120,9 +125,9 @@ pub record IsSoundSchema (S : Schema) : Type 0 where
   pub defaults : EachHome S (λ h home. length (record_spelling home.layout.members (default_record home.layout.members)) ≤ 8000)
   pub bases : EachHome S (λ h home. IsLower home.base h)
   -- names within a home
-  pub member_names : EachHome S (λ h home. IsDistinct bytes_eq (map (λ m. m.name) home.layout.members))
-  pub key_names : EachHome S (λ h home. IsDistinct bytes_eq (map (key_name S) home.keys))
-  pub factory_names : EachHome S (λ h home. IsDistinct bytes_eq (map (λ f. f.name) home.factories))
+  pub member_names : EachHome S (λ h home. IsTrue (are_distinct bytes_eq (map (λ m. m.name) home.layout.members)))
+  pub key_names : EachHome S (λ h home. IsTrue (are_distinct bytes_eq (map (key_name S) home.keys)))
+  pub factory_names : EachHome S (λ h home. IsTrue (are_distinct bytes_eq (map (λ f. f.name) home.factories)))
   -- keys and factories
   pub keys_there : EachHome S (λ h home. IsTrue (list_all (λ k. nat_le (k.0 + 1) (length S.keys)) home.keys))
   pub key_homes : EachKey S (λ k key. IsSome (home_at S key.home))
@@ -132,5 +137,5 @@ pub record IsSoundSchema (S : Schema) : Type 0 where
   pub factories : EachHome S (λ h home. (j : ℕ) (f : Factory) → slice_get home.factories j ≡ Some f → AreMembers f.members home.layout.members)
   -- catalogs
   pub provided_there : (j : ℕ) (p : Provided) → slice_get S.provided j ≡ Some p → IsSome (home_at S p.home)
-  pub provided_names : IsDistinct same_provided S.provided
+  pub provided_names : IsTrue (are_distinct same_provided S.provided)
   pub short_shape : length (shape_text S) ≤ 65536

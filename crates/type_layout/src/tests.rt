@@ -6,7 +6,6 @@ use crate::{
 };
 use pss_base::{Bytes, NoMemory, Pid};
 use std::alloc::Global;
-use std::process::Abort;
 use std::test::Fail;
 
 fn bytes(alloc: Global, text: &[u8]) -> Result<Bytes, NoMemory> {
@@ -63,9 +62,8 @@ fn numbers(alloc: Global, count: u32, number: i128) -> Result<Values, NoMemory> 
 }
 
 #[test]
-fn the_default_of_each_type(rt: HostRuntime) -> Result<(), Fail> {
-    let alloc = rt.alloc();
-    let number_types = [
+fn the_default_of_a_number_is_zero(rt: HostRuntime) -> Result<(), Fail> {
+    let types = [
         Ty::Short,
         Ty::Long,
         Ty::LongLong,
@@ -74,10 +72,16 @@ fn the_default_of_each_type(rt: HostRuntime) -> Result<(), Fail> {
         Ty::ULongLong,
         Ty::Octet,
     ];
-    for ty in &number_types {
-        let value = default_of(alloc, ty)?;
+    for ty in &types {
+        let value = default_of(rt.alloc(), ty)?;
         assert!(rt; is_zero(&value));
     }
+    Ok(())
+}
+
+#[test]
+fn the_default_of_what_has_no_parts(rt: HostRuntime) -> Result<(), Fail> {
+    let alloc = rt.alloc();
     let value = default_of(alloc, &Ty::Char)?;
     assert!(rt; matches!(value, Value::Char(0)));
     let value = default_of(alloc, &Ty::Boolean)?;
@@ -88,6 +92,12 @@ fn the_default_of_each_type(rt: HostRuntime) -> Result<(), Fail> {
     assert!(rt; matches!(value, Value::Enum(0)));
     let value = default_of(alloc, &Ty::Ref(homes(alloc, &[1])?))?;
     assert!(rt; matches!(value, Value::Ref(None)));
+    Ok(())
+}
+
+#[test]
+fn the_default_of_what_has_parts(rt: HostRuntime) -> Result<(), Fail> {
+    let alloc = rt.alloc();
     let value = default_of(alloc, &sequence(alloc, Ty::Long, 0)?)?;
     assert!(rt; is_empty(&value));
     let value = default_of(alloc, &array(alloc, Ty::Long, 3)?)?;
@@ -160,79 +170,79 @@ fn numbers_at_the_ends_of_their_ranges(rt: HostRuntime) -> Result<(), Fail> {
     Ok(())
 }
 
-fn tells(rt: &impl Abort, ty: &Ty, value: Value, wanted: bool, row: u32) {
-    assert_eq!(rt; is_of(&value, ty), wanted, "row {row}");
+#[test]
+fn texts_are_of_their_bounds(rt: HostRuntime) -> Result<(), Fail> {
+    let rows = [
+        (2, b"ab".as_slice(), true),
+        (2, b"abc".as_slice(), false),
+        (2, b"a\0".as_slice(), false),
+        (0, b"abc".as_slice(), true),
+        (0, b"\0".as_slice(), false),
+    ];
+    for (bound, text, wanted) in &rows {
+        let value = Value::Str(bytes(rt.alloc(), text)?);
+        assert_eq!(rt; is_of(&value, &Ty::Str(*bound)), *wanted);
+    }
+    Ok(())
 }
 
 #[test]
-fn bounds_and_other_types(rt: HostRuntime) -> Result<(), Fail> {
+fn lists_are_of_their_counts(rt: HostRuntime) -> Result<(), Fail> {
     let alloc = rt.alloc();
-    let text = Ty::Str(2);
-    tells(&rt, &text, Value::Str(bytes(alloc, b"ab")?), true, 1);
-    tells(&rt, &text, Value::Str(bytes(alloc, b"abc")?), false, 2);
-    tells(&rt, &text, Value::Str(bytes(alloc, b"a\0")?), false, 3);
-    tells(&rt, &Ty::Str(0), Value::Str(bytes(alloc, b"abc")?), true, 4);
-    let bounded = sequence(alloc, Ty::Octet, 2)?;
-    tells(&rt, &bounded, Value::List(numbers(alloc, 2, 255)?), true, 5);
-    tells(
-        &rt,
-        &bounded,
-        Value::List(numbers(alloc, 3, 255)?),
-        false,
-        6,
-    );
-    tells(
-        &rt,
-        &bounded,
-        Value::List(numbers(alloc, 1, 256)?),
-        false,
-        7,
-    );
-    tells(
-        &rt,
-        &sequence(alloc, Ty::Octet, 0)?,
-        Value::List(numbers(alloc, 3, 255)?),
-        true,
-        8,
-    );
+    let sequences = [
+        (2, 2, 255, true),
+        (2, 3, 255, false),
+        (2, 1, 256, false),
+        (0, 3, 255, true),
+    ];
+    for (bound, count, number, wanted) in &sequences {
+        let value = Value::List(numbers(alloc, *count, *number)?);
+        let ty = sequence(alloc, Ty::Octet, *bound)?;
+        assert_eq!(rt; is_of(&value, &ty), *wanted, "{bound} {count} {number}");
+    }
     let pair = array(alloc, Ty::Short, 2)?;
-    tells(&rt, &pair, Value::List(numbers(alloc, 1, 7)?), false, 9);
-    tells(&rt, &pair, Value::List(numbers(alloc, 2, 7)?), true, 10);
-    tells(&rt, &pair, Value::List(numbers(alloc, 3, 7)?), false, 11);
-    let colour = Ty::Enum(names(alloc, &[b"red", b"green"])?);
-    tells(&rt, &colour, Value::Enum(1), true, 12);
-    tells(&rt, &colour, Value::Enum(2), false, 13);
+    for (count, wanted) in &[(1, false), (2, true), (3, false)] {
+        let value = Value::List(numbers(alloc, *count, 7)?);
+        assert_eq!(rt; is_of(&value, &pair), *wanted, "{count}");
+    }
+    Ok(())
+}
+
+#[test]
+fn structs_are_of_their_fields(rt: HostRuntime) -> Result<(), Fail> {
+    let alloc = rt.alloc();
     let point = point(alloc, Ty::Short)?;
-    tells(&rt, &point, Value::Struct(numbers(alloc, 2, 1)?), true, 14);
-    tells(&rt, &point, Value::Struct(numbers(alloc, 1, 1)?), false, 15);
-    tells(&rt, &point, Value::Struct(numbers(alloc, 3, 1)?), false, 16);
-    tells(&rt, &point, Value::List(numbers(alloc, 2, 1)?), false, 17);
-    let boss = Ty::Ref(homes(alloc, &[1, 3])?);
-    tells(&rt, &boss, Value::Ref(None), true, 18);
-    tells(
-        &rt,
-        &boss,
-        Value::Ref(Some(Pid { home: 3, serial: 1 })),
-        true,
-        19,
-    );
-    tells(
-        &rt,
-        &boss,
-        Value::Ref(Some(Pid { home: 2, serial: 1 })),
-        false,
-        20,
-    );
-    tells(
-        &rt,
-        &boss,
-        Value::Ref(Some(Pid { home: 3, serial: 0 })),
-        false,
-        21,
-    );
-    tells(&rt, &Ty::Char, Value::Char(255), true, 22);
-    tells(&rt, &Ty::Char, Value::Int(65), false, 23);
-    tells(&rt, &Ty::Boolean, Value::Bool(false), true, 24);
+    for (count, wanted) in &[(1, false), (2, true), (3, false)] {
+        let value = Value::Struct(numbers(alloc, *count, 1)?);
+        assert_eq!(rt; is_of(&value, &point), *wanted, "{count}");
+    }
+    assert!(rt; !is_of(&Value::List(numbers(alloc, 2, 1)?), &point));
+    Ok(())
+}
+
+#[test]
+fn references_are_to_their_homes(rt: HostRuntime) -> Result<(), Fail> {
+    let boss = Ty::Ref(homes(rt.alloc(), &[1, 3])?);
+    for (home, serial, wanted) in &[(3, 1, true), (1, 9, true), (2, 1, false), (3, 0, false)] {
+        let value = Value::Ref(Some(Pid {
+            home: *home,
+            serial: *serial,
+        }));
+        assert_eq!(rt; is_of(&value, &boss), *wanted, "{home} {serial}");
+    }
+    assert!(rt; is_of(&Value::Ref(None), &boss));
+    Ok(())
+}
+
+#[test]
+fn values_are_of_their_own_type(rt: HostRuntime) -> Result<(), Fail> {
+    let alloc = rt.alloc();
+    let colour = Ty::Enum(names(alloc, &[b"red", b"green"])?);
+    assert!(rt; is_of(&Value::Enum(1), &colour));
+    assert!(rt; !is_of(&Value::Enum(2), &colour));
+    assert!(rt; is_of(&Value::Char(255), &Ty::Char));
+    assert!(rt; !is_of(&Value::Int(65), &Ty::Char));
+    assert!(rt; is_of(&Value::Bool(false), &Ty::Boolean));
     Ok(())
 }
 
@@ -310,41 +320,46 @@ fn put_first(members: &mut Members, alloc: Global) -> Result<(), NoMemory> {
     put(members, alloc, b"b", Ty::Long)
 }
 
+fn put_numbers(members: &mut Members, alloc: Global) -> Result<(), NoMemory> {
+    put(members, alloc, b"c", Ty::LongLong)?;
+    put(members, alloc, b"d", Ty::UShort)?;
+    put(members, alloc, b"e", Ty::ULong)?;
+    put(members, alloc, b"f", Ty::ULongLong)?;
+    put(members, alloc, b"g", Ty::Char)?;
+    put(members, alloc, b"h", Ty::Boolean)?;
+    put(members, alloc, b"i", Ty::Octet)
+}
+
+fn put_lists(members: &mut Members, alloc: Global) -> Result<(), NoMemory> {
+    put(members, alloc, b"j", Ty::Str(40))?;
+    put(members, alloc, b"k", sequence(alloc, Ty::Long, 0)?)?;
+    put(members, alloc, b"l", sequence(alloc, Ty::Str(0), 5)?)?;
+    let row = array(alloc, Ty::Octet, 3)?;
+    put(members, alloc, b"m", array(alloc, row, 2)?)
+}
+
+fn put_named(members: &mut Members, alloc: Global) -> Result<(), NoMemory> {
+    let inner = point(alloc, Ty::Octet)?;
+    put(members, alloc, b"n", point(alloc, inner)?)?;
+    let colours = names(alloc, &[b"red", b"green"])?;
+    put(members, alloc, b"o", Ty::Enum(colours))?;
+    put(members, alloc, b"p", Ty::Ref(homes(alloc, &[1, 2])?))
+}
+
+fn of_every_type(alloc: Global) -> Result<Members, NoMemory> {
+    let mut members = Members::new(alloc);
+    put_first(&mut members, alloc)?;
+    put_numbers(&mut members, alloc)?;
+    put_lists(&mut members, alloc)?;
+    put_named(&mut members, alloc)?;
+    Ok(members)
+}
+
 // A base home, and a home that derives from it and has a member of each type.
 fn every_type(alloc: Global) -> Result<Schema, NoMemory> {
     let mut base = Members::new(alloc);
     put_first(&mut base, alloc)?;
-    let mut derived = Members::new(alloc);
-    put_first(&mut derived, alloc)?;
-    put(&mut derived, alloc, b"c", Ty::LongLong)?;
-    put(&mut derived, alloc, b"d", Ty::UShort)?;
-    put(&mut derived, alloc, b"e", Ty::ULong)?;
-    put(&mut derived, alloc, b"f", Ty::ULongLong)?;
-    put(&mut derived, alloc, b"g", Ty::Char)?;
-    put(&mut derived, alloc, b"h", Ty::Boolean)?;
-    put(&mut derived, alloc, b"i", Ty::Octet)?;
-    put(&mut derived, alloc, b"j", Ty::Str(40))?;
-    put(&mut derived, alloc, b"k", sequence(alloc, Ty::Long, 0)?)?;
-    put(&mut derived, alloc, b"l", sequence(alloc, Ty::Str(0), 5)?)?;
-    put(
-        &mut derived,
-        alloc,
-        b"m",
-        array(alloc, array(alloc, Ty::Octet, 3)?, 2)?,
-    )?;
-    put(
-        &mut derived,
-        alloc,
-        b"n",
-        point(alloc, point(alloc, Ty::Octet)?)?,
-    )?;
-    put(
-        &mut derived,
-        alloc,
-        b"o",
-        Ty::Enum(names(alloc, &[b"red", b"green"])?),
-    )?;
-    put(&mut derived, alloc, b"p", Ty::Ref(homes(alloc, &[1, 2])?))?;
+    let derived = of_every_type(alloc)?;
     let mut list = HomeList::new(alloc);
     list.push(home(alloc, b"M::Base", None, base, &[0])?)?;
     list.push(home(alloc, b"Derived", Some(HomeNo(1)), derived, &[0, 1])?)?;

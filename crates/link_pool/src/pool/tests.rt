@@ -293,6 +293,27 @@ fn perform<L: Ledger>(
     Ok(())
 }
 
+fn remove_bare<L: Ledger>(
+    rt: &impl Abort,
+    pool: &mut Pool<u32>,
+    rows: &[Row; 4],
+    cols: &[Col; 4],
+    steps: &mut Steps<L>,
+) {
+    let left = room(pool);
+    for row in rows {
+        assert!(rt; has_row(pool, *row));
+        assert!(rt; is_bare_row(pool, *row, steps));
+        pool.remove_row(*row);
+    }
+    for col in cols {
+        assert!(rt; has_col(pool, *col));
+        assert!(rt; is_bare_col(pool, *col, steps));
+        pool.remove_col(*col);
+    }
+    assert_eq!(rt; room(pool), left);
+}
+
 fn in_many_orders<L: Ledger>(rt: &impl Abort, alloc: Global, blank: Blank) -> Result<(), Fail>
     requires name { blank.name ≡ L.name }
     requires parts { blank.parts ≡ L.parts }
@@ -332,18 +353,7 @@ fn in_many_orders<L: Ledger>(rt: &impl Abort, alloc: Global, blank: Blank) -> Re
         }
     }
     assert!(rt; list.is_empty());
-    let left = room(&pool);
-    for row in rows.iter() {
-        assert!(rt; has_row(&pool, *row));
-        assert!(rt; is_bare_row(&pool, *row, &mut steps));
-        pool.remove_row(*row);
-    }
-    for col in cols.iter() {
-        assert!(rt; has_col(&pool, *col));
-        assert!(rt; is_bare_col(&pool, *col, &mut steps));
-        pool.remove_col(*col);
-    }
-    assert_eq!(rt; room(&pool), left);
+    remove_bare(rt, &mut pool, &rows, &cols, &mut steps);
     Ok(())
 }
 

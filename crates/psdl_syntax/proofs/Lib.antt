@@ -1,3 +1,8 @@
 pub mod Scanning
 pub mod Tables
 pub mod Spelled
+pub mod Placing
+pub mod Valuing
+pub mod Wording
+pub mod Stringing
+pub mod Lexing

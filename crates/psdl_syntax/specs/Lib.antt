@@ -1,3 +1,10 @@
 pub mod Tokens
 pub mod Names
 pub mod Form
+pub mod Alphabet
+pub mod Places
+pub mod Spellings
+pub mod Numerals
+pub mod Characters
+pub mod Comments
+pub mod Lexis

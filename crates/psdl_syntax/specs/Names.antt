@@ -20,7 +20,7 @@ keywords =
 -- the words of the standard's language that this one leaves out
 abbrev pub left_out_words : List (List ℕ)
 left_out_words =
-    codes "any" ∷ codes "attribute" ∷ codes "case" ∷ codes "context" ∷ codes "custom" ∷ codes "default" ∷
+    codes "any" ∷ codes "as" ∷ codes "attribute" ∷ codes "case" ∷ codes "context" ∷ codes "custom" ∷ codes "default" ∷
     codes "double" ∷ codes "exception" ∷ codes "fixed" ∷ codes "float" ∷ codes "interface" ∷
     codes "local" ∷ codes "native" ∷ codes "Object" ∷ codes "oneway" ∷ codes "private" ∷
     codes "public" ∷ codes "raises" ∷ codes "scope" ∷ codes "store" ∷ codes "stores" ∷ codes "strong" ∷

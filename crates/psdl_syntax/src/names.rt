@@ -39,8 +39,9 @@ const KEYWORDS: [&str; 30] = [
 ];
 
 // The words of PSS 2.0 that this language leaves out. No name is one of them exactly.
-const LEFT_OUT_WORDS: [&str; 32] = [
+const LEFT_OUT_WORDS: [&str; 33] = [
     "any",
+    "as",
     "attribute",
     "case",
     "context",
@@ -88,13 +89,15 @@ fn is_in(word: &[u8], table: &[&str]) -> bool
     table.iter().any(|entry| entry.as_bytes() == word)
 }
 
-fn is_keyword(word: &[u8]) -> bool
+/// Tells whether this is a keyword in any case.
+pub(crate) fn is_keyword(word: &[u8]) -> bool
     ensures { IsTrue result ↔ Any (SameButForCase word.now) keywords }
 {
     is_in_but_for_case(word, &KEYWORDS)
 }
 
-fn is_left_out(word: &[u8]) -> bool
+/// Tells whether this is a left-out word, in exact case.
+pub(crate) fn is_left_out(word: &[u8]) -> bool
     ensures { IsTrue result ↔ Contains left_out_words word.now }
 {
     is_in(word, &LEFT_OUT_WORDS)

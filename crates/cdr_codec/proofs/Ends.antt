@@ -1,0 +1,160 @@
+-- Where values end.
+use Rattle.std.proofs.Common.{◌≡◌, ℕ, ◌+◌, ◌-◌, ◌^◌, ◌≤◌, ◌<◌, List, [], ◌∷◌, ◌++◌, length, get_or, map, take, drop, Option, Some, None, refl, sym, ap, subst, ◌∙◌, arith, inl, inr, length-append}
+use Rattle.std.specs.Prelude.{min, replicate}
+use Rattle.std.proofs.lemmas.Bool.{cases_lt}
+use Rattle.std.proofs.lemmas.List.{length-replicate, drop_all, drop_more, take_rest}
+use Rattle.byteorder.specs.Endian.{big_bytes}
+use Rattle.byteorder.specs.Numbers.{length-bytes_high_first}
+use Rattle.type_layout.specs.declared.value.Value.{Value}
+use Rattle.type_layout.specs.declared.member.Member.{Member}
+use Rattle.type_layout.specs.Views.{plain_type, plain_value}
+use Rattle.type_layout.specs.Members.{plain_member}
+use Rattle.cdr_codec.proofs.Loop.{members_drop}
+use Rattle.type_layout.specs.declared.home.HomeNo.{HomeNo}
+use Rattle.type_layout.specs.Types.{PlainType, Short, Long, LongLong, UShort, ULong, ULongLong, Char, Boolean, Octet, Str, Seq, Arr, Struct, Enum, RefTo, PlainFields, no_fields, field_and, PlainValue, Int, Character, Truth, Ordinal, Text, Items, Parts, Ref, PlainValues, no_values, value_and, values_of}
+use Rattle.type_layout.specs.Values.{Of, AreOf, EachOf, LeadsTo, count, layout_fields}
+use Rattle.type_layout.specs.Spelling.{gap, padding, reference, each, spelling, spellings}
+use Rattle.cdr_codec.specs.Lengths.{place_behind, parts_of}
+
+-- a place that is kept up to a limit goes on as the place does
+pub kept : (p q m : ℕ) (f : ℕ → ℕ) → q ≡ min p m → min (q + f q) m ≡ min (p + f p) m
+kept p q m f is = elim (cases_lt p m) [
+  | inl lt ↦ (let same : q ≡ p = omega (arith, is) in ap (λ (k : ℕ). min (k + f k) m) same)
+  | inr le ↦ (let full : q ≡ m = omega (arith, is) in omega (arith, full))
+]
+
+pub number_length : (width n at : ℕ) → length (padding width at ++ big_bytes width n) ≡ gap width at + width
+number_length width n at = omega (arith, length-append (padding width at) (big_bytes width n), length-replicate {A = ℕ} (gap width at) 0, length-bytes_high_first width n)
+
+-- behind a first text, a text that begins where the first ends
+pub length-both : (first : List ℕ) (second : ℕ → List ℕ) (at n : ℕ) → length first ≡ n → length (first ++ second (at + length first)) ≡ n + length (second (at + n))
+length-both first second at n is = length-append first (second (at + length first)) ∙ ap (λ (k : ℕ). k + length (second (at + k))) is
+
+-- the end of a number, by the value that it is
+abbrev pub EndsNumber : PlainType → ℕ → Type 0
+EndsNumber t width = (v : PlainValue) (at result : ℕ) → Of t v → result ≡ place_behind at (gap width at + width) → result ≡ place_behind at (length (spelling t v at))
+
+pub short_ends : EndsNumber Short 2
+short_ends (Int z) at result o is = is ∙ ap (place_behind at) (sym (number_length 2 _ at))
+short_ends _ at result o is = absurd o
+
+pub long_ends : EndsNumber Long 4
+long_ends (Int z) at result o is = is ∙ ap (place_behind at) (sym (number_length 4 _ at))
+long_ends _ at result o is = absurd o
+
+pub long_long_ends : EndsNumber LongLong 8
+long_long_ends (Int z) at result o is = is ∙ ap (place_behind at) (sym (number_length 8 _ at))
+long_long_ends _ at result o is = absurd o
+
+pub ushort_ends : EndsNumber UShort 2
+ushort_ends (Int z) at result o is = is ∙ ap (place_behind at) (sym (number_length 2 _ at))
+ushort_ends _ at result o is = absurd o
+
+pub ulong_ends : EndsNumber ULong 4
+ulong_ends (Int z) at result o is = is ∙ ap (place_behind at) (sym (number_length 4 _ at))
+ulong_ends _ at result o is = absurd o
+
+pub ulong_long_ends : EndsNumber ULongLong 8
+ulong_long_ends (Int z) at result o is = is ∙ ap (place_behind at) (sym (number_length 8 _ at))
+ulong_long_ends _ at result o is = absurd o
+
+pub octet_ends : EndsNumber Octet 1
+octet_ends (Int z) at result o is = is ∙ ap (place_behind at) (sym (number_length 1 _ at))
+octet_ends _ at result o is = absurd o
+
+pub char_ends : EndsNumber Char 1
+char_ends (Character c) at result o is = is ∙ ap (place_behind at) (sym (number_length 1 _ at))
+char_ends _ at result o is = absurd o
+
+pub boolean_ends : EndsNumber Boolean 1
+boolean_ends (Truth b) at result o is = is ∙ ap (place_behind at) (sym (number_length 1 _ at))
+boolean_ends _ at result o is = absurd o
+
+pub enumerator_ends : (names : List (List ℕ)) → EndsNumber (Enum names) 4
+enumerator_ends names (Ordinal n) at result o is = is ∙ ap (place_behind at) (sym (number_length 4 n at))
+enumerator_ends names _ at result o is = absurd o
+
+-- ---- values that have parts
+
+-- a text that begins where a number ends
+behind_number : (width n at first result : ℕ) (f : ℕ → List ℕ) → first ≡ place_behind at (gap width at + width) → result ≡ place_behind first (length (f first))
+    → result ≡ place_behind at (length ((padding width at ++ big_bytes width n) ++ f (at + length (padding width at ++ big_bytes width n))))
+behind_number width n at first result f is done =
+    let size = number_length width n at in
+    let whole : length ((padding width at ++ big_bytes width n) ++ f (at + length (padding width at ++ big_bytes width n))) ≡ gap width at + width + length (f (at + (gap width at + width))) = length-both (padding width at ++ big_bytes width n) f at (gap width at + width) size in
+    done ∙ kept (at + (gap width at + width)) first (2 ^ 64 - 1) (λ k. length (f k)) is ∙ omega (arith, whole)
+
+pub string_ends : (bound : ℕ) (text : List ℕ) (at first result : ℕ) → first ≡ place_behind at (gap 4 at + 4) → result ≡ place_behind first (length text + 1) → result ≡ place_behind at (length (spelling (Str bound) (Text text) at))
+string_ends bound text at first result is done =
+    let size : length (text ++ 0 ∷ []) ≡ length text + 1 = length-append text (0 ∷ []) in
+    behind_number 4 (length text + 1) at first result (λ k. text ++ 0 ∷ []) is (done ∙ ap (place_behind first) (sym size))
+
+pub sequence_ends : (item : PlainType) (bound : ℕ) (v : PlainValue) (at first result : ℕ) → Of (Seq item bound) v → first ≡ place_behind at (gap 4 at + 4) → result ≡ place_behind first (length (each (spelling item) (parts_of v) first)) → result ≡ place_behind at (length (spelling (Seq item bound) v at))
+sequence_ends item bound (Items vs) at first result o is done = behind_number 4 (count vs) at first result (each (spelling item) vs) is done
+sequence_ends item bound _ at first result o is done = absurd o
+
+pub array_ends : (item : PlainType) (n : ℕ) (v : PlainValue) (at result : ℕ) → Of (Arr item n) v → result ≡ place_behind at (length (each (spelling item) (parts_of v) at)) → result ≡ place_behind at (length (spelling (Arr item n) v at))
+array_ends item n (Items vs) at result o done = done
+array_ends item n _ at result o done = absurd o
+
+pub struct_ends : (fields : PlainFields) (v : PlainValue) (at result : ℕ) → Of (Struct fields) v → result ≡ place_behind at (length (spellings fields (parts_of v) at)) → result ≡ place_behind at (length (spelling (Struct fields) v at))
+struct_ends fields (Parts vs) at result o done = done
+struct_ends fields _ at result o done = absurd o
+
+pub reference_ends : (homes : List HomeNo) (v : PlainValue) (at first result : ℕ) → Of (RefTo homes) v → first ≡ place_behind at (gap 4 at + 4) → result ≡ place_behind first (gap 8 first + 8) → result ≡ place_behind at (length (spelling (RefTo homes) v at))
+reference_ends homes (Ref None) at first result o is done = behind_number 4 0 at first result (λ k. padding 8 k ++ big_bytes 8 0) is (done ∙ ap (place_behind first) (sym (number_length 8 0 first)))
+reference_ends homes (Ref (Some pid)) at first result o is done = behind_number 4 pid.home at first result (λ k. padding 8 k ++ big_bytes 8 pid.serial) is (done ∙ ap (place_behind first) (sym (number_length 8 pid.serial first)))
+reference_ends homes _ at first result o is done = absurd o
+
+pub items_fit : (item : PlainType) (bound : ℕ) (v : PlainValue) → Of (Seq item bound) v → EachOf (Of item) (parts_of v)
+items_fit item bound (Items vs) o = o.0
+items_fit item bound _ o = absurd o
+
+pub elements_fit : (item : PlainType) (n : ℕ) (v : PlainValue) → Of (Arr item n) v → EachOf (Of item) (parts_of v)
+elements_fit item n (Items vs) o = o.0
+elements_fit item n _ o = absurd o
+
+pub fields_fit : (fields : PlainFields) (v : PlainValue) → Of (Struct fields) v → AreOf fields (parts_of v)
+fields_fit fields (Parts vs) o = o
+fields_fit fields _ o = absurd o
+
+-- ---- loops
+
+-- a text, and then a text that begins where it ends
+pub one_on : (first : ℕ → List ℕ) (others : ℕ → List ℕ) (p q total : ℕ) → q ≡ place_behind p (length (first p)) → place_behind p (length (first p ++ others (p + length (first p)))) ≡ total → place_behind q (length (others q)) ≡ total
+one_on first others p q total is so_far = kept (p + length (first p)) q (2 ^ 64 - 1) (λ k. length (others k)) is ∙ (let whole = length-append (first p) (others (p + length (first p))) in omega (arith, whole, so_far))
+
+place_is : (place total : ℕ) → place < 2 ^ 64 → place_behind place 0 ≡ total → place ≡ total
+place_is place total fits is = omega (arith, is)
+
+-- nothing is left of the values, or of the fields
+pub items_over : (spell : PlainValue → ℕ → List ℕ) (vs : List Value) (i place total : ℕ) → length vs ≤ i → place < 2 ^ 64 → place_behind place (length (each spell (values_of (map plain_value (drop i vs))) place)) ≡ total → place ≡ total
+items_over spell vs i place total over fits is =
+    let none : drop i vs ≡ [] = drop_all i vs over in
+    place_is place total fits (subst (λ (us : List Value). place_behind place (length (each spell (values_of (map plain_value us)) place)) ≡ total) none is)
+
+pub fields_over : (fields : PlainFields) (vs : PlainValues) (place total : ℕ) → fields ≡ no_fields → place < 2 ^ 64 → AreOf fields vs → place_behind place (length (spellings fields vs place)) ≡ total → place ≡ total
+fields_over fields vs place total none fits are is =
+    place_is place total fits (empty vs (subst (λ (fs : PlainFields). AreOf fs vs) none are) (subst (λ (fs : PlainFields). place_behind place (length (spellings fs vs place)) ≡ total) none is))
+  where
+    empty : (us : PlainValues) → AreOf no_fields us → place_behind place (length (spellings no_fields us place)) ≡ total → place_behind place 0 ≡ total
+    empty no_values are is = is
+    empty (value_and v us) are is = is
+
+pub split_first : {X : Type 0} (xs : List X) (x : X) → 1 ≤ length xs → x ≡ get_or xs 0 x → xs ≡ x ∷ take (length xs - 1) (drop 1 xs)
+split_first {X} xs x some is = drop_more xs 0 x (omega arith) ∙ ap (λ (y : X). y ∷ drop 1 xs) (sym is) ∙ ap (λ (ys : List X). x ∷ ys) (sym (take_rest xs 1))
+
+-- a member more
+pub members_on : (ms : List Member) (i : ℕ) (m : Member) (v : Value) (rem others : List Value) (p q total : ℕ) → i < length ms → m ≡ get_or ms i m → rem ≡ v ∷ others
+    → AreOf (layout_fields (map plain_member (drop i ms))) (values_of (map plain_value rem))
+    → q ≡ place_behind p (length (spelling (plain_member m).type (plain_value v) p))
+    → place_behind p (length (spellings (layout_fields (map plain_member (drop i ms))) (values_of (map plain_value rem)) p)) ≡ total
+    → AreOf (layout_fields (map plain_member (drop (i + 1) ms))) (values_of (map plain_value others)) × (q < 2 ^ 64) × (place_behind q (length (spellings (layout_fields (map plain_member (drop (i + 1) ms))) (values_of (map plain_value others)) q)) ≡ total)
+members_on ms i m v rem others p q total lt is split are next so_far =
+    let fields = layout_fields (map plain_member (drop (i + 1) ms)) in
+    let more = members_drop ms i m lt is in
+    let are' = subst (λ (fs : PlainFields). AreOf fs (values_of (map plain_value rem))) more are in
+    let are'' = subst (λ (vs : List Value). AreOf (field_and (plain_member m).name (plain_type m.ty) fields) (values_of (map plain_value vs))) split are' in
+    let so' = subst (λ (fs : PlainFields). place_behind p (length (spellings fs (values_of (map plain_value rem)) p)) ≡ total) more so_far in
+    let so'' = subst (λ (vs : List Value). place_behind p (length (spellings (field_and (plain_member m).name (plain_type m.ty) fields) (values_of (map plain_value vs)) p)) ≡ total) split so' in
+    (are''.1, omega (arith, next), one_on (spelling (plain_type m.ty) (plain_value v)) (spellings fields (values_of (map plain_value others))) p q total next so'')

@@ -1,0 +1,9 @@
+pub mod Sizes
+pub mod Octets
+pub mod Loop
+pub mod Laws
+pub mod Ones
+pub mod Texts
+pub mod Types
+pub mod Records
+pub mod Ends

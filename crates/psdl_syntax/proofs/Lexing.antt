@@ -13,7 +13,7 @@ use Rattle.psdl_syntax.specs.Places.{place_of}
 use Rattle.psdl_syntax.specs.Lexis.{Lexed, lexeme, size_of, before, lexed_behind, lexed}
 
 -- the bytes of a lexeme that began in front
-lexed-inside : (n : ℕ) (front xs : List ℕ) → lexed_behind n front xs ≡ lexed_behind 0 (front ++ take n xs) (drop n xs)
+pub lexed-inside : (n : ℕ) (front xs : List ℕ) → lexed_behind n front xs ≡ lexed_behind 0 (front ++ take n xs) (drop n xs)
 lexed-inside zero front xs = ap (λ f. lexed_behind 0 f xs) (sym (append-nil front))
 lexed-inside (suc n) front [] = refl
 lexed-inside (suc n) front (b ∷ bs) =

@@ -8,3 +8,16 @@ pub mod Numerals
 pub mod Characters
 pub mod Comments
 pub mod Lexis
+pub mod Codes
+pub mod Seen
+pub mod Trees
+pub mod Grammar
+pub mod Views
+pub mod Productions
+pub mod Depth
+pub mod Answers
+pub mod Canonical
+pub mod Printing
+pub mod Syntax
+pub mod Moved
+pub mod Again

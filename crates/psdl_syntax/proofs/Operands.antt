@@ -1,0 +1,46 @@
+-- An operand behind its operator, as functions read it.
+use Rattle.std.proofs.Common.{◌≡◌, ℕ, ◌-◌, ◌<◌, List, Option, Result, Ok, Err, refl, ap, sym, ◌∙◌}
+use Rattle.psdl_syntax.specs.declared.token.Mark.TheVariants as marks
+use Rattle.psdl_syntax.specs.Trees.{Expression}
+use Rattle.psdl_syntax.proofs.Depths.{inside_is}
+use Rattle.pss_base.specs.declared.place.Place.{Place}
+use Rattle.part_readers.specs.declared.refusal.Refusal.{Refusal}
+use Rattle.part_readers.specs.Reading.{Fails, both}
+use Rattle.part_readers.proofs.Loops.{first_fails, second_fails, both_gives, mapped_fails, mapped_gives}
+use Rattle.psdl_syntax.specs.declared.fault.Fault.{Fault}
+use Rattle.psdl_syntax.specs.declared.token.Mark.{Mark}
+use Rattle.psdl_syntax.specs.Seen.{Seen}
+use Rattle.psdl_syntax.specs.Productions.{Reads, place_at, sign_at, place_part, opened, operator_at, operand_at, operator_operand_at, group_with, expression_inside, expression_at}
+
+pub sign_fails : {A : Type 0} (refusal : Refusal Fault) (m : Mark) (operand : Reads A) (toks : List Seen) → Fails refusal (place_at m toks) → Fails refusal (operand_at m operand toks)
+unfolding operand_at
+sign_fails refusal m operand toks h = first_fails refusal (place_at m) operand toks h
+
+pub operand_fails : {A : Type 0} (refusal : Refusal Fault) (m : Mark) (operand : Reads A) (toks mid : List Seen) (p : Place) → place_at m toks ≡ Ok (p, mid) → Fails refusal (operand mid) → Fails refusal (operand_at m operand toks)
+unfolding operand_at
+operand_fails refusal m operand toks mid p g h = second_fails refusal (place_at m) operand toks p mid g h
+
+pub operand_gives : {A : Type 0} (m : Mark) (operand : Reads A) (toks mid rest : List Seen) (p : Place) (x : A) → place_at m toks ≡ Ok (p, mid) → operand mid ≡ Ok (x, rest) → operand_at m operand toks ≡ Ok ((p, x), rest)
+unfolding operand_at
+operand_gives m operand toks mid rest p x g h = both_gives (place_at m) operand toks p mid x rest g h
+
+abbrev flat : {O A : Type 0} → (Place × O) × A → Place × O × A
+flat p = (p.0.0, p.0.1, p.1)
+
+pub operator_fails : {O A : Type 0} (refusal : Refusal Fault) (of_mark : Mark → Option O) (operand : Reads A) (toks : List Seen) → Fails refusal (operator_at of_mark toks) → Fails refusal (operator_operand_at of_mark operand toks)
+unfolding operator_operand_at
+operator_fails refusal of_mark operand toks h = mapped_fails refusal flat (both (operator_at of_mark) operand) toks (first_fails refusal (operator_at of_mark) operand toks h)
+
+pub behind_operator_fails : {O A : Type 0} (refusal : Refusal Fault) (of_mark : Mark → Option O) (operand : Reads A) (toks mid : List Seen) (p : Place × O) → operator_at of_mark toks ≡ Ok (p, mid) → Fails refusal (operand mid) → Fails refusal (operator_operand_at of_mark operand toks)
+unfolding operator_operand_at
+behind_operator_fails refusal of_mark operand toks mid p g h = mapped_fails refusal flat (both (operator_at of_mark) operand) toks (second_fails refusal (operator_at of_mark) operand toks p mid g h)
+
+pub operator_gives : {O A : Type 0} (of_mark : Mark → Option O) (operand : Reads A) (toks mid rest : List Seen) (p : Place × O) (x : A) → operator_at of_mark toks ≡ Ok (p, mid) → operand mid ≡ Ok (x, rest) → operator_operand_at of_mark operand toks ≡ Ok ((p.0, p.1, x), rest)
+unfolding operator_operand_at
+operator_gives of_mark operand toks mid rest p x g h = mapped_gives flat (both (operator_at of_mark) operand) toks (p, x) rest (both_gives (operator_at of_mark) operand toks p mid x rest g h)
+
+pub group_gives : (d : ℕ) (toks mid end rest : List Seen) (p : Place) (x : Expression) → 0 < d → opened (place_part marks.LeftParen) d toks ≡ Ok (p, mid) → expression_at (d - 1) mid ≡ Ok (x, end) → sign_at marks.RightParen end ≡ Ok (tt, rest) → group_with (expression_inside d) d toks ≡ Ok ((p, x), rest)
+unfolding group_with
+group_gives d toks mid end rest p x lt open_read inner close =
+    let e : expression_inside d mid ≡ Ok (x, end) = ap (λ (r : Reads Expression). r mid) (sym (inside_is d lt)) ∙ inner in
+    rw (open_read, e, close) refl

@@ -1,0 +1,49 @@
+-- A part that was put together, seen as a tree.
+use Rattle.std.proofs.Common.{◌≡◌, ◌∙◌, sym, ap, map, Box, Vec, Global}
+use Rattle.psdl_syntax.specs.declared.tree.names.Identifier.{Identifier}
+use Rattle.psdl_syntax.specs.declared.tree.definitions.Definition.{Definition as DefinitionNode}
+use Rattle.psdl_syntax.specs.declared.tree.definitions.Definition.TheViews.{Module, roll-Module}
+use Rattle.psdl_syntax.specs.declared.tree.definitions.Definition.TheVariants.{rolls-Module}
+use Rattle.psdl_syntax.specs.declared.tree.definitions.Definition.TheOpen as open_definition
+use Rattle.psdl_syntax.specs.declared.tree.definitions.Definition.TheFolds.{fold-roll-Definition, fold-roll-Module}
+use Rattle.psdl_syntax.specs.declared.tree.expressions.Expression.{Expression as ExpressionNode}
+use Rattle.pss_base.specs.declared.place.Place.{Place}
+use Rattle.psdl_syntax.specs.declared.tree.expressions.ShiftOperator.{ShiftOperator}
+use Rattle.psdl_syntax.specs.declared.tree.expressions.SumOperator.{SumOperator}
+use Rattle.psdl_syntax.specs.declared.tree.expressions.ProductOperator.{ProductOperator}
+use Rattle.psdl_syntax.specs.declared.tree.expressions.Xor.{Xor as XorNode}
+use Rattle.psdl_syntax.specs.declared.tree.expressions.And.{And as AndNode}
+use Rattle.psdl_syntax.specs.declared.tree.expressions.Shift.{Shift as ShiftNode}
+use Rattle.psdl_syntax.specs.declared.tree.expressions.Sum.{Sum as SumNode}
+use Rattle.psdl_syntax.specs.declared.tree.expressions.Product.{Product as ProductNode}
+use Rattle.psdl_syntax.specs.declared.tree.expressions.Unary.{Unary as UnaryNode}
+use Rattle.psdl_syntax.specs.declared.tree.expressions.Primary.TheViews.{roll-OrPart, roll-XorPart, roll-AndPart, roll-ShiftPart, roll-SumPart, roll-ProductPart, roll-Group}
+use Rattle.psdl_syntax.specs.declared.tree.expressions.Primary.TheFolds.{fold-roll-OrPart, fold-roll-XorPart, fold-roll-AndPart, fold-roll-ShiftPart, fold-roll-SumPart, fold-roll-ProductPart, fold-roll-Group}
+use Rattle.psdl_syntax.specs.Trees.{Definition, ModuleDefinition, Primary, And, Expression, Product, Shift, Sum, Unary, Xor}
+use Rattle.psdl_syntax.specs.Views.{primary_step, and_step, and_part_step, expression_step, group_step, or_part_step, product_step, product_part_step, shift_step, shift_part_step, sum_step, sum_part_step, unary_step, xor_step, xor_part_step, or_part_view, xor_part_view, and_part_view, shift_part_view, sum_part_view, product_part_view, xor_view, and_view, shift_view, sum_view, product_view, unary_view, group_view, expression_view, definition_view, definition_step, module_step, definitions_of}
+
+pub or_part_rolled : (place : Place) (operand : XorNode) → or_part_view (roll-OrPart (record { place = place; operand = operand })) ≡ (place, xor_view operand)
+or_part_rolled place operand = fold-roll-OrPart Primary And (Place × Shift) Expression (Place × Expression) (Place × Xor) Product (Place × ProductOperator × Unary) Shift (Place × ShiftOperator × Sum) Sum (Place × SumOperator × Product) Unary Xor (Place × And) primary_step and_step and_part_step expression_step group_step or_part_step product_step product_part_step shift_step shift_part_step sum_step sum_part_step unary_step xor_step xor_part_step (record { place = place; operand = operand })
+
+pub xor_part_rolled : (place : Place) (operand : AndNode) → xor_part_view (roll-XorPart (record { place = place; operand = operand })) ≡ (place, and_view operand)
+xor_part_rolled place operand = fold-roll-XorPart Primary And (Place × Shift) Expression (Place × Expression) (Place × Xor) Product (Place × ProductOperator × Unary) Shift (Place × ShiftOperator × Sum) Sum (Place × SumOperator × Product) Unary Xor (Place × And) primary_step and_step and_part_step expression_step group_step or_part_step product_step product_part_step shift_step shift_part_step sum_step sum_part_step unary_step xor_step xor_part_step (record { place = place; operand = operand })
+
+pub and_part_rolled : (place : Place) (operand : ShiftNode) → and_part_view (roll-AndPart (record { place = place; operand = operand })) ≡ (place, shift_view operand)
+and_part_rolled place operand = fold-roll-AndPart Primary And (Place × Shift) Expression (Place × Expression) (Place × Xor) Product (Place × ProductOperator × Unary) Shift (Place × ShiftOperator × Sum) Sum (Place × SumOperator × Product) Unary Xor (Place × And) primary_step and_step and_part_step expression_step group_step or_part_step product_step product_part_step shift_step shift_part_step sum_step sum_part_step unary_step xor_step xor_part_step (record { place = place; operand = operand })
+
+pub shift_part_rolled : (place : Place) (operator : ShiftOperator) (operand : SumNode) → shift_part_view (roll-ShiftPart (record { place = place; operator = operator; operand = operand })) ≡ (place, operator, sum_view operand)
+shift_part_rolled place operator operand = fold-roll-ShiftPart Primary And (Place × Shift) Expression (Place × Expression) (Place × Xor) Product (Place × ProductOperator × Unary) Shift (Place × ShiftOperator × Sum) Sum (Place × SumOperator × Product) Unary Xor (Place × And) primary_step and_step and_part_step expression_step group_step or_part_step product_step product_part_step shift_step shift_part_step sum_step sum_part_step unary_step xor_step xor_part_step (record { place = place; operator = operator; operand = operand })
+
+pub sum_part_rolled : (place : Place) (operator : SumOperator) (operand : ProductNode) → sum_part_view (roll-SumPart (record { place = place; operator = operator; operand = operand })) ≡ (place, operator, product_view operand)
+sum_part_rolled place operator operand = fold-roll-SumPart Primary And (Place × Shift) Expression (Place × Expression) (Place × Xor) Product (Place × ProductOperator × Unary) Shift (Place × ShiftOperator × Sum) Sum (Place × SumOperator × Product) Unary Xor (Place × And) primary_step and_step and_part_step expression_step group_step or_part_step product_step product_part_step shift_step shift_part_step sum_step sum_part_step unary_step xor_step xor_part_step (record { place = place; operator = operator; operand = operand })
+
+pub product_part_rolled : (place : Place) (operator : ProductOperator) (operand : UnaryNode) → product_part_view (roll-ProductPart (record { place = place; operator = operator; operand = operand })) ≡ (place, operator, unary_view operand)
+product_part_rolled place operator operand = fold-roll-ProductPart Primary And (Place × Shift) Expression (Place × Expression) (Place × Xor) Product (Place × ProductOperator × Unary) Shift (Place × ShiftOperator × Sum) Sum (Place × SumOperator × Product) Unary Xor (Place × And) primary_step and_step and_part_step expression_step group_step or_part_step product_step product_part_step shift_step shift_part_step sum_step sum_part_step unary_step xor_step xor_part_step (record { place = place; operator = operator; operand = operand })
+
+pub group_rolled : (place : Place) (inner : Box ExpressionNode Global) → group_view (roll-Group (record { place = place; inner = inner })) ≡ (place, expression_view inner.value)
+group_rolled place inner = fold-roll-Group Primary And (Place × Shift) Expression (Place × Expression) (Place × Xor) Product (Place × ProductOperator × Unary) Shift (Place × ShiftOperator × Sum) Sum (Place × SumOperator × Product) Unary Xor (Place × And) primary_step and_step and_part_step expression_step group_step or_part_step product_step product_part_step shift_step shift_part_step sum_step sum_part_step unary_step xor_step xor_part_step (record { place = place; inner = inner })
+
+pub module_rolled : (name : Identifier) (definitions : Vec DefinitionNode Global) → definition_view (Module (roll-Module (record { name = name; definitions = definitions }))) ≡ ModuleDefinition name (definitions_of (map definition_view definitions.items))
+module_rolled name definitions =
+    let m = roll-Module (record { name = name; definitions = definitions }) in
+    ap definition_view (sym (rolls-Module m)) ∙ fold-roll-Definition Definition Definition definition_step module_step (open_definition.Module m) ∙ fold-roll-Module Definition Definition definition_step module_step (record { name = name; definitions = definitions })

@@ -1,0 +1,137 @@
+use Rattle.std.proofs.Common.{rules, ◌≡◌, length, map, sym, ◌∙◌, ◌++◌, ◌∷◌, [], true, false}
+use Rattle.std.proofs.lemmas.Result.{err_from_is_err_and}
+use Rattle.std.proofs.lemmas.List.{map_push}
+use Rattle.part_readers.specs.Reading.{starts, many}
+use Rattle.part_readers.proofs.Loops.{pushed_on, stops, no_more, is_done}
+use Rattle.psdl_syntax.specs.declared.token.Mark.TheVariants as marks
+use Rattle.psdl_syntax.specs.Seen.{seen}
+use Rattle.psdl_syntax.specs.Views.{product_part_view, sum_part_view, shift_part_view, and_part_view, xor_part_view, or_part_view, unary_view, product_view, sum_view, shift_view, and_view, xor_view, expression_view}
+use Rattle.psdl_syntax.specs.Productions.{is_mark, is_operator, shift_operator, sum_operator, product_operator, place_at, operator_at, operand_at, operator_operand_at, unary_with, product_with, sum_with, shift_with, and_with, xor_with, expression_inside, group_with}
+use Rattle.psdl_syntax.proofs.Rolled.{or_part_rolled, xor_part_rolled, and_part_rolled, shift_part_rolled, sum_part_rolled, product_part_rolled, group_rolled}
+use Rattle.psdl_syntax.proofs.Operands.{sign_fails, operand_fails, operand_gives, operator_fails, behind_operator_fails, operator_gives, group_gives}
+use Rattle.psdl_syntax.proofs.read.expressions.+expressions.Goals as goal
+
+pub or_parts_of-returns-then-not-at_mark : goal.or_parts_of-returns-then-not-at_mark
+or_parts_of-returns-then-not-at_mark t c = no_more (is_mark marks.Or) (operand_at marks.Or (xor_with (expression_inside c.args.depth) c.args.depth)) (map or_part_view c.loop.parts.items) (length c.args.tokens.now) c.loop.counter (map seen c.loop.rest.now) (many (is_mark marks.Or) (operand_at marks.Or (xor_with (expression_inside c.args.depth) c.args.depth)) (map seen c.args.tokens.now)) (search rules) c.loop.invariant
+
+pub or_parts_of-returns : goal.or_parts_of-returns
+or_parts_of-returns t c = is_done (is_mark marks.Or) (operand_at marks.Or (xor_with (expression_inside c.args.depth) c.args.depth)) (map or_part_view c.loop.parts.items) (length c.args.tokens.now) c.loop.counter (map seen c.loop.rest.now) (many (is_mark marks.Or) (operand_at marks.Or (xor_with (expression_inside c.args.depth) c.args.depth)) (map seen c.args.tokens.now)) c.loop-test.false c.loop.invariant
+
+pub or_parts_of-returns-in_err-place : goal.or_parts_of-returns-in_err-place
+or_parts_of-returns-in_err-place t c =
+    let p = err_from_is_err_and c.from_residual.result c.from_residual.ensures.1 in
+    rw (p.1, p.2) (stops c.in_err-place.field-0.0 (is_mark marks.Or) (operand_at marks.Or (xor_with (expression_inside c.args.depth) c.args.depth)) (map or_part_view c.loop.parts.items) (length c.args.tokens.now) c.loop.counter (map seen c.loop.rest.now) (many (is_mark marks.Or) (operand_at marks.Or (xor_with (expression_inside c.args.depth) c.args.depth)) (map seen c.args.tokens.now)) c.loop-test.true (search rules) (sign_fails c.in_err-place.field-0.0 marks.Or (xor_with (expression_inside c.args.depth) c.args.depth) (map seen c.loop.rest.now) c.in_err-place.ensures) c.loop.invariant)
+
+pub or_parts_of-returns-in_err-operand : goal.or_parts_of-returns-in_err-operand
+or_parts_of-returns-in_err-operand t c =
+    let p = err_from_is_err_and c.from_residual-in_err-operand.result c.from_residual-in_err-operand.ensures.1 in
+    rw (p.1, p.2) (stops c.in_err-operand.field-0.0 (is_mark marks.Or) (operand_at marks.Or (xor_with (expression_inside c.args.depth) c.args.depth)) (map or_part_view c.loop.parts.items) (length c.args.tokens.now) c.loop.counter (map seen c.loop.rest.now) (many (is_mark marks.Or) (operand_at marks.Or (xor_with (expression_inside c.args.depth) c.args.depth)) (map seen c.args.tokens.now)) c.loop-test.true (search rules) (operand_fails c.in_err-operand.field-0.0 marks.Or (xor_with (expression_inside c.args.depth) c.args.depth) (map seen c.loop.rest.now) (map seen c.in_ok-place.after.now) c.in_ok-place.place c.in_ok-place.ensures c.in_err-operand.ensures) c.loop.invariant)
+
+pub or_parts_of-loop-preserved : goal.or_parts_of-loop-preserved
+or_parts_of-loop-preserved t c =
+    pushed_on or_part_view (is_mark marks.Or) (operand_at marks.Or (xor_with (expression_inside c.args.depth) c.args.depth)) _ _ _ (length c.args.tokens.now) c.loop.counter (map seen c.loop.rest.now) (c.in_ok-place.place, xor_view c.in_ok-operand.operand) (map seen c.in_ok-operand.after.now) (many (is_mark marks.Or) (operand_at marks.Or (xor_with (expression_inside c.args.depth) c.args.depth)) (map seen c.args.tokens.now)) c.in_ok-push.ensures.items (or_part_rolled c.in_ok-place.place c.in_ok-operand.operand) c.loop-test.true (search rules) (operand_gives marks.Or (xor_with (expression_inside c.args.depth) c.args.depth) (map seen c.loop.rest.now) (map seen c.in_ok-place.after.now) (map seen c.in_ok-operand.after.now) c.in_ok-place.place (xor_view c.in_ok-operand.operand) c.in_ok-place.ensures c.in_ok-operand.ensures) c.loop.invariant
+
+pub xor_parts_of-returns-then-not-at_mark : goal.xor_parts_of-returns-then-not-at_mark
+xor_parts_of-returns-then-not-at_mark t c = no_more (is_mark marks.Xor) (operand_at marks.Xor (and_with (expression_inside c.args.depth) c.args.depth)) (map xor_part_view c.loop.parts.items) (length c.args.tokens.now) c.loop.counter (map seen c.loop.rest.now) (many (is_mark marks.Xor) (operand_at marks.Xor (and_with (expression_inside c.args.depth) c.args.depth)) (map seen c.args.tokens.now)) (search rules) c.loop.invariant
+
+pub xor_parts_of-returns : goal.xor_parts_of-returns
+xor_parts_of-returns t c = is_done (is_mark marks.Xor) (operand_at marks.Xor (and_with (expression_inside c.args.depth) c.args.depth)) (map xor_part_view c.loop.parts.items) (length c.args.tokens.now) c.loop.counter (map seen c.loop.rest.now) (many (is_mark marks.Xor) (operand_at marks.Xor (and_with (expression_inside c.args.depth) c.args.depth)) (map seen c.args.tokens.now)) c.loop-test.false c.loop.invariant
+
+pub xor_parts_of-returns-in_err-place : goal.xor_parts_of-returns-in_err-place
+xor_parts_of-returns-in_err-place t c =
+    let p = err_from_is_err_and c.from_residual.result c.from_residual.ensures.1 in
+    rw (p.1, p.2) (stops c.in_err-place.field-0.0 (is_mark marks.Xor) (operand_at marks.Xor (and_with (expression_inside c.args.depth) c.args.depth)) (map xor_part_view c.loop.parts.items) (length c.args.tokens.now) c.loop.counter (map seen c.loop.rest.now) (many (is_mark marks.Xor) (operand_at marks.Xor (and_with (expression_inside c.args.depth) c.args.depth)) (map seen c.args.tokens.now)) c.loop-test.true (search rules) (sign_fails c.in_err-place.field-0.0 marks.Xor (and_with (expression_inside c.args.depth) c.args.depth) (map seen c.loop.rest.now) c.in_err-place.ensures) c.loop.invariant)
+
+pub xor_parts_of-returns-in_err-operand : goal.xor_parts_of-returns-in_err-operand
+xor_parts_of-returns-in_err-operand t c =
+    let p = err_from_is_err_and c.from_residual-in_err-operand.result c.from_residual-in_err-operand.ensures.1 in
+    rw (p.1, p.2) (stops c.in_err-operand.field-0.0 (is_mark marks.Xor) (operand_at marks.Xor (and_with (expression_inside c.args.depth) c.args.depth)) (map xor_part_view c.loop.parts.items) (length c.args.tokens.now) c.loop.counter (map seen c.loop.rest.now) (many (is_mark marks.Xor) (operand_at marks.Xor (and_with (expression_inside c.args.depth) c.args.depth)) (map seen c.args.tokens.now)) c.loop-test.true (search rules) (operand_fails c.in_err-operand.field-0.0 marks.Xor (and_with (expression_inside c.args.depth) c.args.depth) (map seen c.loop.rest.now) (map seen c.in_ok-place.after.now) c.in_ok-place.place c.in_ok-place.ensures c.in_err-operand.ensures) c.loop.invariant)
+
+pub xor_parts_of-loop-preserved : goal.xor_parts_of-loop-preserved
+xor_parts_of-loop-preserved t c =
+    pushed_on xor_part_view (is_mark marks.Xor) (operand_at marks.Xor (and_with (expression_inside c.args.depth) c.args.depth)) _ _ _ (length c.args.tokens.now) c.loop.counter (map seen c.loop.rest.now) (c.in_ok-place.place, and_view c.in_ok-operand.operand) (map seen c.in_ok-operand.after.now) (many (is_mark marks.Xor) (operand_at marks.Xor (and_with (expression_inside c.args.depth) c.args.depth)) (map seen c.args.tokens.now)) c.in_ok-push.ensures.items (xor_part_rolled c.in_ok-place.place c.in_ok-operand.operand) c.loop-test.true (search rules) (operand_gives marks.Xor (and_with (expression_inside c.args.depth) c.args.depth) (map seen c.loop.rest.now) (map seen c.in_ok-place.after.now) (map seen c.in_ok-operand.after.now) c.in_ok-place.place (and_view c.in_ok-operand.operand) c.in_ok-place.ensures c.in_ok-operand.ensures) c.loop.invariant
+
+pub and_parts_of-returns-then-not-at_mark : goal.and_parts_of-returns-then-not-at_mark
+and_parts_of-returns-then-not-at_mark t c = no_more (is_mark marks.And) (operand_at marks.And (shift_with (expression_inside c.args.depth) c.args.depth)) (map and_part_view c.loop.parts.items) (length c.args.tokens.now) c.loop.counter (map seen c.loop.rest.now) (many (is_mark marks.And) (operand_at marks.And (shift_with (expression_inside c.args.depth) c.args.depth)) (map seen c.args.tokens.now)) (search rules) c.loop.invariant
+
+pub and_parts_of-returns : goal.and_parts_of-returns
+and_parts_of-returns t c = is_done (is_mark marks.And) (operand_at marks.And (shift_with (expression_inside c.args.depth) c.args.depth)) (map and_part_view c.loop.parts.items) (length c.args.tokens.now) c.loop.counter (map seen c.loop.rest.now) (many (is_mark marks.And) (operand_at marks.And (shift_with (expression_inside c.args.depth) c.args.depth)) (map seen c.args.tokens.now)) c.loop-test.false c.loop.invariant
+
+pub and_parts_of-returns-in_err-place : goal.and_parts_of-returns-in_err-place
+and_parts_of-returns-in_err-place t c =
+    let p = err_from_is_err_and c.from_residual.result c.from_residual.ensures.1 in
+    rw (p.1, p.2) (stops c.in_err-place.field-0.0 (is_mark marks.And) (operand_at marks.And (shift_with (expression_inside c.args.depth) c.args.depth)) (map and_part_view c.loop.parts.items) (length c.args.tokens.now) c.loop.counter (map seen c.loop.rest.now) (many (is_mark marks.And) (operand_at marks.And (shift_with (expression_inside c.args.depth) c.args.depth)) (map seen c.args.tokens.now)) c.loop-test.true (search rules) (sign_fails c.in_err-place.field-0.0 marks.And (shift_with (expression_inside c.args.depth) c.args.depth) (map seen c.loop.rest.now) c.in_err-place.ensures) c.loop.invariant)
+
+pub and_parts_of-returns-in_err-operand : goal.and_parts_of-returns-in_err-operand
+and_parts_of-returns-in_err-operand t c =
+    let p = err_from_is_err_and c.from_residual-in_err-operand.result c.from_residual-in_err-operand.ensures.1 in
+    rw (p.1, p.2) (stops c.in_err-operand.field-0.0 (is_mark marks.And) (operand_at marks.And (shift_with (expression_inside c.args.depth) c.args.depth)) (map and_part_view c.loop.parts.items) (length c.args.tokens.now) c.loop.counter (map seen c.loop.rest.now) (many (is_mark marks.And) (operand_at marks.And (shift_with (expression_inside c.args.depth) c.args.depth)) (map seen c.args.tokens.now)) c.loop-test.true (search rules) (operand_fails c.in_err-operand.field-0.0 marks.And (shift_with (expression_inside c.args.depth) c.args.depth) (map seen c.loop.rest.now) (map seen c.in_ok-place.after.now) c.in_ok-place.place c.in_ok-place.ensures c.in_err-operand.ensures) c.loop.invariant)
+
+pub and_parts_of-loop-preserved : goal.and_parts_of-loop-preserved
+and_parts_of-loop-preserved t c =
+    pushed_on and_part_view (is_mark marks.And) (operand_at marks.And (shift_with (expression_inside c.args.depth) c.args.depth)) _ _ _ (length c.args.tokens.now) c.loop.counter (map seen c.loop.rest.now) (c.in_ok-place.place, shift_view c.in_ok-operand.operand) (map seen c.in_ok-operand.after.now) (many (is_mark marks.And) (operand_at marks.And (shift_with (expression_inside c.args.depth) c.args.depth)) (map seen c.args.tokens.now)) c.in_ok-push.ensures.items (and_part_rolled c.in_ok-place.place c.in_ok-operand.operand) c.loop-test.true (search rules) (operand_gives marks.And (shift_with (expression_inside c.args.depth) c.args.depth) (map seen c.loop.rest.now) (map seen c.in_ok-place.after.now) (map seen c.in_ok-operand.after.now) c.in_ok-place.place (shift_view c.in_ok-operand.operand) c.in_ok-place.ensures c.in_ok-operand.ensures) c.loop.invariant
+
+pub shift_parts_of-returns-then-not-at_shift : goal.shift_parts_of-returns-then-not-at_shift
+shift_parts_of-returns-then-not-at_shift t c = no_more (is_operator shift_operator) (operator_operand_at shift_operator (sum_with (expression_inside c.args.depth) c.args.depth)) (map shift_part_view c.loop.parts.items) (length c.args.tokens.now) c.loop.counter (map seen c.loop.rest.now) (many (is_operator shift_operator) (operator_operand_at shift_operator (sum_with (expression_inside c.args.depth) c.args.depth)) (map seen c.args.tokens.now)) (search rules) c.loop.invariant
+
+pub shift_parts_of-returns : goal.shift_parts_of-returns
+shift_parts_of-returns t c = is_done (is_operator shift_operator) (operator_operand_at shift_operator (sum_with (expression_inside c.args.depth) c.args.depth)) (map shift_part_view c.loop.parts.items) (length c.args.tokens.now) c.loop.counter (map seen c.loop.rest.now) (many (is_operator shift_operator) (operator_operand_at shift_operator (sum_with (expression_inside c.args.depth) c.args.depth)) (map seen c.args.tokens.now)) c.loop-test.false c.loop.invariant
+
+pub shift_parts_of-returns-in_err-place : goal.shift_parts_of-returns-in_err-place
+shift_parts_of-returns-in_err-place t c =
+    let p = err_from_is_err_and c.from_residual.result c.from_residual.ensures.1 in
+    rw (p.1, p.2) (stops c.in_err-place.field-0.0 (is_operator shift_operator) (operator_operand_at shift_operator (sum_with (expression_inside c.args.depth) c.args.depth)) (map shift_part_view c.loop.parts.items) (length c.args.tokens.now) c.loop.counter (map seen c.loop.rest.now) (many (is_operator shift_operator) (operator_operand_at shift_operator (sum_with (expression_inside c.args.depth) c.args.depth)) (map seen c.args.tokens.now)) c.loop-test.true (search rules) (operator_fails c.in_err-place.field-0.0 shift_operator (sum_with (expression_inside c.args.depth) c.args.depth) (map seen c.loop.rest.now) c.in_err-place.ensures) c.loop.invariant)
+
+pub shift_parts_of-returns-in_err-operand : goal.shift_parts_of-returns-in_err-operand
+shift_parts_of-returns-in_err-operand t c =
+    let p = err_from_is_err_and c.from_residual-in_err-operand.result c.from_residual-in_err-operand.ensures.1 in
+    rw (p.1, p.2) (stops c.in_err-operand.field-0.0 (is_operator shift_operator) (operator_operand_at shift_operator (sum_with (expression_inside c.args.depth) c.args.depth)) (map shift_part_view c.loop.parts.items) (length c.args.tokens.now) c.loop.counter (map seen c.loop.rest.now) (many (is_operator shift_operator) (operator_operand_at shift_operator (sum_with (expression_inside c.args.depth) c.args.depth)) (map seen c.args.tokens.now)) c.loop-test.true (search rules) (behind_operator_fails c.in_err-operand.field-0.0 shift_operator (sum_with (expression_inside c.args.depth) c.args.depth) (map seen c.loop.rest.now) (map seen c.in_ok-place.after.now) (c.in_ok-place.place, c.in_ok-place.operator) c.in_ok-place.ensures c.in_err-operand.ensures) c.loop.invariant)
+
+pub shift_parts_of-loop-preserved : goal.shift_parts_of-loop-preserved
+shift_parts_of-loop-preserved t c =
+    pushed_on shift_part_view (is_operator shift_operator) (operator_operand_at shift_operator (sum_with (expression_inside c.args.depth) c.args.depth)) _ _ _ (length c.args.tokens.now) c.loop.counter (map seen c.loop.rest.now) (c.in_ok-place.place, c.in_ok-place.operator, sum_view c.in_ok-operand.operand) (map seen c.in_ok-operand.after.now) (many (is_operator shift_operator) (operator_operand_at shift_operator (sum_with (expression_inside c.args.depth) c.args.depth)) (map seen c.args.tokens.now)) c.in_ok-push.ensures.items (shift_part_rolled c.in_ok-place.place c.in_ok-place.operator c.in_ok-operand.operand) c.loop-test.true (search rules) (operator_gives shift_operator (sum_with (expression_inside c.args.depth) c.args.depth) (map seen c.loop.rest.now) (map seen c.in_ok-place.after.now) (map seen c.in_ok-operand.after.now) (c.in_ok-place.place, c.in_ok-place.operator) (sum_view c.in_ok-operand.operand) c.in_ok-place.ensures c.in_ok-operand.ensures) c.loop.invariant
+
+pub sum_parts_of-returns-then-not-at_sum : goal.sum_parts_of-returns-then-not-at_sum
+sum_parts_of-returns-then-not-at_sum t c = no_more (is_operator sum_operator) (operator_operand_at sum_operator (product_with (expression_inside c.args.depth) c.args.depth)) (map sum_part_view c.loop.parts.items) (length c.args.tokens.now) c.loop.counter (map seen c.loop.rest.now) (many (is_operator sum_operator) (operator_operand_at sum_operator (product_with (expression_inside c.args.depth) c.args.depth)) (map seen c.args.tokens.now)) (search rules) c.loop.invariant
+
+pub sum_parts_of-returns : goal.sum_parts_of-returns
+sum_parts_of-returns t c = is_done (is_operator sum_operator) (operator_operand_at sum_operator (product_with (expression_inside c.args.depth) c.args.depth)) (map sum_part_view c.loop.parts.items) (length c.args.tokens.now) c.loop.counter (map seen c.loop.rest.now) (many (is_operator sum_operator) (operator_operand_at sum_operator (product_with (expression_inside c.args.depth) c.args.depth)) (map seen c.args.tokens.now)) c.loop-test.false c.loop.invariant
+
+pub sum_parts_of-returns-in_err-place : goal.sum_parts_of-returns-in_err-place
+sum_parts_of-returns-in_err-place t c =
+    let p = err_from_is_err_and c.from_residual.result c.from_residual.ensures.1 in
+    rw (p.1, p.2) (stops c.in_err-place.field-0.0 (is_operator sum_operator) (operator_operand_at sum_operator (product_with (expression_inside c.args.depth) c.args.depth)) (map sum_part_view c.loop.parts.items) (length c.args.tokens.now) c.loop.counter (map seen c.loop.rest.now) (many (is_operator sum_operator) (operator_operand_at sum_operator (product_with (expression_inside c.args.depth) c.args.depth)) (map seen c.args.tokens.now)) c.loop-test.true (search rules) (operator_fails c.in_err-place.field-0.0 sum_operator (product_with (expression_inside c.args.depth) c.args.depth) (map seen c.loop.rest.now) c.in_err-place.ensures) c.loop.invariant)
+
+pub sum_parts_of-returns-in_err-operand : goal.sum_parts_of-returns-in_err-operand
+sum_parts_of-returns-in_err-operand t c =
+    let p = err_from_is_err_and c.from_residual-in_err-operand.result c.from_residual-in_err-operand.ensures.1 in
+    rw (p.1, p.2) (stops c.in_err-operand.field-0.0 (is_operator sum_operator) (operator_operand_at sum_operator (product_with (expression_inside c.args.depth) c.args.depth)) (map sum_part_view c.loop.parts.items) (length c.args.tokens.now) c.loop.counter (map seen c.loop.rest.now) (many (is_operator sum_operator) (operator_operand_at sum_operator (product_with (expression_inside c.args.depth) c.args.depth)) (map seen c.args.tokens.now)) c.loop-test.true (search rules) (behind_operator_fails c.in_err-operand.field-0.0 sum_operator (product_with (expression_inside c.args.depth) c.args.depth) (map seen c.loop.rest.now) (map seen c.in_ok-place.after.now) (c.in_ok-place.place, c.in_ok-place.operator) c.in_ok-place.ensures c.in_err-operand.ensures) c.loop.invariant)
+
+pub sum_parts_of-loop-preserved : goal.sum_parts_of-loop-preserved
+sum_parts_of-loop-preserved t c =
+    pushed_on sum_part_view (is_operator sum_operator) (operator_operand_at sum_operator (product_with (expression_inside c.args.depth) c.args.depth)) _ _ _ (length c.args.tokens.now) c.loop.counter (map seen c.loop.rest.now) (c.in_ok-place.place, c.in_ok-place.operator, product_view c.in_ok-operand.operand) (map seen c.in_ok-operand.after.now) (many (is_operator sum_operator) (operator_operand_at sum_operator (product_with (expression_inside c.args.depth) c.args.depth)) (map seen c.args.tokens.now)) c.in_ok-push.ensures.items (sum_part_rolled c.in_ok-place.place c.in_ok-place.operator c.in_ok-operand.operand) c.loop-test.true (search rules) (operator_gives sum_operator (product_with (expression_inside c.args.depth) c.args.depth) (map seen c.loop.rest.now) (map seen c.in_ok-place.after.now) (map seen c.in_ok-operand.after.now) (c.in_ok-place.place, c.in_ok-place.operator) (product_view c.in_ok-operand.operand) c.in_ok-place.ensures c.in_ok-operand.ensures) c.loop.invariant
+
+pub product_parts_of-returns-then-not-at_product : goal.product_parts_of-returns-then-not-at_product
+product_parts_of-returns-then-not-at_product t c = no_more (is_operator product_operator) (operator_operand_at product_operator (unary_with (expression_inside c.args.depth) c.args.depth)) (map product_part_view c.loop.parts.items) (length c.args.tokens.now) c.loop.counter (map seen c.loop.rest.now) (many (is_operator product_operator) (operator_operand_at product_operator (unary_with (expression_inside c.args.depth) c.args.depth)) (map seen c.args.tokens.now)) (search rules) c.loop.invariant
+
+pub product_parts_of-returns : goal.product_parts_of-returns
+product_parts_of-returns t c = is_done (is_operator product_operator) (operator_operand_at product_operator (unary_with (expression_inside c.args.depth) c.args.depth)) (map product_part_view c.loop.parts.items) (length c.args.tokens.now) c.loop.counter (map seen c.loop.rest.now) (many (is_operator product_operator) (operator_operand_at product_operator (unary_with (expression_inside c.args.depth) c.args.depth)) (map seen c.args.tokens.now)) c.loop-test.false c.loop.invariant
+
+pub product_parts_of-returns-in_err-place : goal.product_parts_of-returns-in_err-place
+product_parts_of-returns-in_err-place t c =
+    let p = err_from_is_err_and c.from_residual.result c.from_residual.ensures.1 in
+    rw (p.1, p.2) (stops c.in_err-place.field-0.0 (is_operator product_operator) (operator_operand_at product_operator (unary_with (expression_inside c.args.depth) c.args.depth)) (map product_part_view c.loop.parts.items) (length c.args.tokens.now) c.loop.counter (map seen c.loop.rest.now) (many (is_operator product_operator) (operator_operand_at product_operator (unary_with (expression_inside c.args.depth) c.args.depth)) (map seen c.args.tokens.now)) c.loop-test.true (search rules) (operator_fails c.in_err-place.field-0.0 product_operator (unary_with (expression_inside c.args.depth) c.args.depth) (map seen c.loop.rest.now) c.in_err-place.ensures) c.loop.invariant)
+
+pub product_parts_of-returns-in_err-operand : goal.product_parts_of-returns-in_err-operand
+product_parts_of-returns-in_err-operand t c =
+    let p = err_from_is_err_and c.from_residual-in_err-operand.result c.from_residual-in_err-operand.ensures.1 in
+    rw (p.1, p.2) (stops c.in_err-operand.field-0.0 (is_operator product_operator) (operator_operand_at product_operator (unary_with (expression_inside c.args.depth) c.args.depth)) (map product_part_view c.loop.parts.items) (length c.args.tokens.now) c.loop.counter (map seen c.loop.rest.now) (many (is_operator product_operator) (operator_operand_at product_operator (unary_with (expression_inside c.args.depth) c.args.depth)) (map seen c.args.tokens.now)) c.loop-test.true (search rules) (behind_operator_fails c.in_err-operand.field-0.0 product_operator (unary_with (expression_inside c.args.depth) c.args.depth) (map seen c.loop.rest.now) (map seen c.in_ok-place.after.now) (c.in_ok-place.place, c.in_ok-place.operator) c.in_ok-place.ensures c.in_err-operand.ensures) c.loop.invariant)
+
+pub product_parts_of-loop-preserved : goal.product_parts_of-loop-preserved
+product_parts_of-loop-preserved t c =
+    pushed_on product_part_view (is_operator product_operator) (operator_operand_at product_operator (unary_with (expression_inside c.args.depth) c.args.depth)) _ _ _ (length c.args.tokens.now) c.loop.counter (map seen c.loop.rest.now) (c.in_ok-place.place, c.in_ok-place.operator, unary_view c.in_ok-operand.operand) (map seen c.in_ok-operand.after.now) (many (is_operator product_operator) (operator_operand_at product_operator (unary_with (expression_inside c.args.depth) c.args.depth)) (map seen c.args.tokens.now)) c.in_ok-push.ensures.items (product_part_rolled c.in_ok-place.place c.in_ok-place.operator c.in_ok-operand.operand) c.loop-test.true (search rules) (operator_gives product_operator (unary_with (expression_inside c.args.depth) c.args.depth) (map seen c.loop.rest.now) (map seen c.in_ok-place.after.now) (map seen c.in_ok-operand.after.now) (c.in_ok-place.place, c.in_ok-place.operator) (unary_view c.in_ok-operand.operand) c.in_ok-place.ensures c.in_ok-operand.ensures) c.loop.invariant
+
+pub group_of-returns : goal.group_of-returns
+group_of-returns t c =
+    rw (group_rolled c.in_ok-place.place c.in_ok-new.field-0, c.in_ok-new.ensures.ok)
+    (group_gives c.args.depth (map seen c.args.tokens.now) (map seen c.in_ok-place.rest.now) (map seen c.in_ok-inner.rest.now) (map seen c.in_ok-rest.rest.now) c.in_ok-place.place (expression_view c.in_ok-inner.inner) c.in_ok-place.ensures.room c.in_ok-place.ensures.read c.in_ok-inner.ensures c.in_ok-rest.ensures)

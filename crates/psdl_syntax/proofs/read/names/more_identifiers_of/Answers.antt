@@ -1,0 +1,22 @@
+use Rattle.std.proofs.Common.{rules, ◌≡◌, length, map, refl}
+use Rattle.std.proofs.lemmas.Result.{err_from_is_err_and}
+use Rattle.part_readers.specs.Reading.{many}
+use Rattle.part_readers.proofs.Loops.{goes_on, stops, no_more, is_done}
+use Rattle.psdl_syntax.specs.declared.token.Mark.TheVariants as marks
+use Rattle.psdl_syntax.specs.Seen.{seen}
+use Rattle.psdl_syntax.specs.Productions.{behind_sign, identifier_at, is_mark}
+use Rattle.psdl_syntax.proofs.read.names.more_identifiers_of.Goals as goal
+
+pub returns-then-not-at_mark : goal.returns-then-not-at_mark
+returns-then-not-at_mark c = no_more (is_mark marks.Comma) (behind_sign marks.Comma identifier_at) c.loop.items.items (length c.args.tokens.now) c.loop.counter (map seen c.loop.rest.now) (many (is_mark marks.Comma) (behind_sign marks.Comma identifier_at) (map seen c.args.tokens.now)) (search rules) c.loop.invariant
+
+pub returns-in_err-item : goal.returns-in_err-item
+returns-in_err-item c =
+    let p = err_from_is_err_and c.from_residual.result c.from_residual.ensures.1 in
+    rw (p.1, p.2) (stops c.in_err-item.field-0.0 (is_mark marks.Comma) (behind_sign marks.Comma identifier_at) c.loop.items.items (length c.args.tokens.now) c.loop.counter (map seen c.loop.rest.now) (many (is_mark marks.Comma) (behind_sign marks.Comma identifier_at) (map seen c.args.tokens.now)) c.loop-test.true (search rules) c.in_err-item.ensures c.loop.invariant)
+
+pub loop-preserved : goal.loop-preserved
+loop-preserved c = rw c.in_ok-push.ensures.items (goes_on (is_mark marks.Comma) (behind_sign marks.Comma identifier_at) c.loop.items.items (length c.args.tokens.now) c.loop.counter (map seen c.loop.rest.now) c.in_ok-item.item (map seen c.in_ok-item.after.now) (many (is_mark marks.Comma) (behind_sign marks.Comma identifier_at) (map seen c.args.tokens.now)) c.loop-test.true (search rules) c.in_ok-item.ensures c.loop.invariant)
+
+pub returns : goal.returns
+returns c = is_done (is_mark marks.Comma) (behind_sign marks.Comma identifier_at) c.loop.items.items (length c.args.tokens.now) c.loop.counter (map seen c.loop.rest.now) (many (is_mark marks.Comma) (behind_sign marks.Comma identifier_at) (map seen c.args.tokens.now)) c.loop-test.false c.loop.invariant

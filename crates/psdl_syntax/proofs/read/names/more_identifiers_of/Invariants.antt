@@ -1,0 +1,10 @@
+use Rattle.std.proofs.Common.{◌≡◌, ◌-◌, length, map}
+use Rattle.part_readers.specs.Reading.{many_at, many}
+use Rattle.part_readers.proofs.Loops.{with_front}
+use Rattle.psdl_syntax.specs.declared.token.Mark.TheVariants as marks
+use Rattle.psdl_syntax.specs.Seen.{seen}
+use Rattle.psdl_syntax.specs.Productions.{behind_sign, identifier_at, is_mark}
+use Rattle.psdl_syntax.proofs.read.names.more_identifiers_of.Given as goal
+
+abbrev pub invariant-loop : goal.invariant-loop
+invariant-loop l = with_front l.items.items (many_at (is_mark marks.Comma) (behind_sign marks.Comma identifier_at) (length l.tokens - l.counter) (map seen l.rest)) ≡ many (is_mark marks.Comma) (behind_sign marks.Comma identifier_at) (map seen l.tokens)

@@ -1,0 +1,11 @@
+use Rattle.std.proofs.Common.{◌≡◌, ◌-◌, length, map}
+use Rattle.part_readers.specs.Reading.{many_at, many}
+use Rattle.part_readers.proofs.Loops.{with_front}
+use Rattle.psdl_syntax.specs.declared.token.Mark.TheVariants as marks
+use Rattle.psdl_syntax.specs.Seen.{seen}
+use Rattle.psdl_syntax.specs.Views.{abstract_home_member_view}
+use Rattle.psdl_syntax.specs.Productions.{abstract_home_member_at, is_inside}
+use Rattle.psdl_syntax.proofs.read.stores.abstract_home_members_of.Given as goal
+
+abbrev pub invariant-loop : goal.invariant-loop
+invariant-loop l = with_front (map abstract_home_member_view l.items.items) (many_at is_inside (abstract_home_member_at l.depth) (length l.tokens - l.counter) (map seen l.rest)) ≡ many is_inside (abstract_home_member_at l.depth) (map seen l.tokens)

@@ -1,0 +1,25 @@
+use Rattle.std.proofs.Common.{rules, ◌≡◌, length, map, refl}
+use Rattle.std.proofs.lemmas.Result.{err_from_is_err_and}
+use Rattle.part_readers.specs.Reading.{many}
+use Rattle.part_readers.proofs.Loops.{pushed_on, stops, no_more, is_done}
+use Rattle.psdl_syntax.specs.Seen.{seen}
+use Rattle.psdl_syntax.specs.Views.{definition_view}
+use Rattle.psdl_syntax.specs.Productions.{is_any, definition_at, text_at}
+use Rattle.psdl_syntax.proofs.read.text_of.Goals as goal
+
+pub returns-then-not-is_there : goal.returns-then-not-is_there
+unfolding text_at
+returns-then-not-is_there c = no_more is_any (definition_at c.args.depth) (map definition_view c.loop.items.items) (length c.args.tokens.now) c.loop.counter (map seen c.loop.rest.now) (many is_any (definition_at c.args.depth) (map seen c.args.tokens.now)) (search rules) c.loop.invariant
+
+pub returns-in_err-item : goal.returns-in_err-item
+unfolding text_at
+returns-in_err-item c =
+    let p = err_from_is_err_and c.from_residual.result c.from_residual.ensures.1 in
+    rw (p.1, p.2) (stops c.in_err-item.field-0.0 is_any (definition_at c.args.depth) (map definition_view c.loop.items.items) (length c.args.tokens.now) c.loop.counter (map seen c.loop.rest.now) (many is_any (definition_at c.args.depth) (map seen c.args.tokens.now)) c.loop-test.true (search rules) c.in_err-item.ensures c.loop.invariant)
+
+pub loop-preserved : goal.loop-preserved
+loop-preserved c = pushed_on definition_view is_any (definition_at c.args.depth) _ _ _ (length c.args.tokens.now) c.loop.counter (map seen c.loop.rest.now) (definition_view c.in_ok-item.item) (map seen c.in_ok-item.after.now) (many is_any (definition_at c.args.depth) (map seen c.args.tokens.now)) c.in_ok-push.ensures.items refl c.loop-test.true (search rules) c.in_ok-item.ensures c.loop.invariant
+
+pub returns : goal.returns
+unfolding text_at
+returns c = is_done is_any (definition_at c.args.depth) (map definition_view c.loop.items.items) (length c.args.tokens.now) c.loop.counter (map seen c.loop.rest.now) (many is_any (definition_at c.args.depth) (map seen c.args.tokens.now)) c.loop-test.false c.loop.invariant

@@ -1,0 +1,11 @@
+use Rattle.std.proofs.Common.{◌≡◌, ◌-◌, length, map}
+use Rattle.part_readers.specs.Reading.{many_at, many}
+use Rattle.part_readers.proofs.Loops.{with_front}
+use Rattle.psdl_syntax.specs.declared.token.Mark.TheVariants as marks
+use Rattle.psdl_syntax.specs.Seen.{seen}
+use Rattle.psdl_syntax.specs.Views.{field_view}
+use Rattle.psdl_syntax.specs.Productions.{field_at, is_inside}
+use Rattle.psdl_syntax.proofs.read.types.more_fields_of.Given as goal
+
+abbrev pub invariant-loop : goal.invariant-loop
+invariant-loop l = with_front (map field_view l.items.items) (many_at is_inside (field_at l.depth) (length l.tokens - l.counter) (map seen l.rest)) ≡ many is_inside (field_at l.depth) (map seen l.tokens)

@@ -1,0 +1,409 @@
+// Storage types, storage homes and catalogs.
+ghost use Rattle.std.specs.Prelude.{◌≡◌, ◌-◌, map, option_map, is_some};
+ghost use Rattle.part_readers.specs.Reading.{Gives, starts, optional, many};
+ghost use Rattle.psdl_syntax.specs.Seen.{seen};
+ghost use Rattle.psdl_syntax.specs.Views.{names_view, name_view, abstract_type_member_view, abstract_type_body_view, abstract_type_view, state_view, storage_type_body_view, storage_type_view, abstract_home_member_view, abstract_home_body_view, abstract_home_view, home_member_view, storage_home_view, provision_view, catalog_view, key_view};
+ghost use Rattle.psdl_syntax.specs.Productions.{is_mark, is_word, is_inside, is_state, is_abstract_type_body, is_storage_type_body, braces, up_to_brace, bases_at, base_at, implements_at, abstract_type_member_at, abstract_type_members_at, abstract_type_body_at, abstract_type_at, state_at, states_at, storage_type_body_at, storage_type_at, abstract_home_member_at, abstract_home_members_at, abstract_home_body_at, abstract_home_at, primary_key_at, home_member_at, home_members_at, storage_home_at, provision_at, provisions_at, catalog_at};
+ghost use Rattle.psdl_syntax.specs.declared.token.Keyword.TheVariants as keywords;
+ghost use Rattle.psdl_syntax.specs.declared.token.Mark.TheVariants as marks;
+
+use super::members::{at_state, factory_of, key_of, operation_of, state_of};
+use super::names::{name_of, names_of};
+use super::words::{
+    Read, at_keyword, at_mark, before_brace, identifier_of, keyword_of, mark_of, open_of,
+};
+use crate::tree::{
+    AbstractHome, AbstractHomeBody, AbstractHomeMember, AbstractType, AbstractTypeBody,
+    AbstractTypeMember, Catalog, HomeMember, Key, Name, Names, Provision, State, StorageHome,
+    StorageType, StorageTypeBody,
+};
+use crate::{Keyword, Mark, Token};
+use std::alloc::Global;
+
+#[tactic(auto, unfolding(crate::specs::Productions::bases_at))]
+fn bases_of(alloc: Global, tokens: &[Token]) -> Read<'_, Option<Names>>
+    ensures { Gives (λ x. (option_map names_view x.0, map seen x.1.now)) result (bases_at (map seen tokens.now)) }
+{
+    if at_mark(Mark::Colon, tokens) {
+        let rest = mark_of(Mark::Colon, tokens)?;
+        let (names, rest) = names_of(alloc, rest)?;
+        return Ok((Some(names), rest));
+    }
+    Ok((None, tokens))
+}
+
+#[tactic(auto, unfolding(crate::specs::Productions::base_at))]
+fn base_of(alloc: Global, tokens: &[Token]) -> Read<'_, Option<Name>>
+    ensures { Gives (λ x. (option_map name_view x.0, map seen x.1.now)) result (base_at (map seen tokens.now)) }
+{
+    if at_mark(Mark::Colon, tokens) {
+        let rest = mark_of(Mark::Colon, tokens)?;
+        let (name, rest) = name_of(alloc, rest)?;
+        return Ok((Some(name), rest));
+    }
+    Ok((None, tokens))
+}
+
+#[tactic(auto, unfolding(crate::specs::Productions::implements_at))]
+fn implements_of(alloc: Global, tokens: &[Token]) -> Read<'_, Option<Names>>
+    ensures { Gives (λ x. (option_map names_view x.0, map seen x.1.now)) result (implements_at (map seen tokens.now)) }
+{
+    if at_keyword(Keyword::Implements, tokens) {
+        let rest = keyword_of(Keyword::Implements, tokens)?;
+        let (names, rest) = names_of(alloc, rest)?;
+        return Ok((Some(names), rest));
+    }
+    Ok((None, tokens))
+}
+
+#[tactic(auto, unfolding(crate::specs::Productions::abstract_type_member_at))]
+fn abstract_type_member_of(
+    alloc: Global,
+    depth: u32,
+    tokens: &[Token],
+) -> Read<'_, AbstractTypeMember>
+    ensures { Gives (λ x. (abstract_type_member_view x.0, map seen x.1.now)) result (abstract_type_member_at depth (map seen tokens.now)) }
+{
+    if at_state(tokens) {
+        let (state, rest) = state_of(alloc, depth, tokens)?;
+        return Ok((AbstractTypeMember::State(state), rest));
+    }
+    let (operation, rest) = operation_of(alloc, depth, tokens)?;
+    Ok((AbstractTypeMember::Operation(operation), rest))
+}
+
+fn abstract_type_members_of(
+    alloc: Global,
+    depth: u32,
+    tokens: &[Token],
+) -> Read<'_, Vec<AbstractTypeMember>>
+    ensures { Gives (λ x. (map abstract_type_member_view x.0.items, map seen x.1.now)) result (many is_inside (abstract_type_member_at depth) (map seen tokens.now)) }
+{
+    let mut items = Vec::new(alloc);
+    let mut rest = tokens;
+    for _ in 0..tokens.len() {
+        if !before_brace(rest) {
+            return Ok((items, rest));
+        }
+        let (item, after) = abstract_type_member_of(alloc, depth, rest)?;
+        items.push(item)?;
+        rest = after;
+    }
+    Ok((items, rest))
+}
+
+#[tactic(auto, unfolding(crate::specs::Productions::abstract_type_members_at))]
+fn braced_type_members_of(
+    alloc: Global,
+    depth: u32,
+    tokens: &[Token],
+) -> Read<'_, Vec<AbstractTypeMember>>
+    ensures { Gives (λ x. (map abstract_type_member_view x.0.items, map seen x.1.now)) result (braces (abstract_type_members_at (depth - 1)) depth (map seen tokens.now)) }
+{
+    let rest = open_of(Mark::LeftBrace, depth, tokens)?;
+    let (items, rest) = abstract_type_members_of(alloc, depth - 1, rest)?;
+    let rest = mark_of(Mark::RightBrace, rest)?;
+    Ok((items, rest))
+}
+
+#[tactic(auto, unfolding(crate::specs::Productions::abstract_type_body_at))]
+fn abstract_type_body_of(alloc: Global, depth: u32, tokens: &[Token]) -> Read<'_, AbstractTypeBody>
+    ensures { Gives (λ x. (abstract_type_body_view x.0, map seen x.1.now)) result (abstract_type_body_at depth (map seen tokens.now)) }
+{
+    let (bases, rest) = bases_of(alloc, tokens)?;
+    let (members, rest) = braced_type_members_of(alloc, depth, rest)?;
+    Ok((AbstractTypeBody { bases, members }, rest))
+}
+
+fn at_abstract_type_body(tokens: &[Token]) -> bool
+    ensures { result ≡ starts is_abstract_type_body (map seen tokens.now) }
+{
+    at_mark(Mark::Colon, tokens) || at_mark(Mark::LeftBrace, tokens)
+}
+
+#[tactic(auto, unfolding(crate::specs::Productions::abstract_type_at))]
+pub(super) fn abstract_type_of(
+    alloc: Global,
+    depth: u32,
+    tokens: &[Token],
+) -> Read<'_, AbstractType>
+    ensures { Gives (λ x. (abstract_type_view x.0, map seen x.1.now)) result (abstract_type_at depth (map seen tokens.now)) }
+{
+    let rest = keyword_of(Keyword::StorageType, tokens)?;
+    let (name, rest) = identifier_of(rest)?;
+    if at_abstract_type_body(rest) {
+        let (body, rest) = abstract_type_body_of(alloc, depth, rest)?;
+        let body = Some(body);
+        return Ok((AbstractType { name, body }, rest));
+    }
+    Ok((AbstractType { name, body: None }, rest))
+}
+
+fn states_of(alloc: Global, depth: u32, tokens: &[Token]) -> Read<'_, Vec<State>>
+    ensures { Gives (λ x. (map state_view x.0.items, map seen x.1.now)) result (many is_inside (state_at depth) (map seen tokens.now)) }
+{
+    let mut items = Vec::new(alloc);
+    let mut rest = tokens;
+    for _ in 0..tokens.len() {
+        if !before_brace(rest) {
+            return Ok((items, rest));
+        }
+        let (item, after) = state_of(alloc, depth, rest)?;
+        items.push(item)?;
+        rest = after;
+    }
+    Ok((items, rest))
+}
+
+#[tactic(auto, unfolding(crate::specs::Productions::states_at))]
+fn braced_states_of(alloc: Global, depth: u32, tokens: &[Token]) -> Read<'_, Vec<State>>
+    ensures { Gives (λ x. (map state_view x.0.items, map seen x.1.now)) result (braces (states_at (depth - 1)) depth (map seen tokens.now)) }
+{
+    let rest = open_of(Mark::LeftBrace, depth, tokens)?;
+    let (items, rest) = states_of(alloc, depth - 1, rest)?;
+    let rest = mark_of(Mark::RightBrace, rest)?;
+    Ok((items, rest))
+}
+
+#[tactic(auto, unfolding(crate::specs::Productions::storage_type_body_at))]
+fn storage_type_body_of(alloc: Global, depth: u32, tokens: &[Token]) -> Read<'_, StorageTypeBody>
+    ensures { Gives (λ x. (storage_type_body_view x.0, map seen x.1.now)) result (storage_type_body_at depth (map seen tokens.now)) }
+{
+    let (base, rest) = base_of(alloc, tokens)?;
+    let (implements, rest) = implements_of(alloc, rest)?;
+    let (states, rest) = braced_states_of(alloc, depth, rest)?;
+    let body = StorageTypeBody {
+        base,
+        implements,
+        states,
+    };
+    Ok((body, rest))
+}
+
+fn at_storage_type_body(tokens: &[Token]) -> bool
+    ensures { result ≡ starts is_storage_type_body (map seen tokens.now) }
+{
+    at_mark(Mark::Colon, tokens)
+        || at_keyword(Keyword::Implements, tokens)
+        || at_mark(Mark::LeftBrace, tokens)
+}
+
+#[tactic(auto, unfolding(crate::specs::Productions::storage_type_at))]
+pub(super) fn storage_type_of(alloc: Global, depth: u32, tokens: &[Token]) -> Read<'_, StorageType>
+    ensures { Gives (λ x. (storage_type_view x.0, map seen x.1.now)) result (storage_type_at depth (map seen tokens.now)) }
+{
+    let rest = keyword_of(Keyword::StorageType, tokens)?;
+    let (name, rest) = identifier_of(rest)?;
+    if at_storage_type_body(rest) {
+        let (body, rest) = storage_type_body_of(alloc, depth, rest)?;
+        let body = Some(body);
+        return Ok((StorageType { name, body }, rest));
+    }
+    Ok((StorageType { name, body: None }, rest))
+}
+
+#[tactic(auto, unfolding(crate::specs::Productions::abstract_home_member_at))]
+fn abstract_home_member_of(
+    alloc: Global,
+    depth: u32,
+    tokens: &[Token],
+) -> Read<'_, AbstractHomeMember>
+    ensures { Gives (λ x. (abstract_home_member_view x.0, map seen x.1.now)) result (abstract_home_member_at depth (map seen tokens.now)) }
+{
+    if at_keyword(Keyword::Key, tokens) {
+        let (key, rest) = key_of(alloc, depth, tokens)?;
+        return Ok((AbstractHomeMember::Key(key), rest));
+    }
+    if at_keyword(Keyword::Factory, tokens) {
+        let (factory, rest) = factory_of(alloc, depth, tokens)?;
+        return Ok((AbstractHomeMember::Factory(factory), rest));
+    }
+    let (operation, rest) = operation_of(alloc, depth, tokens)?;
+    Ok((AbstractHomeMember::Operation(operation), rest))
+}
+
+fn abstract_home_members_of(
+    alloc: Global,
+    depth: u32,
+    tokens: &[Token],
+) -> Read<'_, Vec<AbstractHomeMember>>
+    ensures { Gives (λ x. (map abstract_home_member_view x.0.items, map seen x.1.now)) result (many is_inside (abstract_home_member_at depth) (map seen tokens.now)) }
+{
+    let mut items = Vec::new(alloc);
+    let mut rest = tokens;
+    for _ in 0..tokens.len() {
+        if !before_brace(rest) {
+            return Ok((items, rest));
+        }
+        let (item, after) = abstract_home_member_of(alloc, depth, rest)?;
+        items.push(item)?;
+        rest = after;
+    }
+    Ok((items, rest))
+}
+
+#[tactic(auto, unfolding(crate::specs::Productions::abstract_home_members_at))]
+fn braced_abstract_members_of(
+    alloc: Global,
+    depth: u32,
+    tokens: &[Token],
+) -> Read<'_, Vec<AbstractHomeMember>>
+    ensures { Gives (λ x. (map abstract_home_member_view x.0.items, map seen x.1.now)) result (braces (abstract_home_members_at (depth - 1)) depth (map seen tokens.now)) }
+{
+    let rest = open_of(Mark::LeftBrace, depth, tokens)?;
+    let (items, rest) = abstract_home_members_of(alloc, depth - 1, rest)?;
+    let rest = mark_of(Mark::RightBrace, rest)?;
+    Ok((items, rest))
+}
+
+#[tactic(auto, unfolding(crate::specs::Productions::abstract_home_body_at))]
+fn abstract_home_body_of(alloc: Global, depth: u32, tokens: &[Token]) -> Read<'_, AbstractHomeBody>
+    ensures { Gives (λ x. (abstract_home_body_view x.0, map seen x.1.now)) result (abstract_home_body_at depth (map seen tokens.now)) }
+{
+    let rest = keyword_of(Keyword::Of, tokens)?;
+    let (managed, rest) = name_of(alloc, rest)?;
+    let (bases, rest) = bases_of(alloc, rest)?;
+    let (members, rest) = braced_abstract_members_of(alloc, depth, rest)?;
+    let body = AbstractHomeBody {
+        managed,
+        bases,
+        members,
+    };
+    Ok((body, rest))
+}
+
+#[tactic(auto, unfolding(crate::specs::Productions::abstract_home_at))]
+pub(super) fn abstract_home_of(
+    alloc: Global,
+    depth: u32,
+    tokens: &[Token],
+) -> Read<'_, AbstractHome>
+    ensures { Gives (λ x. (abstract_home_view x.0, map seen x.1.now)) result (abstract_home_at depth (map seen tokens.now)) }
+{
+    let rest = keyword_of(Keyword::StorageHome, tokens)?;
+    let (name, rest) = identifier_of(rest)?;
+    if at_keyword(Keyword::Of, rest) {
+        let (body, rest) = abstract_home_body_of(alloc, depth, rest)?;
+        let body = Some(body);
+        return Ok((AbstractHome { name, body }, rest));
+    }
+    Ok((AbstractHome { name, body: None }, rest))
+}
+
+#[tactic(auto, unfolding(crate::specs::Productions::primary_key_at))]
+fn primary_key_of(alloc: Global, depth: u32, tokens: &[Token]) -> Read<'_, Key>
+    ensures { Gives (λ x. (key_view x.0, map seen x.1.now)) result (primary_key_at depth (map seen tokens.now)) }
+{
+    let rest = keyword_of(Keyword::Primary, tokens)?;
+    key_of(alloc, depth, rest)
+}
+
+#[tactic(auto, unfolding(crate::specs::Productions::home_member_at))]
+fn home_member_of(alloc: Global, depth: u32, tokens: &[Token]) -> Read<'_, HomeMember>
+    ensures { Gives (λ x. (home_member_view x.0, map seen x.1.now)) result (home_member_at depth (map seen tokens.now)) }
+{
+    if at_keyword(Keyword::Key, tokens) {
+        let (key, rest) = key_of(alloc, depth, tokens)?;
+        return Ok((HomeMember::Key(key), rest));
+    }
+    if at_keyword(Keyword::Primary, tokens) {
+        let (key, rest) = primary_key_of(alloc, depth, tokens)?;
+        return Ok((HomeMember::PrimaryKey(key), rest));
+    }
+    let (factory, rest) = factory_of(alloc, depth, tokens)?;
+    Ok((HomeMember::Factory(factory), rest))
+}
+
+fn home_members_of(alloc: Global, depth: u32, tokens: &[Token]) -> Read<'_, Vec<HomeMember>>
+    ensures { Gives (λ x. (map home_member_view x.0.items, map seen x.1.now)) result (many is_inside (home_member_at depth) (map seen tokens.now)) }
+{
+    let mut items = Vec::new(alloc);
+    let mut rest = tokens;
+    for _ in 0..tokens.len() {
+        if !before_brace(rest) {
+            return Ok((items, rest));
+        }
+        let (item, after) = home_member_of(alloc, depth, rest)?;
+        items.push(item)?;
+        rest = after;
+    }
+    Ok((items, rest))
+}
+
+#[tactic(auto, unfolding(crate::specs::Productions::home_members_at))]
+fn braced_home_members_of(alloc: Global, depth: u32, tokens: &[Token]) -> Read<'_, Vec<HomeMember>>
+    ensures { Gives (λ x. (map home_member_view x.0.items, map seen x.1.now)) result (braces (home_members_at (depth - 1)) depth (map seen tokens.now)) }
+{
+    let rest = open_of(Mark::LeftBrace, depth, tokens)?;
+    let (items, rest) = home_members_of(alloc, depth - 1, rest)?;
+    let rest = mark_of(Mark::RightBrace, rest)?;
+    Ok((items, rest))
+}
+
+#[tactic(auto, unfolding(crate::specs::Productions::storage_home_at))]
+pub(super) fn storage_home_of(alloc: Global, depth: u32, tokens: &[Token]) -> Read<'_, StorageHome>
+    ensures { Gives (λ x. (storage_home_view x.0, map seen x.1.now)) result (storage_home_at depth (map seen tokens.now)) }
+{
+    let rest = keyword_of(Keyword::StorageHome, tokens)?;
+    let (name, rest) = identifier_of(rest)?;
+    let (base, rest) = base_of(alloc, rest)?;
+    let rest = keyword_of(Keyword::Of, rest)?;
+    let (managed, rest) = name_of(alloc, rest)?;
+    let (implements, rest) = implements_of(alloc, rest)?;
+    let (members, rest) = braced_home_members_of(alloc, depth, rest)?;
+    let home = StorageHome {
+        name,
+        base,
+        managed,
+        implements,
+        members,
+    };
+    Ok((home, rest))
+}
+
+#[tactic(auto, unfolding(crate::specs::Productions::provision_at))]
+fn provision_of(alloc: Global, tokens: &[Token]) -> Read<'_, Provision>
+    ensures { Gives (λ x. (provision_view x.0, map seen x.1.now)) result (provision_at (map seen tokens.now)) }
+{
+    let rest = keyword_of(Keyword::Provides, tokens)?;
+    let (home, rest) = name_of(alloc, rest)?;
+    let (name, rest) = identifier_of(rest)?;
+    let rest = mark_of(Mark::Semicolon, rest)?;
+    Ok((Provision { home, name }, rest))
+}
+
+fn provisions_of(alloc: Global, tokens: &[Token]) -> Read<'_, Vec<Provision>>
+    ensures { Gives (λ x. (map provision_view x.0.items, map seen x.1.now)) result (many is_inside provision_at (map seen tokens.now)) }
+{
+    let mut items = Vec::new(alloc);
+    let mut rest = tokens;
+    for _ in 0..tokens.len() {
+        if !before_brace(rest) {
+            return Ok((items, rest));
+        }
+        let (item, after) = provision_of(alloc, rest)?;
+        items.push(item)?;
+        rest = after;
+    }
+    Ok((items, rest))
+}
+
+#[tactic(auto, unfolding(crate::specs::Productions::provisions_at))]
+fn braced_provisions_of(alloc: Global, depth: u32, tokens: &[Token]) -> Read<'_, Vec<Provision>>
+    ensures { Gives (λ x. (map provision_view x.0.items, map seen x.1.now)) result (braces provisions_at depth (map seen tokens.now)) }
+{
+    let rest = open_of(Mark::LeftBrace, depth, tokens)?;
+    let (items, rest) = provisions_of(alloc, rest)?;
+    let rest = mark_of(Mark::RightBrace, rest)?;
+    Ok((items, rest))
+}
+
+#[tactic(auto, unfolding(crate::specs::Productions::catalog_at))]
+pub(super) fn catalog_of(alloc: Global, depth: u32, tokens: &[Token]) -> Read<'_, Catalog>
+    ensures { Gives (λ x. (catalog_view x.0, map seen x.1.now)) result (catalog_at depth (map seen tokens.now)) }
+{
+    let rest = keyword_of(Keyword::Catalog, tokens)?;
+    let (name, rest) = identifier_of(rest)?;
+    let (provisions, rest) = braced_provisions_of(alloc, depth, rest)?;
+    Ok((Catalog { name, provisions }, rest))
+}

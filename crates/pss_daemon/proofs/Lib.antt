@@ -12,3 +12,5 @@ pub mod Progress
 pub mod Exits
 pub mod AtMoments
 pub mod Ending
+pub mod Overlong
+pub mod Told

@@ -7,6 +7,7 @@ use Rattle.pss_daemon.specs.declared.status.Status.TheVariants as status
 abbrev pub code_of : Status → ℕ
 code_of status.Ok = 0
 code_of status.Usage = 1
+code_of status.SchemaRefused = 2
 code_of status.NoMemory = 4
 code_of status.ReadFault = 5
 code_of status.SpeakFault = 7

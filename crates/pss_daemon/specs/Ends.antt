@@ -4,8 +4,12 @@ use Rattle.std.specs.declared.option.Option.{Option}
 use Rattle.std.specs.Io.KnownBytes.{append_known}
 use Rattle.pss_base.specs.Causes.{Rose}
 use Rattle.psdl_syntax.specs.Form.{IsFirstForm}
+use Rattle.psdl_syntax.specs.Syntax.{IsTextOf, IsFault}
+use Rattle.psdl_syntax.specs.Trees.{Definitions}
+use Rattle.psdl_syntax.specs.declared.syntax_fault.SyntaxFault.{SyntaxFault}
 use Rattle.psdl_syntax.specs.declared.form.FirstForm.{FirstForm}
 use Rattle.pss_daemon.specs.Forms.{IsPlanOf}
+use Rattle.pss_daemon.specs.Refusals.{refusal_line}
 use Rattle.pss_daemon.specs.Runs.{Says, SaidInPart}
 use Rattle.pss_daemon.specs.declared.forms.Plan.{Plan}
 use Rattle.pss_daemon.specs.declared.forms.Plan.TheVariants.{Check, Init, Run, Demo}
@@ -43,17 +47,29 @@ IsOther (Init schema store) = Unit {0}
 IsOther (Run schema store) = ⊥
 IsOther (Demo rounds store) = Unit {0}
 
--- a text that is not of the first form
-abbrev pub IsOtherText : List ℕ → Type 0
-IsOtherText text = (form : FirstForm) → IsFirstForm text form → ⊥
+-- a text that a tree stands for
+abbrev pub HasTree : List ℕ → Type 0
+HasTree text = (tree : Definitions) × IsTextOf tree text
 
--- the plan is not to serve a script, or the text is not of the first form
+-- a text that a tree stands for, of the first form
+abbrev pub IsServed : List ℕ → FirstForm → Type 0
+IsServed text form = HasTree text × IsFirstForm text form
+
+-- a text that a tree stands for, of another form
+abbrev pub IsOtherText : List ℕ → Type 0
+IsOtherText text = HasTree text × ((form : FirstForm) → IsFirstForm text form → ⊥)
+
+-- the plan is not to serve a script, or the text has no fault and is not of the first form
 abbrev pub IsNotBuilt : List (List ℕ) → Option (List ℕ) → Type 0
 IsNotBuilt words schema = ((plan : Plan) × IsPlanOf words plan × IsOther plan) ⊎ (IsRun words × IfSome schema IsOtherText)
 
+-- the script was to be served, and the schema's text has this fault
+abbrev pub IsRefused : List (List ℕ) → Option (List ℕ) → SyntaxFault → Type 0
+IsRefused words schema fault = IsRun words × IfSome schema (λ text. IsFault text fault.place fault.kind)
+
 -- a script is served over the form of the schema's text
 abbrev pub Serves : List (List ℕ) → Option (List ℕ) → FirstForm → Type 0
-Serves words schema form = IsRun words × IfSome schema (λ text. IsFirstForm text form)
+Serves words schema form = IsRun words × IfSome schema (λ text. IsServed text form)
 
 -- some first bytes of a line were spoken
 abbrev pub SaidOf : List ℕ → Option (List ℕ) → Option (List ℕ) → Type 0
@@ -83,12 +99,14 @@ abbrev pub SaidSome : List (List ℕ) → Option (List ℕ) → Option (List ℕ
 SaidSome words schema script before after =
     (IsNoPlan words × SaidOf usage_line before after)
     ⊎ ((IsNotBuilt words schema × SaidOf not_built_line before after)
-    ⊎ ((form : FirstForm) × Serves words schema form × SaidInPart form most_lines most_bytes script before after))
+    ⊎ (((fault : SyntaxFault) × IsRefused words schema fault × SaidOf (refusal_line fault) before after)
+    ⊎ ((form : FirstForm) × Serves words schema form × SaidInPart form most_lines most_bytes script before after)))
 
 -- Each way in which a call ends: where it comes, and what was spoken by then.
 abbrev pub Ends : Status → Call → Counts → Counts → Type 0
 Ends status.Ok call old new = EndsServing status.Ok call
 Ends status.Usage call old new = IsNoPlan call.words × (call.after ≡ append_known call.before usage_line)
+Ends status.SchemaRefused call old new = (fault : SyntaxFault) × IsRefused call.words call.schema fault × (call.after ≡ append_known call.before (refusal_line fault))
 Ends status.NotBuilt call old new = IsNotBuilt call.words call.schema × (call.after ≡ append_known call.before not_built_line)
 Ends status.ScriptTooLong call old new = EndsServing status.ScriptTooLong call
 Ends status.ReadFault call old new =
@@ -107,6 +125,7 @@ HasCauses status.ReadFault old new =
 HasCauses status.SpeakFault old new = (new.schema ≡ old.schema) × (new.script ≡ old.script) × Rose old.speech new.speech
 HasCauses status.Ok old new = AreSame old new
 HasCauses status.Usage old new = AreSame old new
+HasCauses status.SchemaRefused old new = AreSame old new
 HasCauses status.NoMemory old new = AreSame old new
 HasCauses status.ScriptTooLong old new = AreSame old new
 HasCauses status.NotBuilt old new = AreSame old new

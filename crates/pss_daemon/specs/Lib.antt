@@ -3,6 +3,7 @@ pub mod Command
 pub mod Asked
 pub mod Machine
 pub mod Texts
+pub mod Refusals
 pub mod State
 pub mod View
 pub mod Forms

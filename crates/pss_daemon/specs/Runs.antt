@@ -36,6 +36,7 @@ Says status.ReadFault form n b script left old new = (taken : List ℕ) × Consu
 Says status.SpeakFault form n b script left old new = SaidInPart form n b script old new
 Says status.NoMemory form n b script left old new = IfSome script (λ bytes. (k : ℕ) × (new ≡ append_known old (replied form (take k (lines n b bytes)))))
 Says status.Usage form n b script left old new = ⊥
+Says status.SchemaRefused form n b script left old new = ⊥
 Says status.NotBuilt form n b script left old new = ⊥
 
 -- a source failed
@@ -43,6 +44,7 @@ abbrev pub is_read_fault : Status → Bool
 is_read_fault status.ReadFault = true
 is_read_fault status.Ok = false
 is_read_fault status.Usage = false
+is_read_fault status.SchemaRefused = false
 is_read_fault status.NoMemory = false
 is_read_fault status.SpeakFault = false
 is_read_fault status.ScriptTooLong = false
@@ -53,6 +55,7 @@ abbrev pub is_speak_fault : Status → Bool
 is_speak_fault status.SpeakFault = true
 is_speak_fault status.Ok = false
 is_speak_fault status.Usage = false
+is_speak_fault status.SchemaRefused = false
 is_speak_fault status.NoMemory = false
 is_speak_fault status.ReadFault = false
 is_speak_fault status.ScriptTooLong = false

@@ -6,6 +6,7 @@ mod command;
 mod forms;
 mod machine;
 mod planning;
+mod refusal;
 mod reply;
 mod schema;
 mod service;

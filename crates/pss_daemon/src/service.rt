@@ -7,7 +7,7 @@ use crate::planning::plan;
 use crate::schema::{Schema, read_schema};
 use crate::serving::serve;
 use crate::status::Status;
-use crate::telling::speak;
+use crate::telling::{Turn, refuse, speak};
 use pss_base::{Bytes, Source};
 use pss_disk::Station;
 use std::alloc::Global;
@@ -88,6 +88,11 @@ fn run<P: Source, C: Source, W: Station>(
         Schema::Other => match speak(station, NOT_BUILT) {
             Ok(()) => Status::NotBuilt,
             Err(_) => Status::SpeakFault,
+        },
+        Schema::Refused(fault) => match refuse(alloc, &fault, station) {
+            Turn::Went => Status::SchemaRefused,
+            Turn::SpeakFault => Status::SpeakFault,
+            Turn::NoMemory => Status::NoMemory,
         },
         Schema::ReadFault => Status::ReadFault,
         Schema::NoMemory => Status::NoMemory,

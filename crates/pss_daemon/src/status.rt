@@ -8,6 +8,8 @@ pub enum Status {
     Ok,
     /// The words are none of the forms.
     Usage,
+    /// The schema's text has a fault.
+    SchemaRefused,
     /// There was no memory.
     NoMemory,
     /// The schema's source or the script's failed.
@@ -30,6 +32,7 @@ impl Status {
         match self {
             Status::Ok => 0,
             Status::Usage => 1,
+            Status::SchemaRefused => 2,
             Status::NoMemory => 4,
             Status::ReadFault => 5,
             Status::SpeakFault => 7,

@@ -1,24 +1,27 @@
-// One line is served, and its reply is spoken.
+// One line is served, and its reply is spoken; or the fault of the schema is.
 ghost use Rattle.std.specs.Prelude.{◌≡◌, ℕ, ◌++◌, ◌∷◌, [], take, OnOk, OnErr};
 ghost use Rattle.std.specs.Io.KnownBytes.{append_known};
 ghost use Rattle.pss_base.specs.Causes.{HasCause, HasCauseIf};
 ghost use Rattle.pss_disk.specs.Moments.{Through, DuringSpeak};
 ghost use Rattle.pss_daemon.specs.Machine.{turn as turn_of};
 ghost use Rattle.pss_daemon.specs.Texts.{text};
+ghost use Rattle.pss_daemon.specs.Refusals.{refusal_line};
 ghost use Rattle.pss_daemon.specs.Turns.{Speaks, said_for, is_fault};
 
 use crate::machine::Machine;
+use crate::refusal::print_refusal;
 use crate::reply::{Reply, print_line};
+use psdl_syntax::SyntaxFault;
 use pss_base::{Failed, LineStep};
 use pss_disk::Station;
 use std::alloc::Global;
 
-/// What became of a line's turn.
+/// What became of a turn to speak.
 #[derive(Clone, Copy, Debug, PartialEq, Eq, Drop)]
 pub enum Turn {
-    /// It was served, and its reply was spoken where it has one.
+    /// What it asked for was done, and what there is to say was spoken.
     Went,
-    /// Speech failed: some first bytes of the reply were spoken.
+    /// Speech failed: some first bytes of what there is to say were spoken.
     SpeakFault,
     /// There was no memory: nothing was spoken.
     NoMemory,
@@ -41,6 +44,21 @@ fn say<W: Station>(alloc: Global, reply: &Reply, station: &mut W) -> Turn
     ensures cause { HasCauseIf (W.speak_faults station.old) (W.speak_faults station.new) (is_fault result) }
 {
     match print_line(alloc, reply) {
+        Ok(line) => match speak(station, line.as_slice()) {
+            Ok(()) => Turn::Went,
+            Err(_) => Turn::SpeakFault,
+        },
+        Err(_) => Turn::NoMemory,
+    }
+}
+
+/// Speaks the fault of the schema's text.
+pub fn refuse<W: Station>(alloc: Global, fault: &SyntaxFault, station: &mut W) -> Turn
+    ensures speaks { Speaks result (refusal_line fault.now) (W.now station.old).spoken (W.now station.new).spoken }
+    ensures moments { Through (W.history station.old) (W.history station.new) (DuringSpeak (refusal_line fault.now) (W.now station.old)) }
+    ensures cause { HasCauseIf (W.speak_faults station.old) (W.speak_faults station.new) (is_fault result) }
+{
+    match print_refusal(alloc, fault) {
         Ok(line) => match speak(station, line.as_slice()) {
             Ok(()) => Turn::Went,
             Err(_) => Turn::SpeakFault,

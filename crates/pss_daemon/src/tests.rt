@@ -47,7 +47,7 @@ const UNENDED: &str = "open s1 basic rw\ncreate s1 Cells 7";
 const RUN: &[&str] = &["run", "cells.psdl", "cells.store"];
 
 // The words, the schema, the script, how the call ends, and what it speaks.
-const WHOLE: [(&[&str], &str, &str, Status, &str); 7] = [
+const WHOLE: [(&[&str], &str, &str, Status, &str); 8] = [
     (RUN, CELLS, FIRST, Status::Ok, REPLIES),
     (RUN, CELLS, "", Status::Ok, ""),
     (RUN, CELLS, "# x\n\n", Status::Ok, ""),
@@ -64,6 +64,13 @@ const WHOLE: [(&[&str], &str, &str, Status, &str); 7] = [
         FIRST,
         Status::NotBuilt,
         "not built\n",
+    ),
+    (
+        RUN,
+        "storagetype T { state strong ref<Person> p; };",
+        FIRST,
+        Status::SchemaRefused,
+        "schema 1:23 S6 LeftOut\n",
     ),
     (
         &["check", "cells.psdl"],

@@ -1,6 +1,6 @@
 -- Where values end.
-use Rattle.std.proofs.Common.{◌≡◌, ℕ, ◌+◌, ◌-◌, ◌^◌, ◌≤◌, ◌<◌, List, [], ◌∷◌, ◌++◌, length, get_or, map, take, drop, Option, Some, None, refl, sym, ap, subst, ◌∙◌, arith, inl, inr, length-append}
-use Rattle.std.specs.Prelude.{min, replicate}
+use Rattle.std.proofs.Common.{◌≡◌, ℕ, ◌+◌, ◌-◌, ◌^◌, ◌≤◌, ◌<◌, List, [], ◌∷◌, ◌++◌, length, get_or, map, take, drop, Some, None, sym, ap, subst, ◌∙◌, arith, inl, inr, length-append}
+use Rattle.std.specs.Prelude.{min}
 use Rattle.std.proofs.lemmas.Bool.{cases_lt}
 use Rattle.std.proofs.lemmas.List.{length-replicate, drop_all, drop_more, take_rest}
 use Rattle.byteorder.specs.Endian.{big_bytes}
@@ -12,8 +12,8 @@ use Rattle.type_layout.specs.Members.{plain_member}
 use Rattle.cdr_codec.proofs.Loop.{members_drop}
 use Rattle.type_layout.specs.declared.home.HomeNo.{HomeNo}
 use Rattle.type_layout.specs.Types.{PlainType, Short, Long, LongLong, UShort, ULong, ULongLong, Char, Boolean, Octet, Str, Seq, Arr, Struct, Enum, RefTo, PlainFields, no_fields, field_and, PlainValue, Int, Character, Truth, Ordinal, Text, Items, Parts, Ref, PlainValues, no_values, value_and, values_of}
-use Rattle.type_layout.specs.Values.{Of, AreOf, EachOf, LeadsTo, count, layout_fields}
-use Rattle.type_layout.specs.Spelling.{gap, padding, reference, each, spelling, spellings}
+use Rattle.type_layout.specs.Values.{Of, AreOf, EachOf, count, layout_fields}
+use Rattle.type_layout.specs.Spelling.{gap, padding, each, spelling, spellings}
 use Rattle.cdr_codec.specs.Lengths.{place_behind, parts_of}
 
 -- a place that is kept up to a limit goes on as the place does

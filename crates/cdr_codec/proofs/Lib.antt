@@ -7,3 +7,6 @@ pub mod Texts
 pub mod Types
 pub mod Records
 pub mod Ends
+pub mod Taking
+pub mod Counts
+pub mod Totals

@@ -1,17 +1,15 @@
 -- What the readers of one primitive owe to it.
-use Rattle.std.proofs.Common.{◌≡◌, ℕ, zero, suc, ◌+◌, ◌-◌, ◌^◌, ◌<◌, ◌≤◌, Bool, true, false, cond, eqb, ltb, List, [], ◌∷◌, ◌++◌, length, get_or, take, drop, Option, Some, None, Result, Ok, Err, refl, sym, ap, subst, ◌∙◌, append_assoc, arith, ◌⊎◌, inl, inr, length-append}
-use Rattle.std.specs.Prelude.{slice_range, slice_index, not, nat_lt, ◌==◌, ◌||◌, if◌then◌else◌}
-use Rattle.std.specs.List.{position}
-use Rattle.std.proofs.lemmas.Bool.{ltb-false, ltb-true, le-ltb, lt-ltb, eqb-true, eq-eqb}
-use Rattle.std.proofs.lemmas.List.{append-nil, drop_at, take_at, drop-drop, length-drop, length-take, take-append-drop, get_or-drop}
+use Rattle.std.proofs.Common.{◌≡◌, ℕ, ◌+◌, ◌^◌, ◌<◌, ◌≤◌, Bool, true, false, cond, ltb, List, [], ◌∷◌, ◌++◌, length, take, drop, Option, Some, None, Result, Ok, Err, refl, sym, ap, subst, ◌∙◌, arith, length-append}
+use Rattle.std.proofs.lemmas.Bool.{ltb-false, ltb-true, le-ltb, lt-ltb}
+use Rattle.std.proofs.lemmas.List.{append-nil, take_at, drop-drop, length-drop, length-take, take-append-drop, get_or-drop}
 use Rattle.byteorder.specs.Endian.{big_number, big_bytes}
 use Rattle.byteorder.specs.Numbers.{big_from-lt, big_from-take, big_number-reads_back, length-bytes_high_first}
 use Rattle.cdr_codec.specs.declared.fault.RecordFault.{RecordFault}
 use Rattle.cdr_codec.specs.declared.fault.RecordFault.TheVariants as fault
-use Rattle.cdr_codec.specs.Primitives.{Size, One, Two, Four, Eight, Primitive, Flag, Pad, Plain, Logical, Enumerator, TextLength, ItemCount, Home, Serial, Letters, octets_of, width_of, refuses, fault_at, given, wrong_letter, judged, refusal, Piece, joined, size_of, IsRefusedAmong}
-use Rattle.cdr_codec.specs.Reading.{◌>>=◌, Reader, plain_at, one_at, letters_at}
+use Rattle.cdr_codec.specs.Primitives.{Primitive, Letters, width_of, refuses, fault_at, given, judged, refusal, Piece, joined, size_of}
+use Rattle.cdr_codec.specs.Reading.{Reader, plain_at, one_at}
 use Rattle.cdr_codec.proofs.Octets.{IsNumber, turned_back}
-use Rattle.cdr_codec.proofs.Laws.{AreOctets, done, failed, ok_is, Behind, behind, Takes, Stops, IsReader}
+use Rattle.cdr_codec.proofs.Laws.{AreOctets, done, failed, Takes, IsReader}
 
 given_ok : {A : Type 0} (o : Option RecordFault) (r : A) (y : A) → given {B = Result A RecordFault} o (Ok r) Err ≡ Ok y → (o ≡ None) × (r ≡ y)
 given_ok None r y e = (refl, cc)

@@ -1,19 +1,19 @@
 -- What the reader of records owes to their spellings.
-use Rattle.std.proofs.Common.{◌≡◌, ℕ, zero, suc, ◌+◌, ◌-◌, ◌<◌, ◌≤◌, Bool, true, false, cond, eqb, List, [], ◌∷◌, ◌++◌, length, get_or, take, drop, Option, Some, None, Result, Ok, Err, refl, sym, ap, subst, ◌∙◌, append_assoc, arith, ◌⊎◌, inl, inr, length-append}
-use Rattle.std.specs.Prelude.{replicate, slice_get, IfOk, IfErr, MatchResult}
+use Rattle.std.proofs.Common.{◌≡◌, ℕ, zero, suc, ◌+◌, ◌≤◌, Bool, true, false, cond, eqb, List, [], ◌∷◌, ◌++◌, length, take, drop, Some, None, Result, Ok, Err, refl, sym, ap, subst, ◌∙◌, arith, ◌⊎◌, inl, inr, length-append}
+use Rattle.std.specs.Prelude.{replicate, IfOk, IfErr, MatchResult}
 use Rattle.std.proofs.lemmas.Bool.{eqb-true, eqb-false, eq-eqb, ne_eqb, le-ltb}
 use Rattle.std.proofs.lemmas.List.{append-nil, drop_at, take_at, take-take, take-append-drop, drop-take, length-take, length-drop}
 use Rattle.std.proofs.Math.Seq.{drop-length}
 use Rattle.byteorder.specs.Endian.{big_bytes}
 use Rattle.type_layout.specs.Types.{PlainType, Short, Long, LongLong, UShort, ULong, ULongLong, Char, Boolean, Octet, Str, Seq, Arr, Struct, Enum, RefTo, PlainFields, no_fields, field_and, PlainValue, Int, Character, Truth, Ordinal, Text, Items, Parts, Ref, PlainValues, no_values, value_and, values_of, PlainMember}
 use Rattle.type_layout.specs.Values.{IsRecord, layout_fields, count}
-use Rattle.type_layout.specs.Sound.{IsSound, AreSound, IsSoundLayout}
+use Rattle.type_layout.specs.Sound.{AreSound, IsSoundLayout}
 use Rattle.type_layout.specs.Spelling.{gap, padding, each, spelling, spellings, record_spelling}
 use Rattle.cdr_codec.specs.declared.fault.RecordFault.{RecordFault}
 use Rattle.cdr_codec.specs.declared.fault.RecordFault.TheVariants.{Rest, NoMemory}
-use Rattle.cdr_codec.specs.Primitives.{One, Two, Four, Eight, Primitive, Flag, Pad, Plain, Logical, Enumerator, TextLength, ItemCount, Home, Serial, width_of, Piece, joined, size_of, followed, pads, aligned, letters, home_of, serial_of, each_piece, pieces, field_pieces, record_pieces, judged, refusal, IsRefusedAmong, Agree, RefusesOne, HasRest, IsRefused}
-use Rattle.cdr_codec.specs.Reading.{◌>>=◌, Reader, judged_at, fields_at, members_at, record_at, Answers}
-use Rattle.cdr_codec.proofs.Laws.{AreOctets, done, failed, bind_id, ok_is, bind_ok, bind_err, joined-append, Takes, Stops, IsReader, both_law}
+use Rattle.cdr_codec.specs.Primitives.{One, Two, Four, Eight, Primitive, Flag, Plain, Logical, Enumerator, TextLength, ItemCount, Home, Serial, width_of, Piece, joined, size_of, followed, pads, aligned, letters, each_piece, pieces, field_pieces, judged, refusal, IsRefusedAmong, Agree, HasRest, IsRefused}
+use Rattle.cdr_codec.specs.Reading.{◌>>=◌, judged_at, fields_at, members_at, record_at, Answers}
+use Rattle.cdr_codec.proofs.Laws.{AreOctets, done, failed, bind_id, ok_is, bind_ok, bind_err, joined-append, IsReader, both_law}
 use Rattle.cdr_codec.proofs.Ones.{MayBe}
 use Rattle.cdr_codec.proofs.Types.{judged_law, bind_same, no_pad, FieldsAre, fields_law}
 
@@ -74,11 +74,11 @@ mutual
 
 -- ---- members
 
-sound_fields : (members : List PlainMember) → IsSoundLayout members → AreSound (layout_fields members)
+pub sound_fields : (members : List PlainMember) → IsSoundLayout members → AreSound (layout_fields members)
 sound_fields [] sound = tt
 sound_fields (m ∷ ms) sound = (sound 0 m refl, sound_fields ms (λ i n e. sound (suc i) n e))
 
-abbrev record_spelled : List PlainMember → List PlainValue → ℕ → List Piece
+abbrev pub record_spelled : List PlainMember → List PlainValue → ℕ → List Piece
 record_spelled members vs at = followed (aligned Flag 0 at) (field_pieces (layout_fields members) (values_of vs)) at
 
 members_law : (members : List PlainMember) → AreSound (layout_fields members) → IsReader (members_at members) (record_spelled members) (IsRecord members)
@@ -89,7 +89,7 @@ members_law members sound = both_law (judged_at Flag) (aligned Flag) (MayBe Flag
     (λ n vs f g. (g, (λ at. ap (λ (k : ℕ). followed (aligned Flag k at) (field_pieces (layout_fields members) (values_of vs)) at) (sym (no_pad n f.1)))))
     (λ vs f. (0, vs, (omega arith, refl), f, refl))
 
-spelled_is : (members : List PlainMember) (vs : List PlainValue) → joined (record_spelled members vs 0) ≡ record_spelling members vs
+pub spelled_is : (members : List PlainMember) (vs : List PlainValue) → joined (record_spelled members vs 0) ≡ record_spelling members vs
 spelled_is members vs = ap (λ (l : List ℕ). 0 ∷ l) (joined-field_pieces (layout_fields members) (values_of vs) 1)
 
 -- ---- records

@@ -1,7 +1,7 @@
 -- How large a type is, and how many values there are.
 use Rattle.std.proofs.Common.{◌≡◌, ℕ, ◌+◌, List, [], ◌∷◌, length, map, refl, arith}
 use Rattle.type_layout.specs.declared.value.Value.{Value}
-use Rattle.type_layout.specs.Types.{PlainType, Short, Long, LongLong, UShort, ULong, ULongLong, Char, Boolean, Octet, Str, Seq, Arr, Struct, Enum, RefTo, PlainFields, no_fields, field_and, values_of}
+use Rattle.type_layout.specs.Types.{PlainType, Seq, Arr, Struct, PlainFields, no_fields, field_and, values_of}
 use Rattle.type_layout.specs.Values.{count}
 use Rattle.type_layout.specs.Views.{plain_value}
 

@@ -1,17 +1,16 @@
 -- What the reader of a string's octets owes to them.
-use Rattle.std.proofs.Common.{◌≡◌, ℕ, zero, suc, ◌+◌, ◌-◌, ◌<◌, ◌≤◌, Bool, true, false, cond, eqb, ltb, List, [], ◌∷◌, ◌++◌, length, get_or, take, drop, Option, Some, None, Result, Ok, Err, refl, sym, ap, subst, ◌∙◌, append_assoc, arith, length-append, add-one}
-use Rattle.std.specs.Prelude.{slice_range, slice_index, replicate, nat_lt, ◌==◌, ◌||◌}
-use Rattle.std.specs.List.{position, position_from, list_any}
-use Rattle.std.proofs.lemmas.Bool.{ltb-false, ltb-true, le-ltb, lt-ltb, eqb-true, eq-eqb}
-use Rattle.std.proofs.lemmas.List.{append-nil, take_at, take-take, length-drop, length-take, length-replicate, get_or-drop, get_or-take, get_or-append_right, drop-drop}
+use Rattle.std.proofs.Common.{◌≡◌, ℕ, zero, suc, ◌+◌, ◌-◌, ◌<◌, ◌≤◌, Bool, true, false, cond, eqb, ltb, List, [], ◌∷◌, ◌++◌, length, get_or, take, drop, Option, Some, None, Result, Ok, Err, refl, sym, ap, ◌∙◌, append_assoc, arith, length-append}
+use Rattle.std.specs.Prelude.{replicate, ◌==◌, ◌||◌}
+use Rattle.std.specs.List.{position, position_from}
+use Rattle.std.proofs.lemmas.Bool.{ltb-false, ltb-true, le-ltb, lt-ltb, eqb-true}
+use Rattle.std.proofs.lemmas.List.{take_at, take-take, length-drop, length-take, length-replicate, get_or-drop, get_or-take, get_or-append_right}
 use Rattle.std.proofs.Math.Seq.{take-suc}
 use Rattle.std.proofs.lemmas.Iterator.Adapters.{position_from-zero}
 use Rattle.type_layout.specs.Values.{has_zero}
-use Rattle.byteorder.specs.Endian.{big_number}
 use Rattle.cdr_codec.specs.declared.fault.RecordFault.{RecordFault}
 use Rattle.cdr_codec.specs.declared.fault.RecordFault.TheVariants as fault
-use Rattle.cdr_codec.specs.Primitives.{Letters, given, wrong_letter, judged, refusal, Piece, letters}
-use Rattle.cdr_codec.specs.Reading.{◌>>=◌, Reader, plain_at, letters_at}
+use Rattle.cdr_codec.specs.Primitives.{Letters, given, judged, refusal, letters}
+use Rattle.cdr_codec.specs.Reading.{plain_at, letters_at}
 use Rattle.cdr_codec.proofs.Octets.{first_octet}
 use Rattle.cdr_codec.proofs.Laws.{AreOctets, done, failed, bind_id, IsReader, seen_law}
 use Rattle.cdr_codec.proofs.Ones.{piece_law}

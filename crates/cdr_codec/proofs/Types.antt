@@ -1,6 +1,6 @@
 -- What the readers of values owe to the pieces of values.
-use Rattle.std.proofs.Common.{◌≡◌, ℕ, zero, suc, ◌+◌, ◌-◌, ◌^◌, ◌<◌, ◌≤◌, Bool, true, false, cond, eqb, ltb, List, [], ◌∷◌, ◌++◌, length, drop, take, Option, Some, None, Result, Ok, Err, refl, sym, ap, subst, ◌∙◌, arith, ◌⊎◌, inl, inr, ℤ, pos, negsuc, Fits, rules}
-use Rattle.std.specs.Prelude.{FitsSigned, replicate, not, nat_lt, ◌==◌, ◌||◌, ◌&&◌, ◌≤ℤ◌, ◌<ℤ◌}
+use Rattle.std.proofs.Common.{◌≡◌, ℕ, zero, suc, ◌+◌, ◌-◌, ◌^◌, ◌<◌, ◌≤◌, Bool, true, false, cond, eqb, ltb, List, [], ◌∷◌, length, Option, Some, None, Result, Ok, Err, refl, sym, ap, subst, ◌∙◌, arith, pos, negsuc, Fits, rules}
+use Rattle.std.specs.Prelude.{FitsSigned, not, ◌||◌, ◌&&◌}
 use Rattle.std.specs.Int.{w8, w16, w32, w64, FitsUnsigned, cast_signed, cast_unsigned, from_bool}
 use Rattle.std.proofs.lemmas.Bool.{ltb-false, ltb-true, le-ltb, lt-ltb, eqb-true, eq-eqb}
 use Rattle.std.proofs.lemmas.Int.{of_z-to_z, to_z-of_z, ints}
@@ -14,10 +14,10 @@ use Rattle.type_layout.specs.Sound.{IsSound, AreSound, Rise}
 use Rattle.type_layout.specs.Spelling.{gap}
 use Rattle.cdr_codec.specs.declared.fault.RecordFault.{RecordFault}
 use Rattle.cdr_codec.specs.declared.fault.Found.{Found}
-use Rattle.cdr_codec.specs.Primitives.{One, Two, Four, Eight, Primitive, Flag, Pad, Plain, Logical, Enumerator, TextLength, ItemCount, Home, Serial, Letters, width_of, refuses, fault_at, Piece, joined, size_of, followed, pads, aligned, letters, home_of, serial_of, each_piece, pieces, field_pieces}
+use Rattle.cdr_codec.specs.Primitives.{One, Two, Four, Eight, Primitive, Pad, Plain, Logical, Enumerator, TextLength, ItemCount, Home, Serial, width_of, refuses, fault_at, Piece, followed, pads, aligned, letters, home_of, serial_of, each_piece, pieces, field_pieces}
 use Rattle.cdr_codec.specs.Reading.{◌>>=◌, Reader, plain_at, one_at, pads_at, found_at, judged_at, letters_at, text_at, times_at, items_at, pid_of, pid_at, value_at, fields_at}
 use Rattle.cdr_codec.proofs.Octets.{IsNumber}
-use Rattle.cdr_codec.proofs.Laws.{done, bind_id, Stops, IsReader, nothing_law, both_law, seen_law}
+use Rattle.cdr_codec.proofs.Laws.{done, bind_id, IsReader, nothing_law, both_law, seen_law}
 use Rattle.cdr_codec.proofs.Ones.{MayBe, one_law}
 use Rattle.cdr_codec.proofs.Texts.{IsText, letters_law}
 
@@ -108,7 +108,7 @@ none_over bound = ap (λ (t : Bool). not (eqb bound 0) && t) (le-ltb bound 0 (om
     by_test false = refl
 
 -- a string within its bound
-abbrev IsShort : ℕ → List ℕ → Type 0
+abbrev pub IsShort : ℕ → List ℕ → Type 0
 IsShort bound bytes = (has_zero bytes ≡ false) × (is_over bound (length bytes) ≡ false) × (length bytes + 1 < 2 ^ 32)
 
 or_false : (a b : Bool) → (a || b) ≡ false → (a ≡ false) × (b ≡ false)
@@ -126,6 +126,12 @@ above_zero m h = by_test (eqb m 0) refl
     by_test true test = (let no : m ≡ 0 = eqb-true m 0 test in absurd (omega arith))
     by_test false test = test
 
+pub may_measure : (bound : ℕ) (t : List ℕ) → IsShort bound t → MayBe (TextLength bound) (length t + 1)
+may_measure bound t f =
+    let less : length t + 1 - 1 ≡ length t = omega arith in
+    let first = above_zero (length t + 1) (omega arith) in
+    (omega (arith, f.2), rw (first, less) f.1)
+
 text_law : (bound : ℕ) → IsReader (text_at bound) (λ bytes at. followed (aligned (TextLength bound) (length bytes + 1) at) (λ next. letters bytes) at) (IsShort bound)
 unfolding text_at
 text_law bound = both_law (judged_at (TextLength bound)) (aligned (TextLength bound)) (MayBe (TextLength bound)) (λ n. letters_at (n - 1)) (λ n t at. letters t) (λ n. IsText (n - 1)) (text_at bound) (λ bytes at. followed (aligned (TextLength bound) (length bytes + 1) at) (λ next. letters bytes) at) (IsShort bound) (λ n t. t)
@@ -140,10 +146,7 @@ text_law bound = both_law (judged_at (TextLength bound)) (aligned (TextLength bo
         ((g.0, ap (is_over bound) g.1 ∙ tests.1, omega (arith, is, f.0)), (λ at. ap (λ (k : ℕ). followed (aligned (TextLength bound) k at) (λ next. letters t) at) (sym is)))
 
     back : (t : List ℕ) → IsShort bound t → (n : ℕ) × (u : List ℕ) × MayBe (TextLength bound) n × IsText (n - 1) u × (u ≡ t)
-    back t f =
-        let less : length t + 1 - 1 ≡ length t = omega arith in
-        let first = above_zero (length t + 1) (omega arith) in
-        (length t + 1, t, (omega (arith, f.2), rw (first, less) f.1), (f.0, sym less), refl)
+    back t f = (let less : length t + 1 - 1 ≡ length t = omega arith in (length t + 1, t, may_measure bound t f, (f.0, sym less), refl))
 
 -- ---- sequences and arrays
 
@@ -209,6 +212,10 @@ listed false false none e = absurd cc
 abbrev pid_spelled : List HomeNo → Option Pid → ℕ → List Piece
 pid_spelled homes pid at = followed (aligned (Home homes) (home_of pid) at) (aligned (Serial (home_of pid)) (serial_of pid)) at
 
+pub may_lead : (homes : List HomeNo) (pid : Option Pid) → LeadsTo homes pid → MayBe (Home homes) (home_of pid)
+may_lead homes None f = (omega arith, refl)
+may_lead homes (Some pid) f = (omega (arith, f.1), or_true (eqb pid.home 0) (lists homes pid.home) f.0)
+
 pid_law : (homes : List HomeNo) → Rise 0 homes → IsReader (pid_at homes) (pid_spelled homes) (LeadsTo homes)
 unfolding pid_at
 pid_law homes rise = both_law (judged_at (Home homes)) (aligned (Home homes)) (MayBe (Home homes)) (λ h. judged_at (Serial h)) (λ h. aligned (Serial h)) (λ h. MayBe (Serial h)) (pid_at homes) (pid_spelled homes) (LeadsTo homes) pid_of
@@ -237,7 +244,7 @@ pid_law homes rise = both_law (judged_at (Home homes)) (aligned (Home homes)) (M
         let above = listed_above 0 pid.home homes rise named in
         let first = above_zero pid.home above in
         let second = above_zero pid.serial f.2 in
-        (pid.home, pid.serial, (omega (arith, f.1), or_true (eqb pid.home 0) (lists homes pid.home) named), (omega (arith, f.3), rw first second), rw first refl)
+        (pid.home, pid.serial, may_lead homes (Some pid) f, (omega (arith, f.3), rw first second), rw first refl)
 
 -- ---- values
 

@@ -1,3 +1,5 @@
 pub mod Primitives
 pub mod Reading
+pub mod Taken
+pub mod Steps
 pub mod Lengths

@@ -1,11 +1,11 @@
 -- Reading from left to right, with the first fault that is met.
-use Rattle.std.specs.Prelude.{◌≡◌, ◌⊎◌, ◌+◌, ◌-◌, ◌≤◌, ◌%◌, ℕ, zero, suc, ℤ, pos, List, [], ◌∷◌, length, drop, slice_range, Result, Ok, Err, Option, Some, None, nat_lt, ◌==◌, if◌then◌else◌, Bool}
+use Rattle.std.specs.Prelude.{◌≡◌, ◌⊎◌, ◌+◌, ◌-◌, ◌≤◌, ℕ, zero, suc, pos, List, [], ◌∷◌, length, drop, slice_range, Result, Ok, Err, Option, Some, None, nat_lt, ◌==◌, if◌then◌else◌}
 use Rattle.std.specs.List.{position}
 use Rattle.std.specs.Int.{w16, w32, w64, cast_signed}
 use Rattle.byteorder.specs.Endian.{big_number}
 use Rattle.pss_base.specs.declared.pid.Pid.{Pid}
 use Rattle.type_layout.specs.declared.home.HomeNo.{HomeNo}
-use Rattle.type_layout.specs.Types.{PlainType, Short, Long, LongLong, UShort, ULong, ULongLong, Char, Boolean, Octet, Str, Seq, Arr, Struct, Enum, RefTo, PlainFields, no_fields, field_and, PlainValue, Int, Character, Truth, Ordinal, Text, Items, Parts, Ref, PlainValues, values_of, PlainMember}
+use Rattle.type_layout.specs.Types.{PlainType, Short, Long, LongLong, UShort, ULong, ULongLong, Char, Boolean, Octet, Str, Seq, Arr, Struct, Enum, RefTo, PlainFields, no_fields, field_and, PlainValue, Int, Character, Truth, Ordinal, Text, Items, Parts, Ref, values_of, PlainMember}
 use Rattle.type_layout.specs.Values.{layout_fields}
 use Rattle.type_layout.specs.Spelling.{gap}
 use Rattle.cdr_codec.specs.declared.fault.RecordFault.{RecordFault}
@@ -13,7 +13,7 @@ use Rattle.cdr_codec.specs.declared.fault.RecordFault.TheVariants as fault
 use Rattle.cdr_codec.specs.declared.fault.Stop.{Stop}
 use Rattle.cdr_codec.specs.declared.fault.Stop.TheVariants as stop
 use Rattle.cdr_codec.specs.declared.fault.Found.{Found}
-use Rattle.cdr_codec.specs.Primitives.{Size, One, Two, Four, Eight, Primitive, Flag, Pad, Plain, Logical, Enumerator, TextLength, ItemCount, Home, Serial, width_of, refuses, fault_at, given}
+use Rattle.cdr_codec.specs.Primitives.{One, Two, Four, Eight, Primitive, Flag, Pad, Plain, Logical, Enumerator, TextLength, ItemCount, Home, Serial, width_of, refuses, fault_at, given}
 
 infixl 10 ◌>>=◌
 -- a step, and the next with what the first gave

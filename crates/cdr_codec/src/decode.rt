@@ -5,7 +5,9 @@ ghost use Rattle.type_layout.specs.Members.{plain_member};
 ghost use Rattle.type_layout.specs.Values.{IsRecord};
 ghost use Rattle.type_layout.specs.Sound.{IsSoundLayout};
 ghost use Rattle.type_layout.specs.Spelling.{record_spelling};
-ghost use Rattle.cdr_codec.specs.Primitives.{IsRefused};
+ghost use Rattle.cdr_codec.specs.Primitives.{IsRefused, record_pieces};
+ghost use Rattle.cdr_codec.specs.Steps.{steps_of, steps_until};
+ghost use Rattle.cdr_codec.specs.Taken.{Took, members_take};
 ghost use Rattle.cdr_codec.specs.declared.fault.RecordFault.{RecordFault as Refusal};
 ghost use Rattle.cdr_codec.specs.Reading.{Gives, Answers, record_at};
 
@@ -22,8 +24,10 @@ use type_layout::{Layout, Record};
 /// some record of the layout has the octets up to a primitive, none has them through it, and it is
 /// refused with this fault (`refused`); and where that holds, no other answer comes (`always`).
 ///
-/// A step is one number, or one string with its length; the padding in front is part of it. There are at
-/// most as many as octets, and one more. Memory is taken for what was read, never for a length alone.
+/// A step is one number, or one string with its length; the padding in front is part of it. A record takes
+/// as many as it has of these (`taken`), and a refusal as many as stand in front of what is refused, and
+/// one for the number that was begun (`until`). There are at most as many as octets, and one more
+/// (`steps`). Memory is taken for what was read, never for a length alone.
 /// The depth of calls is that of the types.
 pub fn decode_record<L: Ledger>(
     alloc: Global,
@@ -36,6 +40,8 @@ pub fn decode_record<L: Ledger>(
     ensures refused { IsSoundLayout layout.now.members → IfErr result (λ e. (e ≡ RecordFault.NoMemory) ⊎ IsRefused layout.now.members bytes.now e) }
     ensures always { IsSoundLayout layout.now.members → (f : Refusal) → IsRefused layout.now.members bytes.now f → MatchResult result (λ v. ⊥) (λ e. (e ≡ f) ⊎ (e ≡ RecordFault.NoMemory)) }
     ensures steps { steps.new - steps.old ≤ length bytes.now + 1 }
+    ensures taken { IsSoundLayout layout.now.members → IfOk result (λ v. steps.new ≡ steps.old + steps_of (record_pieces layout.now.members v)) }
+    ensures until { IsSoundLayout layout.now.members → (f : Refusal) → (r : IsRefused layout.now.members bytes.now f) → (result ≡ Err RecordFault.NoMemory) ⊎ (steps.new ≡ steps.old + steps_until r) }
 {
     answer(alloc, layout, bytes, steps)
 }
@@ -48,6 +54,7 @@ fn answer<L: Ledger>(
 ) -> Result<Record, RecordFault>
     ensures given { Answers result (record_at layout.now.members bytes.now) }
     ensures steps { steps.new ≤ steps.old + length bytes.now + 1 }
+    ensures taken { (result ≡ Err RecordFault.NoMemory) ⊎ (steps.new ≡ steps.old + members_take layout.now.members bytes.now 0) }
 {
     match record_of(alloc, layout, bytes, steps) {
         Ok(record) => Ok(record),
@@ -56,7 +63,7 @@ fn answer<L: Ledger>(
     }
 }
 
-#[tactic(auto, unfolding(crate::specs::Reading::record_at, crate::specs::Reading::members_at))]
+#[tactic(auto, unfolding(crate::specs::Reading::record_at, crate::specs::Reading::members_at, crate::specs::Taken::members_take))]
 fn record_of<L: Ledger>(
     alloc: Global,
     layout: &Layout,
@@ -65,6 +72,7 @@ fn record_of<L: Ledger>(
 ) -> Result<Record, Stop>
     ensures given { Gives (λ x. x) result (record_at layout.now.members bytes.now) }
     ensures steps { steps.new ≤ steps.old + length bytes.now + 1 }
+    ensures taken { Took steps.old steps.new result (members_take layout.now.members bytes.now 0) }
 {
     let (_, start) = flag_of(bytes, 0, steps)?;
     let (values, after) = members_of(alloc, layout.members.as_slice(), bytes, start, steps)?;

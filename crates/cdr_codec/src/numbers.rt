@@ -1,5 +1,5 @@
 // Numbers, each behind its padding.
-ghost use Rattle.std.specs.Prelude.{◌≡◌, ◌≤◌, ◌+◌, ◌-◌, ◌<◌, ◌^◌, length, IfOk};
+ghost use Rattle.std.specs.Prelude.{◌≡◌, ◌≤◌, ◌+◌, ◌-◌, ◌<◌, ◌^◌, ◌==◌, length, IfOk};
 ghost use Rattle.byteorder.specs.Endian.{big_number};
 ghost use Rattle.type_layout.specs.Spelling.{gap};
 ghost use Rattle.cdr_codec.specs.Reading.{Gives, pads_at, plain_at, found_at};
@@ -8,6 +8,9 @@ use crate::fault::{Found, RecordFault, Stop};
 use byteorder::{BigEndian, ByteOrder};
 use pss_base::Steps;
 use std::sync::ledger::Ledger;
+
+// The octet in front of a number that does not begin behind the one before it.
+const PADDING: u8 = 0;
 
 // The answer where the octets end.
 pub(crate) fn short(bytes: &[u8]) -> Stop
@@ -28,6 +31,12 @@ pub(crate) fn octet_of(bytes: &[u8], at: usize) -> Result<(u8, usize), Stop>
     Ok((bytes[at], at + 1))
 }
 
+fn is_padding(byte: u8) -> bool
+    ensures { result ≡ (byte == 0) }
+{
+    byte == PADDING
+}
+
 #[tactic(auto, unfolding(crate::specs::Reading::pads_at, crate::specs::Reading::one_at))]
 fn pads_of(bytes: &[u8], width: usize, at: usize) -> Result<usize, Stop>
     requires place { at ≤ length bytes.now }
@@ -38,7 +47,7 @@ fn pads_of(bytes: &[u8], width: usize, at: usize) -> Result<usize, Stop>
     let mut place = at;
     for _ in 0..(width - at % width) % width {
         let (byte, after) = octet_of(bytes, place)?;
-        if byte != 0 {
+        if !is_padding(byte) {
             return Err(Stop::Fault(RecordFault::BadPad(place as u64)));
         }
         place = after;

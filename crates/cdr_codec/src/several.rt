@@ -5,6 +5,7 @@ ghost use Rattle.type_layout.specs.Views.{plain_type, plain_field, plain_value, 
 ghost use Rattle.type_layout.specs.Members.{plain_member};
 ghost use Rattle.type_layout.specs.Values.{layout_fields};
 ghost use Rattle.cdr_codec.specs.Reading.{Gives, Advances, text_at, letters_at, times_at, items_at, pid_at, pid_of as identifier, value_at, fields_at};
+ghost use Rattle.cdr_codec.specs.Taken.{Took, pid_takes, times_take, items_take, value_takes, fields_take};
 
 use crate::fault::{RecordFault, Stop};
 use crate::numbers::{octet_of, short};
@@ -66,6 +67,7 @@ fn text_of<L: Ledger>(
     ensures given { Gives (λ x. (x.0, x.1)) result (text_at bound bytes.now at) }
     ensures within { IfOk result (λ x. (at ≤ x.1) × (x.1 ≤ length bytes.now)) }
     ensures steps { Advances at (length bytes.now) steps.old steps.new result }
+    ensures taken { Took steps.old steps.new result 1 }
 {
     let (count, after) = text_length_of(bytes, at, bound, steps)?;
     letters_of(alloc, count - 1, bytes, after)
@@ -84,7 +86,7 @@ fn pid_from(home: u64, serial: u64) -> Option<Pid>
     })
 }
 
-#[tactic(auto, unfolding(crate::specs::Reading::pid_at))]
+#[tactic(auto, unfolding(crate::specs::Reading::pid_at, crate::specs::Taken::pid_takes))]
 fn reference_of<L: Ledger>(
     homes: &HomeNos,
     bytes: &[u8],
@@ -95,6 +97,7 @@ fn reference_of<L: Ledger>(
     ensures given { Gives (λ x. (x.0, x.1)) result (pid_at homes.now bytes.now at) }
     ensures within { IfOk result (λ x. (at ≤ x.1) × (x.1 ≤ length bytes.now)) }
     ensures steps { Advances at (length bytes.now) steps.old steps.new result }
+    ensures taken { Took steps.old steps.new result (pid_takes homes.now bytes.now at) }
 {
     let (home, middle) = home_of(bytes, at, homes.as_slice(), steps)?;
     let (serial, after) = serial_of(bytes, middle, home, steps)?;
@@ -102,7 +105,7 @@ fn reference_of<L: Ledger>(
 }
 
 #[cycle(value)]
-#[tactic(auto, unfolding(crate::specs::Reading::value_at))]
+#[tactic(auto, unfolding(crate::specs::Reading::value_at, crate::specs::Taken::value_takes))]
 fn value_of<L: Ledger>(
     alloc: Global,
     ty: &Ty,
@@ -114,6 +117,7 @@ fn value_of<L: Ledger>(
     ensures given { Gives (λ x. (plain_value x.0, x.1)) result (value_at (plain_type ty.now) bytes.now at) }
     ensures within { IfOk result (λ x. (at ≤ x.1) × (x.1 ≤ length bytes.now)) }
     ensures steps { Advances at (length bytes.now) steps.old steps.new result }
+    ensures taken { Took steps.old steps.new result (value_takes (plain_type ty.now) bytes.now at) }
 {
     match ty {
         Ty::Short => short_of(bytes, at, steps),
@@ -144,7 +148,7 @@ fn value_of<L: Ledger>(
 }
 
 #[cycle(value)]
-#[tactic(auto, unfolding(crate::specs::Reading::value_at))]
+#[tactic(auto, unfolding(crate::specs::Reading::value_at, crate::specs::Taken::value_takes))]
 fn sequence_of<L: Ledger>(
     alloc: Global,
     item: &Ty,
@@ -157,13 +161,14 @@ fn sequence_of<L: Ledger>(
     ensures given { Gives (λ x. (plain_value x.0, x.1)) result (value_at (Seq (plain_type item.now) bound) bytes.now at) }
     ensures within { IfOk result (λ x. (at ≤ x.1) × (x.1 ≤ length bytes.now)) }
     ensures steps { Advances at (length bytes.now) steps.old steps.new result }
+    ensures taken { Took steps.old steps.new result (value_takes (Seq (plain_type item.now) bound) bytes.now at) }
 {
     let (items, after) = items_of(alloc, item, bound, bytes, at, steps)?;
     Ok((Value::List(items), after))
 }
 
 #[cycle(value)]
-#[tactic(auto, unfolding(crate::specs::Reading::value_at))]
+#[tactic(auto, unfolding(crate::specs::Reading::value_at, crate::specs::Taken::value_takes))]
 fn array_of<L: Ledger>(
     alloc: Global,
     item: &Ty,
@@ -176,13 +181,14 @@ fn array_of<L: Ledger>(
     ensures given { Gives (λ x. (plain_value x.0, x.1)) result (value_at (Arr (plain_type item.now) count) bytes.now at) }
     ensures within { IfOk result (λ x. (at ≤ x.1) × (x.1 ≤ length bytes.now)) }
     ensures steps { Advances at (length bytes.now) steps.old steps.new result }
+    ensures taken { Took steps.old steps.new result (value_takes (Arr (plain_type item.now) count) bytes.now at) }
 {
     let (items, after) = times_of(alloc, item, u64::from(count), bytes, at, steps)?;
     Ok((Value::List(items), after))
 }
 
 #[cycle(value)]
-#[tactic(auto, unfolding(crate::specs::Reading::items_at))]
+#[tactic(auto, unfolding(crate::specs::Reading::items_at, crate::specs::Taken::items_take))]
 fn items_of<L: Ledger>(
     alloc: Global,
     item: &Ty,
@@ -195,6 +201,7 @@ fn items_of<L: Ledger>(
     ensures given { Gives (λ x. (plain_values x.0, x.1)) result (items_at (value_at (plain_type item.now)) bound bytes.now at) }
     ensures within { IfOk result (λ x. (at ≤ x.1) × (x.1 ≤ length bytes.now)) }
     ensures steps { Advances at (length bytes.now) steps.old steps.new result }
+    ensures taken { Took steps.old steps.new result (items_take (value_at (plain_type item.now)) (value_takes (plain_type item.now)) bound bytes.now at) }
 {
     let (count, after) = item_count_of(bytes, at, bound, steps)?;
     times_of(alloc, item, count, bytes, after, steps)
@@ -214,6 +221,7 @@ fn times_of<L: Ledger>(
     ensures given { Gives (λ x. (plain_values x.0, x.1)) result (times_at (value_at (plain_type item.now)) count bytes.now at) }
     ensures within { IfOk result (λ x. (at ≤ x.1) × (x.1 ≤ length bytes.now)) }
     ensures steps { Advances at (length bytes.now) steps.old steps.new result }
+    ensures taken { Took steps.old steps.new result (times_take (value_at (plain_type item.now)) (value_takes (plain_type item.now)) count bytes.now at) }
 {
     let mut values = Values::new(alloc);
     let mut place = at;
@@ -237,6 +245,7 @@ fn field_of<L: Ledger>(
     ensures given { Gives (λ x. (plain_value x.0, x.1)) result (value_at (plain_field field.now).type bytes.now at) }
     ensures within { IfOk result (λ x. (at ≤ x.1) × (x.1 ≤ length bytes.now)) }
     ensures steps { Advances at (length bytes.now) steps.old steps.new result }
+    ensures taken { Took steps.old steps.new result (value_takes (plain_field field.now).type bytes.now at) }
 {
     value_of(alloc, &field.ty, bytes, at, steps)
 }
@@ -253,6 +262,7 @@ fn fields_of<L: Ledger>(
     ensures given { Gives (λ x. (plain_values x.0, x.1)) result (fields_at (listed_fields (map plain_field fields.now)) bytes.now at) }
     ensures within { IfOk result (λ x. (at ≤ x.1) × (x.1 ≤ length bytes.now)) }
     ensures steps { Advances at (length bytes.now) steps.old steps.new result }
+    ensures taken { Took steps.old steps.new result (fields_take (listed_fields (map plain_field fields.now)) bytes.now at) }
 {
     let mut values = Values::new(alloc);
     let mut place = at;
@@ -275,6 +285,7 @@ pub(crate) fn members_of<L: Ledger>(
     ensures given { Gives (λ x. (plain_values x.0, x.1)) result (fields_at (layout_fields (map plain_member members.now)) bytes.now at) }
     ensures within { IfOk result (λ x. (at ≤ x.1) × (x.1 ≤ length bytes.now)) }
     ensures steps { Advances at (length bytes.now) steps.old steps.new result }
+    ensures taken { Took steps.old steps.new result (fields_take (layout_fields (map plain_member members.now)) bytes.now at) }
 {
     let mut values = Values::new(alloc);
     let mut place = at;

@@ -5,6 +5,7 @@ ghost use Rattle.type_layout.specs.Views.{plain_value};
 ghost use Rattle.type_layout.specs.Values.{is_over as passes_bound, lists as lists_home};
 ghost use Rattle.cdr_codec.specs.Primitives.{Flag, TextLength, ItemCount, Home, Serial};
 ghost use Rattle.cdr_codec.specs.Reading.{Gives, Advances, judged_at, value_at};
+ghost use Rattle.cdr_codec.specs.Taken.{Took};
 
 use crate::fault::{RecordFault, Stop};
 use crate::numbers::number_of;
@@ -22,6 +23,7 @@ pub(crate) fn flag_of<L: Ledger>(
     ensures given { Gives (λ x. (x.0, x.1)) result (judged_at Flag bytes.now at) }
     ensures within { IfOk result (λ x. (at ≤ x.1) × (x.1 ≤ length bytes.now)) }
     ensures steps { Advances at (length bytes.now) steps.old steps.new result }
+    ensures taken { Took steps.old steps.new result 1 }
 {
     let found = number_of(bytes, 1, at, steps)?;
     if found.number != 0 {
@@ -40,6 +42,7 @@ pub(crate) fn short_of<L: Ledger>(
     ensures given { Gives (λ x. (plain_value x.0, x.1)) result (value_at Short bytes.now at) }
     ensures within { IfOk result (λ x. (at ≤ x.1) × (x.1 ≤ length bytes.now)) }
     ensures steps { Advances at (length bytes.now) steps.old steps.new result }
+    ensures taken { Took steps.old steps.new result 1 }
 {
     let found = number_of(bytes, 2, at, steps)?;
     Ok((
@@ -58,6 +61,7 @@ pub(crate) fn long_of<L: Ledger>(
     ensures given { Gives (λ x. (plain_value x.0, x.1)) result (value_at Long bytes.now at) }
     ensures within { IfOk result (λ x. (at ≤ x.1) × (x.1 ≤ length bytes.now)) }
     ensures steps { Advances at (length bytes.now) steps.old steps.new result }
+    ensures taken { Took steps.old steps.new result 1 }
 {
     let found = number_of(bytes, 4, at, steps)?;
     Ok((
@@ -76,6 +80,7 @@ pub(crate) fn long_long_of<L: Ledger>(
     ensures given { Gives (λ x. (plain_value x.0, x.1)) result (value_at LongLong bytes.now at) }
     ensures within { IfOk result (λ x. (at ≤ x.1) × (x.1 ≤ length bytes.now)) }
     ensures steps { Advances at (length bytes.now) steps.old steps.new result }
+    ensures taken { Took steps.old steps.new result 1 }
 {
     let found = number_of(bytes, 8, at, steps)?;
     Ok((
@@ -94,6 +99,7 @@ pub(crate) fn ushort_of<L: Ledger>(
     ensures given { Gives (λ x. (plain_value x.0, x.1)) result (value_at UShort bytes.now at) }
     ensures within { IfOk result (λ x. (at ≤ x.1) × (x.1 ≤ length bytes.now)) }
     ensures steps { Advances at (length bytes.now) steps.old steps.new result }
+    ensures taken { Took steps.old steps.new result 1 }
 {
     let found = number_of(bytes, 2, at, steps)?;
     Ok((Value::Int(i128::from(found.number)), found.after))
@@ -109,6 +115,7 @@ pub(crate) fn ulong_of<L: Ledger>(
     ensures given { Gives (λ x. (plain_value x.0, x.1)) result (value_at ULong bytes.now at) }
     ensures within { IfOk result (λ x. (at ≤ x.1) × (x.1 ≤ length bytes.now)) }
     ensures steps { Advances at (length bytes.now) steps.old steps.new result }
+    ensures taken { Took steps.old steps.new result 1 }
 {
     let found = number_of(bytes, 4, at, steps)?;
     Ok((Value::Int(i128::from(found.number)), found.after))
@@ -124,6 +131,7 @@ pub(crate) fn ulong_long_of<L: Ledger>(
     ensures given { Gives (λ x. (plain_value x.0, x.1)) result (value_at ULongLong bytes.now at) }
     ensures within { IfOk result (λ x. (at ≤ x.1) × (x.1 ≤ length bytes.now)) }
     ensures steps { Advances at (length bytes.now) steps.old steps.new result }
+    ensures taken { Took steps.old steps.new result 1 }
 {
     let found = number_of(bytes, 8, at, steps)?;
     Ok((Value::Int(i128::from(found.number)), found.after))
@@ -139,6 +147,7 @@ pub(crate) fn octet_value_of<L: Ledger>(
     ensures given { Gives (λ x. (plain_value x.0, x.1)) result (value_at Octet bytes.now at) }
     ensures within { IfOk result (λ x. (at ≤ x.1) × (x.1 ≤ length bytes.now)) }
     ensures steps { Advances at (length bytes.now) steps.old steps.new result }
+    ensures taken { Took steps.old steps.new result 1 }
 {
     let found = number_of(bytes, 1, at, steps)?;
     Ok((Value::Int(i128::from(found.number)), found.after))
@@ -154,6 +163,7 @@ pub(crate) fn char_of<L: Ledger>(
     ensures given { Gives (λ x. (plain_value x.0, x.1)) result (value_at Char bytes.now at) }
     ensures within { IfOk result (λ x. (at ≤ x.1) × (x.1 ≤ length bytes.now)) }
     ensures steps { Advances at (length bytes.now) steps.old steps.new result }
+    ensures taken { Took steps.old steps.new result 1 }
 {
     let found = number_of(bytes, 1, at, steps)?;
     Ok((Value::Char(found.number as u8), found.after))
@@ -169,6 +179,7 @@ pub(crate) fn boolean_of<L: Ledger>(
     ensures given { Gives (λ x. (plain_value x.0, x.1)) result (value_at Boolean bytes.now at) }
     ensures within { IfOk result (λ x. (at ≤ x.1) × (x.1 ≤ length bytes.now)) }
     ensures steps { Advances at (length bytes.now) steps.old steps.new result }
+    ensures taken { Took steps.old steps.new result 1 }
 {
     let found = number_of(bytes, 1, at, steps)?;
     if found.number > 1 {
@@ -188,6 +199,7 @@ pub(crate) fn enumerator_of<L: Ledger>(
     ensures given { Gives (λ x. (plain_value x.0, x.1)) result (value_at (Enum names.now) bytes.now at) }
     ensures within { IfOk result (λ x. (at ≤ x.1) × (x.1 ≤ length bytes.now)) }
     ensures steps { Advances at (length bytes.now) steps.old steps.new result }
+    ensures taken { Took steps.old steps.new result 1 }
 {
     let found = number_of(bytes, 4, at, steps)?;
     if found.number >= names.as_slice().len() as u64 {
@@ -214,6 +226,7 @@ pub(crate) fn text_length_of<L: Ledger>(
     ensures within { IfOk result (λ x. (at ≤ x.1) × (x.1 ≤ length bytes.now)) }
     ensures counts { IfOk result (λ x. (1 ≤ x.0) × (x.0 < 2 ^ 32)) }
     ensures steps { Advances at (length bytes.now) steps.old steps.new result }
+    ensures taken { Took steps.old steps.new result 1 }
 {
     let found = number_of(bytes, 4, at, steps)?;
     if found.number == 0 {
@@ -236,6 +249,7 @@ pub(crate) fn item_count_of<L: Ledger>(
     ensures given { Gives (λ x. (x.0, x.1)) result (judged_at (ItemCount bound) bytes.now at) }
     ensures within { IfOk result (λ x. (at ≤ x.1) × (x.1 ≤ length bytes.now)) }
     ensures steps { Advances at (length bytes.now) steps.old steps.new result }
+    ensures taken { Took steps.old steps.new result 1 }
 {
     let found = number_of(bytes, 4, at, steps)?;
     if is_over(bound, found.number) {
@@ -262,6 +276,7 @@ pub(crate) fn home_of<L: Ledger>(
     ensures within { IfOk result (λ x. (at ≤ x.1) × (x.1 ≤ length bytes.now)) }
     ensures small { IfOk result (λ x. x.0 < 2 ^ 32) }
     ensures steps { Advances at (length bytes.now) steps.old steps.new result }
+    ensures taken { Took steps.old steps.new result 1 }
 {
     let found = number_of(bytes, 4, at, steps)?;
     if found.number != 0 && !lists(homes, found.number) {
@@ -281,6 +296,7 @@ pub(crate) fn serial_of<L: Ledger>(
     ensures given { Gives (λ x. (x.0, x.1)) result (judged_at (Serial home) bytes.now at) }
     ensures within { IfOk result (λ x. (at ≤ x.1) × (x.1 ≤ length bytes.now)) }
     ensures steps { Advances at (length bytes.now) steps.old steps.new result }
+    ensures taken { Took steps.old steps.new result 1 }
 {
     let found = number_of(bytes, 8, at, steps)?;
     if (home == 0) != (found.number == 0) {

@@ -4,6 +4,8 @@ ghost use Rattle.type_layout.specs.Members.{plain_member};
 ghost use Rattle.type_layout.specs.Views.{plain_value};
 ghost use Rattle.type_layout.specs.Values.{IsRecord};
 
+mod flips;
+
 use crate::{RecordFault, decode_record, encode_record, record_len};
 use pss_base::{Bytes, NoMemory, Pid, Steps};
 use std::alloc::Global;
@@ -572,7 +574,9 @@ fn both_ways<L: Ledger>(rt: &impl Abort, alloc: Global, blank: Blank) -> Result<
     all_both_ways(rt, alloc, &second_cases(), &mut steps)?;
     all_both_ways(rt, alloc, &third_cases(), &mut steps)?;
     all_both_ways(rt, alloc, &fourth_cases(), &mut steps)?;
-    all_both_ways(rt, alloc, &last_cases(), &mut steps)
+    all_both_ways(rt, alloc, &last_cases(), &mut steps)?;
+    assert_eq!(rt; steps.count(), 489);
+    Ok(())
 }
 
 // A layout, octets, and why they are no record of it.
@@ -683,7 +687,9 @@ fn refused<L: Ledger>(rt: &impl Abort, alloc: Global, blank: Blank) -> Result<()
     let mut steps = Steps::<L>::new(blank);
     all_refused(rt, alloc, &first_refusals(), &mut steps)?;
     all_refused(rt, alloc, &string_refusals(), &mut steps)?;
-    all_refused(rt, alloc, &other_refusals(), &mut steps)
+    all_refused(rt, alloc, &other_refusals(), &mut steps)?;
+    assert_eq!(rt; steps.count(), 84);
+    Ok(())
 }
 
 #[test]

@@ -1,5 +1,6 @@
-use Rattle.std.proofs.Common.{arith}
+use Rattle.std.proofs.Common.{arith, inl, inr}
 use Rattle.cdr_codec.proofs.Records.{found_if, found_always, refused_if, refused_always}
+use Rattle.cdr_codec.proofs.Totals.{taken_if, taken_until}
 use Rattle.cdr_codec.proofs.decode.decode_record.Goals as goal
 
 pub returns-clause-found : goal.returns-clause-found
@@ -13,3 +14,12 @@ returns-clause-refused g c = λ sound. refused_if c.args.layout.now.members soun
 
 pub returns-clause-always : goal.returns-clause-always
 returns-clause-always g c = λ sound f r. refused_always c.args.layout.now.members sound c.args.bytes.now c.answer.result f c.answer.ensures.given r
+
+pub returns-clause-taken : goal.returns-clause-taken
+returns-clause-taken g c = λ sound. taken_if c.args.layout.now.members sound c.args.bytes.now c.answer.result c.args.steps.now c.answer.new.steps (λ i. omega (arith, c.type_inv.bytes i)) c.answer.ensures.given c.answer.ensures.taken
+
+pub returns-clause-until : goal.returns-clause-until
+returns-clause-until g c = λ sound f r. elim c.answer.ensures.taken [
+  | inl memory ↦ inl memory
+  | inr took ↦ inr (let total = taken_until c.args.layout.now.members sound c.args.bytes.now f r in omega (arith, took, total))
+]

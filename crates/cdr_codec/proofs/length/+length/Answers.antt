@@ -1,8 +1,8 @@
-use Rattle.std.proofs.Common.{◌≡◌, ◌<◌, length, map, subst, sym, ap, ◌∙◌, arith, drop, rules, ℕ, min}
+use Rattle.std.proofs.Common.{◌≡◌, length, map, subst, sym, drop, rules}
 use Rattle.type_layout.specs.Types.{PlainValues, fields_of, values_of}
 use Rattle.type_layout.specs.Views.{plain_type, plain_field, plain_value}
 use Rattle.type_layout.specs.Values.{Of, EachOf}
-use Rattle.type_layout.specs.Spelling.{each, spelling, spellings}
+use Rattle.type_layout.specs.Spelling.{each, spelling}
 use Rattle.cdr_codec.specs.Lengths.{place_behind}
 use Rattle.cdr_codec.proofs.Loop.{fields_out}
 use Rattle.cdr_codec.proofs.Ends.{sequence_ends, array_ends, items_fit, elements_fit, items_over, fields_over}

@@ -1,4 +1,4 @@
-use Rattle.std.proofs.Common.{◌≡◌, length, map, subst, sym, ap, ◌∙◌, arith, drop}
+use Rattle.std.proofs.Common.{map, drop}
 use Rattle.type_layout.specs.Types.{values_of}
 use Rattle.type_layout.specs.Views.{plain_value}
 use Rattle.type_layout.specs.Members.{plain_member}

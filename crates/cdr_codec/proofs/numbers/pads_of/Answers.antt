@@ -1,24 +1,23 @@
-use Rattle.std.proofs.Common.{◌≡◌, ◌-◌, ◌+◌, ◌<◌, ◌≤◌, ℕ, suc, arith, Ok, Err, length, sym, ◌∙◌, List, refl}
+use Rattle.std.proofs.Common.{◌≡◌, ◌-◌, ◌+◌, ◌<◌, ℕ, suc, arith, Ok, Err, sym, ◌∙◌, List, refl, true, false, eqb}
 use Rattle.cdr_codec.specs.declared.fault.RecordFault.TheVariants.{BadPad}
-use Rattle.std.proofs.lemmas.Bool.{ne_eqb}
 use Rattle.type_layout.specs.Spelling.{gap}
 use Rattle.cdr_codec.specs.Reading.{plain_at, one_at, pads_at}
 use Rattle.cdr_codec.proofs.numbers.pads_of.Goals as goal
 
-next : (n i : ℕ) (bytes : List ℕ) (place after b : ℕ) → i < n → plain_at 1 bytes place ≡ Ok (b, after) → b ≡ 0 → pads_at (n - i) bytes place ≡ pads_at (n - (i + 1)) bytes after
+next : (n i : ℕ) (bytes : List ℕ) (place after b : ℕ) → i < n → plain_at 1 bytes place ≡ Ok (b, after) → eqb b 0 ≡ true → pads_at (n - i) bytes place ≡ pads_at (n - (i + 1)) bytes after
 unfolding pads_at one_at
 next n i bytes place after b lt h zero_is =
     let k : n - i ≡ suc (n - (i + 1)) = omega arith in
     rw (k, h, zero_is) refl
 
-stop : (n i : ℕ) (bytes : List ℕ) (place after b : ℕ) → i < n → plain_at 1 bytes place ≡ Ok (b, after) → (b ≡ 0 → ⊥) → pads_at (n - i) bytes place ≡ Err (BadPad place)
+stop : (n i : ℕ) (bytes : List ℕ) (place after b : ℕ) → i < n → plain_at 1 bytes place ≡ Ok (b, after) → eqb b 0 ≡ false → pads_at (n - i) bytes place ≡ Err (BadPad place)
 unfolding pads_at one_at
 stop n i bytes place after b lt h not_zero =
     let k : n - i ≡ suc (n - (i + 1)) = omega arith in
-    rw (k, h, ne_eqb b 0 not_zero) refl
+    rw (k, h, not_zero) refl
 
-pub returns-then-byte-ne0-clause-given : goal.returns-then-byte-ne0-clause-given
-returns-then-byte-ne0-clause-given c = sym c.loop.invariant.2 ∙ stop (gap c.args.width c.args.at) c.loop.counter c.args.bytes.now c.loop.place c.in_ok-byte.after c.in_ok-byte.byte (omega arith) c.in_ok-byte.ensures.given c.if-byte-ne0.true
+pub returns-then-not-is_padding-clause-given : goal.returns-then-not-is_padding-clause-given
+returns-then-not-is_padding-clause-given c = sym c.loop.invariant.2 ∙ stop (gap c.args.width c.args.at) c.loop.counter c.args.bytes.now c.loop.place c.in_ok-byte.after c.in_ok-byte.byte (omega arith) c.in_ok-byte.ensures.given (sym c.is_padding.ensures ∙ c.if-not-is_padding.true)
 
 pub loop-preserved : goal.loop-preserved
-loop-preserved c = (omega (arith, c.in_ok-byte.ensures.within), c.in_ok-byte.ensures.within.1, sym (next (gap c.args.width c.args.at) c.loop.counter c.args.bytes.now c.loop.place c.in_ok-byte.after c.in_ok-byte.byte (omega arith) c.in_ok-byte.ensures.given c.if-byte-ne0.false) ∙ c.loop.invariant.2)
+loop-preserved c = (omega (arith, c.in_ok-byte.ensures.within), c.in_ok-byte.ensures.within.1, sym (next (gap c.args.width c.args.at) c.loop.counter c.args.bytes.now c.loop.place c.in_ok-byte.after c.in_ok-byte.byte (omega arith) c.in_ok-byte.ensures.given (sym c.is_padding.ensures ∙ c.if-not-is_padding.false)) ∙ c.loop.invariant.2)

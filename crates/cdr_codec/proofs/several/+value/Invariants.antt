@@ -1,7 +1,8 @@
 use Rattle.std.proofs.Common.{◌≡◌, ◌≤◌, ◌+◌, ◌-◌, length, map, drop}
 use Rattle.type_layout.specs.Types.{fields_of}
-use Rattle.type_layout.specs.Views.{plain_type, plain_field, plain_value, plain_values}
+use Rattle.type_layout.specs.Views.{plain_type, plain_field, plain_values}
 use Rattle.cdr_codec.specs.Reading.{times_at, value_at, fields_at}
+use Rattle.cdr_codec.specs.Taken.{times_take, value_takes, fields_take}
 use Rattle.cdr_codec.proofs.Sizes.{size, sizes}
 use Rattle.cdr_codec.proofs.Loop.{with_front}
 use Rattle.cdr_codec.proofs.several.+value.Given as goal
@@ -31,9 +32,11 @@ abbrev pub invariant-times_of-loop : goal.invariant-times_of-loop
 invariant-times_of-loop g l =
     (l.at ≤ l.place) × (l.place ≤ length l.bytes) × (l.steps + l.at ≤ l.fn.steps + l.place)
     × (with_front (plain_values l.values) (times_at (value_at (plain_type l.item)) (l.count - l.counter) l.bytes l.place) ≡ times_at (value_at (plain_type l.item)) l.count l.bytes l.at)
+    × (l.steps + times_take (value_at (plain_type l.item)) (value_takes (plain_type l.item)) (l.count - l.counter) l.bytes l.place ≡ l.fn.steps + times_take (value_at (plain_type l.item)) (value_takes (plain_type l.item)) l.count l.bytes l.at)
 
 abbrev pub invariant-fields_of-loop-field : goal.invariant-fields_of-loop-field
 invariant-fields_of-loop-field g l =
     (l.at ≤ l.place) × (l.place ≤ length l.bytes) × (l.steps + l.at ≤ l.fn.steps + l.place)
     × (with_front (plain_values l.values) (fields_at (fields_of (map plain_field (drop l.field-index l.fields))) l.bytes l.place) ≡ fields_at (fields_of (map plain_field l.fields)) l.bytes l.at)
     × (sizes (fields_of (map plain_field (drop l.field-index l.fields))) ≤ sizes (fields_of (map plain_field l.fields)))
+    × (l.steps + fields_take (fields_of (map plain_field (drop l.field-index l.fields))) l.bytes l.place ≡ l.fn.steps + fields_take (fields_of (map plain_field l.fields)) l.bytes l.at)

@@ -1,0 +1,10 @@
+pub mod Valuing
+pub mod Sizes
+pub mod Looping
+pub mod Owing
+pub mod WordLaws
+pub mod QuoteLaws
+pub mod ListLaws
+pub mod ValueLaws
+pub mod Standing
+pub mod PrintLaws

@@ -1,0 +1,6 @@
+pub mod Words
+pub mod Letters
+pub mod Texts
+pub mod Printed
+pub mod Laws
+pub mod Reading

@@ -1,0 +1,19 @@
+//! Values as texts: what a script writes for a value of a type, and what is printed for one.
+#![tactic(auto)]
+
+mod digits;
+mod fault;
+mod laws;
+mod print;
+mod quoted;
+mod read;
+mod several;
+mod words;
+
+pub use fault::ValueFault;
+pub use laws::{one_value, spelling_stands};
+pub use print::print_value;
+pub use read::read_value;
+
+#[cfg(test)]
+mod tests;

@@ -1,0 +1,206 @@
+// Values that are written as one word.
+ghost use Rattle.std.specs.Prelude.{◌≡◌, ◌≤◌, ◌<◌, ◌^◌, length, drop, position, true};
+ghost use Rattle.std.specs.List.{take_while, prefix_len, list_all};
+ghost use Rattle.std.specs.Char.{is_digit as is_decimal_digit};
+ghost use Rattle.std.specs.Str.{bytes_eq};
+ghost use Rattle.std.specs.Str.Parse.{starts_with_minus, digits_value};
+ghost use Rattle.std.specs.Option.{option_map};
+ghost use Rattle.type_layout.specs.Views.{plain_value};
+ghost use Rattle.value_text.specs.Words.{digits_of, is_decimal, is_small_digit, is_pid, pid_of};
+ghost use Rattle.value_text.specs.Reading.{Gives, is_part, word_at, number_in, truth_in, enumerator_in, reference_in};
+
+use crate::ValueFault;
+use crate::digits::{digits_value, is_digit};
+use pss_base::{Bytes, Pid};
+use type_layout::{Names, Value};
+
+/// What was read, and the text behind it.
+pub(crate) type Read<'a, T> = Result<(T, &'a [u8]), ValueFault>;
+
+fn is_part(byte: u8) -> bool
+    ensures { result ≡ is_part byte }
+{
+    !matches!(byte, b' ' | b'\t' | b',' | b']' | b'}')
+}
+
+fn word_len(text: &[u8]) -> usize
+    ensures count { result ≡ prefix_len is_part text.now }
+    ensures within { result ≤ length text.now }
+{
+    text.iter().take_while(|byte| is_part(**byte)).count()
+}
+
+// The word at the front, and the text behind it.
+fn word_of(text: &[u8]) -> (&[u8], &[u8])
+    ensures word { result.0.now ≡ take_while is_part text.now }
+    ensures behind { result.1.now ≡ drop (prefix_len is_part text.now) text.now }
+{
+    text.split_at(word_len(text))
+}
+
+// ---- numbers
+
+fn is_negative(word: &[u8]) -> bool
+    ensures { result ≡ starts_with_minus word.now }
+{
+    matches!(word, [b'-', ..])
+}
+
+fn digits_of(word: &[u8]) -> &[u8]
+    ensures { result.now ≡ digits_of word.now }
+{
+    match word {
+        [b'-', digits @ ..] => digits,
+        _ => word,
+    }
+}
+
+fn are_digits(digits: &[u8]) -> bool
+    ensures { result ≡ list_all (λ b. is_decimal_digit b 10) digits.now }
+{
+    digits.iter().all(|byte| is_digit(*byte, 10))
+}
+
+fn is_decimal(digits: &[u8]) -> bool
+    ensures { result ≡ is_decimal digits.now }
+{
+    !digits.is_empty() && digits.len() < 40 && are_digits(digits)
+}
+
+fn number_in(word: &[u8]) -> Option<Value>
+    ensures { option_map plain_value result ≡ number_in word.now }
+{
+    let digits = digits_of(word);
+    if !is_decimal(digits) {
+        return None;
+    }
+    let number = i128::from(digits_value(10, digits)?);
+    if is_negative(word) {
+        return Some(Value::Int(-number));
+    }
+    Some(Value::Int(number))
+}
+
+/// A number, of whatever type.
+pub(crate) fn number_of(text: &[u8]) -> Read<'_, Value>
+    ensures { Gives (λ x. (plain_value x.0, x.1.now)) result (word_at number_in text.now) }
+{
+    let (word, rest) = word_of(text);
+    let value = number_in(word).ok_or(ValueFault::BadValue)?;
+    Ok((value, rest))
+}
+
+// ---- booleans
+
+fn truth_in(word: &[u8]) -> Option<Value>
+    ensures { option_map plain_value result ≡ truth_in word.now }
+{
+    if word == b"TRUE".as_slice() {
+        return Some(Value::Bool(true));
+    }
+    if word == b"FALSE".as_slice() {
+        return Some(Value::Bool(false));
+    }
+    None
+}
+
+/// TRUE or FALSE.
+pub(crate) fn truth_of(text: &[u8]) -> Read<'_, Value>
+    ensures { Gives (λ x. (plain_value x.0, x.1.now)) result (word_at truth_in text.now) }
+{
+    let (word, rest) = word_of(text);
+    let value = truth_in(word).ok_or(ValueFault::BadValue)?;
+    Ok((value, rest))
+}
+
+// ---- enumerators
+
+fn place_of(names: &[Bytes], word: &[u8]) -> Option<usize>
+    ensures { result ≡ position (λ name. bytes_eq name word.now) names.now }
+{
+    names.iter().position(|name| name.as_slice() == word)
+}
+
+fn enumerator_in(names: &Names, word: &[u8]) -> Option<Value>
+    ensures { option_map plain_value result ≡ enumerator_in names.now word.now }
+{
+    let place = place_of(names.as_slice(), word)?;
+    if place > u32::MAX as usize {
+        return None;
+    }
+    Some(Value::Enum(place as u32))
+}
+
+/// The enumerator of a name.
+pub(crate) fn enumerator_of<'a>(names: &Names, text: &'a [u8]) -> Read<'a, Value>
+    ensures { Gives (λ x. (plain_value x.0, x.1.now)) result (word_at (enumerator_in names.now) text.now) }
+{
+    let (word, rest) = word_of(text);
+    let value = enumerator_in(names, word).ok_or(ValueFault::BadValue)?;
+    Ok((value, rest))
+}
+
+// ---- references
+
+fn is_small_digit(byte: u8) -> bool
+    ensures { result ≡ is_small_digit byte }
+{
+    is_digit(byte, 10) || matches!(byte, b'a'..=b'f')
+}
+
+fn are_small_digits(word: &[u8]) -> bool
+    ensures { result ≡ list_all is_small_digit word.now }
+{
+    word.iter().all(|byte| is_small_digit(*byte))
+}
+
+fn is_pid(word: &[u8]) -> bool
+    ensures { result ≡ is_pid word.now }
+{
+    word.len() == 24 && are_small_digits(word)
+}
+
+// The number of at most 16 hexadecimal digits.
+fn hexadecimal(digits: &[u8]) -> u64
+    requires digits { list_all is_small_digit digits.now ≡ true }
+    requires few { length digits.now ≤ 16 }
+    ensures number { result ≡ digits_value 16 digits.now }
+    ensures small { result < 16 ^ length digits.now }
+{
+    let Some(number) = digits_value(16, digits) else {
+        unreachable!()
+    };
+    number
+}
+
+fn pid_of(word: &[u8]) -> Pid
+    requires { is_pid word.now ≡ true }
+    ensures { result ≡ pid_of word.now }
+{
+    let (home, serial) = word.split_at(8);
+    Pid {
+        home: hexadecimal(home) as u32,
+        serial: hexadecimal(serial),
+    }
+}
+
+fn reference_in(word: &[u8]) -> Option<Value>
+    ensures { option_map plain_value result ≡ reference_in word.now }
+{
+    if word == b"nil".as_slice() {
+        return Some(Value::Ref(None));
+    }
+    if !is_pid(word) {
+        return None;
+    }
+    Some(Value::Ref(Some(pid_of(word))))
+}
+
+/// Nil, or the identifier of an object.
+pub(crate) fn reference_of(text: &[u8]) -> Read<'_, Value>
+    ensures { Gives (λ x. (plain_value x.0, x.1.now)) result (word_at reference_in text.now) }
+{
+    let (word, rest) = word_of(text);
+    let value = reference_in(word).ok_or(ValueFault::BadValue)?;
+    Ok((value, rest))
+}

@@ -6,18 +6,18 @@ use Rattle.part_readers.proofs.Boths.{both_reads, mapped_reads, both_tokens}
 use Rattle.part_readers.proofs.Choices.{either_reads, either_tokens}
 use Rattle.part_readers.proofs.Lists.{many_reads}
 use Rattle.part_readers.proofs.Steps.{narrowed}
-use Rattle.psdl_syntax.specs.declared.token.Keyword.TheVariants as keywords
-use Rattle.psdl_syntax.specs.declared.token.Mark.TheVariants as marks
-use Rattle.psdl_syntax.specs.declared.tree.names.Identifier.{Identifier}
-use Rattle.psdl_syntax.specs.declared.tree.types.IntegerType.{IntegerType}
+use Rattle.psdl_tokens.specs.declared.token.Keyword.TheVariants as keywords
+use Rattle.psdl_tokens.specs.declared.token.Mark.TheVariants as marks
+use Rattle.psdl_tree.specs.declared.names.Identifier.{Identifier}
+use Rattle.psdl_tree.specs.declared.types.IntegerType.{IntegerType}
 use Rattle.psdl_syntax.specs.Seen.{Seen, Word, Sign}
-use Rattle.psdl_syntax.specs.Trees.{Name, AbstractType, StorageType, AbstractHome, StorageHome, Catalog, ConstantType, IntegerConstant, OctetConstant, StringConstant, NameConstant, Constant, TypeDefinition, Struct, Enumeration, Definition, ModuleDefinition, ConstantDefinition, TypeDefinitionDefinition, StructDefinition, EnumerationDefinition, AbstractTypeDefinition, StorageTypeDefinition, AbstractHomeDefinition, StorageHomeDefinition, CatalogDefinition, Definitions, NoDefinition, AndDefinition}
-use Rattle.psdl_syntax.specs.Grammar.{word, sign, identifier, behind, name, names, identifiers, integer, type_spec, declarators, field, braced, abstract_type, storage_type, abstract_home, storage_home, catalog, constant_type, constant, type_definition, struct, enumeration, expression, definition, definitions}
+use Rattle.psdl_tree.specs.Trees.{Name, AbstractType, StorageType, AbstractHome, StorageHome, Catalog, ConstantType, IntegerConstant, OctetConstant, StringConstant, NameConstant, Constant, TypeDefinition, Struct, Enumeration, Definition, ModuleDefinition, ConstantDefinition, TypeDefinitionDefinition, StructDefinition, EnumerationDefinition, AbstractTypeDefinition, StorageTypeDefinition, AbstractHomeDefinition, StorageHomeDefinition, CatalogDefinition, Definitions, NoDefinition, AndDefinition}
+use Rattle.psdl_syntax.specs.Grammar.{word, sign, identifier, name, identifiers, integer, type_spec, declarators, field, braced, abstract_type, storage_type, abstract_home, storage_home, catalog, constant_type, constant, type_definition, struct, enumeration, expression, definition, definitions}
 use Rattle.psdl_syntax.specs.Productions.{Reads, is_word, is_mark, is_inside, word_at, sign_at, identifier_at, braces, up_to_brace, name_at, identifiers_at, expression_at, integer_at, is_integer, type_spec_at, declarators_at, abstract_type_at, storage_type_at, abstract_home_at, storage_home_at, catalog_at, constant_type_of, constant_type_at, constant_at, type_definition_at, fields_at, struct_at, enumeration_at, module_with, abstract_at, definition_of, body_with, definition_with, definitions_inside, definition_at, is_any, text_at}
 use Rattle.psdl_syntax.proofs.Psdl.{psdl, Keeps, Ends, word_keeps, sign_keeps, identifier_keeps}
 use Rattle.psdl_syntax.proofs.Parts.{anything, behind_word_keeps, up_to_brace_keeps}
 use Rattle.psdl_syntax.proofs.NameLaws.{NameEnds, IdentifiersEnds, name_head, name_keeps, identifiers_keeps}
-use Rattle.psdl_syntax.specs.Views.{definitions_of}
+use Rattle.psdl_tree.specs.Views.{definitions_of}
 use Rattle.psdl_syntax.proofs.TypeLaws.{PlainEnds, LongEnds, between_keeps, braces_keep_at, integer_keeps, integer_head}
 use Rattle.psdl_syntax.proofs.ExpressionLaws.{ExpressionEnds, expression_at_keeps}
 use Rattle.psdl_syntax.proofs.SpecLaws.{DeclaratorsEnds, type_spec_keeps, declarators_keeps, fields_keeps}

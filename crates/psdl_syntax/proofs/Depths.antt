@@ -1,5 +1,5 @@
 -- What may open in a bracket.
-use Rattle.std.proofs.Common.{◌≡◌, ℕ, zero, suc, ◌-◌, ◌<◌, refl, ap, sym, arith}
+use Rattle.std.proofs.Common.{◌≡◌, ℕ, zero, suc, ◌-◌, ◌<◌, refl, arith}
 use Rattle.part_readers.specs.Reading.{many}
 use Rattle.psdl_syntax.specs.Productions.{expression_inside, expression_at, sequence_inside, sequence_inner_at, type_spec_at, is_inside, definition_at, definitions_inside}
 

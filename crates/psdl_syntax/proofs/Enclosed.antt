@@ -1,15 +1,14 @@
 -- A bracket, what it encloses, and its end.
-use Rattle.std.proofs.Common.{◌≡◌, ℕ, zero, suc, List, [], ◌∷◌, ◌++◌, length, Result, Ok, Err, Option, Some, None, refl, sym, ap, subst, ◌∙◌, ◌⊎◌, inl, inr}
-use Rattle.part_readers.specs.Reading.{◌>>=◌, given, mapped, both, one}
-use Rattle.part_readers.proofs.Law.{Language, SameHead, IsReader, IsExcused, Takes, Stops}
-use Rattle.part_readers.proofs.Steps.{bind_ok, bind_err, ok_is}
+use Rattle.std.proofs.Common.{◌≡◌, ℕ, zero, suc, List, [], ◌∷◌, ◌++◌, length, Result, Ok, Err, Option, Some, None, refl, sym, ap, subst, ◌∙◌, inr}
+use Rattle.part_readers.specs.Reading.{given, both, one}
+use Rattle.part_readers.proofs.Law.{SameHead, IsExcused, Stops}
 use Rattle.part_readers.proofs.Boths.{both_reads, mapped_reads, both_tokens}
 use Rattle.psdl_syntax.specs.declared.fault.Fault.{Fault}
 use Rattle.psdl_syntax.specs.declared.fault.Fault.TheVariants.{Unexpected, TooDeep}
-use Rattle.psdl_syntax.specs.declared.token.Mark.{Mark}
+use Rattle.psdl_tokens.specs.declared.token.Mark.{Mark}
 use Rattle.psdl_syntax.specs.Seen.{Seen, Sign}
 use Rattle.psdl_syntax.specs.Depth.{room_behind, room_behind_mark}
-use Rattle.psdl_syntax.specs.Productions.{Reads, sign_at, closed, opened, enclosed}
+use Rattle.psdl_syntax.specs.Productions.{Reads, sign_at, opened, enclosed}
 use Rattle.psdl_syntax.proofs.Psdl.{psdl, Keeps, token_keeps, sign_keeps}
 
 module _ {O B : Type 0} (part : Seen → Option O) (back : O → Seen) (told : (x : O) → part (back x) ≡ Some x) (only : (t : Seen) (x : O) → part t ≡ Some x → t ≡ back x)

@@ -1,31 +1,29 @@
 -- The readers of expressions keep to the grammar, at each depth.
-use Rattle.std.proofs.Common.{◌≡◌, ℕ, zero, suc, Bool, true, false, List, [], ◌∷◌, ◌++◌, Option, Some, None, refl, sym, ap, subst, ◌∙◌, ◌⊎◌, inl, inr}
+use Rattle.std.proofs.Common.{◌≡◌, ℕ, zero, suc, true, false, List, [], ◌∷◌, ◌++◌, Option, Some, None, refl, sym, ap, subst, ◌⊎◌, inl, inr}
 use Rattle.std.proofs.lemmas.List.{append-nil}
 use Rattle.pss_base.specs.declared.place.Place.{Place}
-use Rattle.part_readers.specs.Reading.{starts, mapped, both, either, optional, separated}
+use Rattle.part_readers.specs.Reading.{starts, both, either, optional, separated}
 use Rattle.part_readers.specs.Sentences.{joined, maybe}
 use Rattle.part_readers.proofs.Boths.{both_reads, mapped_reads, both_tokens}
 use Rattle.part_readers.proofs.Choices.{either_reads, either_tokens, optional_reads}
-use Rattle.part_readers.proofs.Steps.{narrowed}
-use Rattle.psdl_syntax.specs.declared.token.Mark.{Mark}
-use Rattle.psdl_syntax.specs.declared.token.Mark.TheVariants as marks
-use Rattle.psdl_syntax.specs.declared.tree.names.Identifier.{Identifier}
-use Rattle.psdl_syntax.specs.declared.tree.expressions.IntegerLiteral.{IntegerLiteral}
-use Rattle.psdl_syntax.specs.declared.tree.expressions.TextLiteral.{TextLiteral}
-use Rattle.psdl_syntax.specs.declared.tree.expressions.ShiftOperator.{ShiftOperator}
-use Rattle.psdl_syntax.specs.declared.tree.expressions.ShiftOperator.TheVariants as shifts
-use Rattle.psdl_syntax.specs.declared.tree.expressions.SumOperator.{SumOperator}
-use Rattle.psdl_syntax.specs.declared.tree.expressions.SumOperator.TheVariants as sums
-use Rattle.psdl_syntax.specs.declared.tree.expressions.ProductOperator.{ProductOperator}
-use Rattle.psdl_syntax.specs.declared.tree.expressions.ProductOperator.TheVariants as products
-use Rattle.psdl_syntax.specs.declared.tree.expressions.UnaryOperator.{UnaryOperator}
-use Rattle.psdl_syntax.specs.declared.tree.expressions.UnaryOperator.TheVariants as signs
-use Rattle.psdl_syntax.specs.declared.tree.expressions.UnarySign.{UnarySign}
-use Rattle.psdl_syntax.specs.Seen.{Seen, Sign, Placed, Named, Number, Quoted}
+use Rattle.psdl_tokens.specs.declared.token.Mark.{Mark}
+use Rattle.psdl_tokens.specs.declared.token.Mark.TheVariants as marks
+use Rattle.psdl_tree.specs.declared.expressions.IntegerLiteral.{IntegerLiteral}
+use Rattle.psdl_tree.specs.declared.expressions.TextLiteral.{TextLiteral}
+use Rattle.psdl_tree.specs.declared.expressions.ShiftOperator.{ShiftOperator}
+use Rattle.psdl_tree.specs.declared.expressions.ShiftOperator.TheVariants as shifts
+use Rattle.psdl_tree.specs.declared.expressions.SumOperator.{SumOperator}
+use Rattle.psdl_tree.specs.declared.expressions.SumOperator.TheVariants as sums
+use Rattle.psdl_tree.specs.declared.expressions.ProductOperator.{ProductOperator}
+use Rattle.psdl_tree.specs.declared.expressions.ProductOperator.TheVariants as products
+use Rattle.psdl_tree.specs.declared.expressions.UnaryOperator.{UnaryOperator}
+use Rattle.psdl_tree.specs.declared.expressions.UnaryOperator.TheVariants as signs
+use Rattle.psdl_tree.specs.declared.expressions.UnarySign.{UnarySign}
+use Rattle.psdl_syntax.specs.Seen.{Seen, Sign, Placed, Number, Quoted}
 use Rattle.psdl_syntax.specs.Depth.{room_behind_mark}
-use Rattle.psdl_syntax.specs.Trees.{Name, Primary, NameOperand, IntegerOperand, TextOperand, Group, Unary, Signed, Product, OneUnary, Multiplied, Sum, OneProduct, Added, Shift, OneSum, Shifted, And, OneShift, Anded, Xor, OneAnd, Xored, Expression, OneXor, Ored}
-use Rattle.psdl_syntax.specs.Grammar.{placed, identifier, name, unary_mark, unary_sign, product_mark, sum_mark, shift_mark, primary, unary, product, sum, shift, and, xor, expression}
-use Rattle.psdl_syntax.specs.Views.{product_of, sum_of, shift_of, and_of, xor_of, expression_of}
+use Rattle.psdl_tree.specs.Trees.{Name, Primary, NameOperand, IntegerOperand, TextOperand, Group, Unary, Signed, Product, OneUnary, Multiplied, Sum, OneProduct, Added, Shift, OneSum, Shifted, And, OneShift, Anded, Xor, OneAnd, Xored, Expression, OneXor, Ored}
+use Rattle.psdl_syntax.specs.Grammar.{placed, name, unary_mark, unary_sign, product_mark, sum_mark, shift_mark, primary, unary, product, sum, shift, and, xor, expression}
+use Rattle.psdl_tree.specs.Views.{product_of, sum_of, shift_of, and_of, xor_of, expression_of}
 use Rattle.psdl_syntax.specs.Productions.{Reads, is_mark, is_name, is_number, is_quoted, is_operator, place_part, place_at, name_at, number_at, quoted_at, operator_at, unary_operator, product_operator, sum_operator, shift_operator, unary_sign_at, operand_at, operator_operand_at, primary_of, group_with, primary_with, unary_with, product_with, sum_with, shift_with, and_with, xor_with, expression_with, expression_inside, expression_at}
 use Rattle.psdl_syntax.proofs.Psdl.{psdl, Keeps, Ends, place_keeps, place_told, place_only, some_place, number_keeps, quoted_keeps, operator_keeps}
 use Rattle.psdl_syntax.proofs.Parts.{anything, separated_keeps}

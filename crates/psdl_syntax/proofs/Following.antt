@@ -1,17 +1,17 @@
 -- What stands directly behind a token in a canonical text: the token ends there.
-use Rattle.std.proofs.Common.{◌≡◌, ℕ, ◌-◌, List, [], ◌∷◌, ◌++◌, Bool, true, false, not, ◌&&◌, ◌||◌, ◌==◌, refl, sym, ap, ◌∙◌, arith}
+use Rattle.std.proofs.Common.{◌≡◌, ℕ, List, [], ◌∷◌, ◌++◌, Bool, true, not, ◌&&◌, ◌||◌, ◌==◌, refl, arith}
 use Rattle.std.specs.Char.{is_ascii_alphabetic, is_ascii_digit}
 use Rattle.std.proofs.lemmas.Bool.{false≢true, cond_both, and_parts}
-use Rattle.psdl_syntax.specs.declared.token.Keyword.{Keyword}
-use Rattle.psdl_syntax.specs.declared.token.Keyword.TheVariants as keywords
-use Rattle.psdl_syntax.specs.declared.token.Mark.{Mark}
-use Rattle.psdl_syntax.specs.declared.token.Mark.TheVariants as marks
+use Rattle.psdl_tokens.specs.declared.token.Keyword.{Keyword}
+use Rattle.psdl_tokens.specs.declared.token.Keyword.TheVariants as keywords
+use Rattle.psdl_tokens.specs.declared.token.Mark.{Mark}
+use Rattle.psdl_tokens.specs.declared.token.Mark.TheVariants as marks
 use Rattle.psdl_syntax.specs.declared.printing.printer.Edge.{Edge}
 use Rattle.psdl_syntax.specs.declared.printing.printer.Edge.TheVariants as edges
-use Rattle.psdl_syntax.specs.Alphabet.{first, is_word_byte}
-use Rattle.psdl_syntax.specs.Spellings.{keyword_spelling, mark_spelling}
+use Rattle.psdl_tokens.specs.Alphabet.{first, is_word_byte}
+use Rattle.psdl_tokens.specs.Spellings.{keyword_spelling, mark_spelling}
 use Rattle.psdl_syntax.specs.Seen.{Seen, Word, Sign, Placed, Named, Number, Quoted, Stray}
-use Rattle.psdl_syntax.specs.Lexis.{is_keyword_like, is_left_out}
+use Rattle.psdl_tokens.specs.Lexis.{is_keyword_like, is_left_out}
 use Rattle.psdl_syntax.specs.Canonical.{line_end, mark_edge, mark_gap, name_text, string_text, text_behind}
 use Rattle.psdl_syntax.proofs.IntegersAgain.{first_digit}
 use Rattle.psdl_syntax.proofs.Standing.{begins_less, is_less_mark, stand}

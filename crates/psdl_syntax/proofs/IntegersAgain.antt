@@ -1,16 +1,16 @@
 -- Integers that are written are read again.
-use Rattle.std.proofs.Common.{◌≡◌, ℕ, zero, suc, ◌+◌, ◌/◌, ◌%◌, ◌^◌, ◌<◌, ◌≤◌, List, [], ◌∷◌, ◌++◌, Bool, true, false, not, ◌||◌, ◌&&◌, ◌==◌, length, get_or, Option, Some, None, refl, sym, ap, ◌∙◌, inl, inr, arith}
+use Rattle.std.proofs.Common.{◌≡◌, ℕ, ◌+◌, ◌/◌, ◌%◌, ◌^◌, ◌<◌, ◌≤◌, List, [], ◌∷◌, ◌++◌, true, false, not, ◌==◌, length, Some, refl, sym, ap, ◌∙◌, inl, inr, arith}
 use Rattle.std.specs.List.{list_all}
 use Rattle.std.specs.Char.{is_ascii_alphabetic, is_ascii_digit, is_digit, digit_value}
 use Rattle.std.specs.Fmt.{decimal}
 use Rattle.std.specs.Str.Parse.{AllDigits, digits_value}
-use Rattle.std.proofs.lemmas.Bool.{cases_Bool, false≢true, cases_lt, lt-ltb, ne_eqb, and_from}
+use Rattle.std.proofs.lemmas.Bool.{cases_lt, lt-ltb, ne_eqb}
 use Rattle.std.proofs.lemmas.Fmt.{decimal_by_steps_wide, decimal_is_IsNumeral_wide}
-use Rattle.psdl_syntax.specs.declared.token.TokenKind.TheVariants as kinds
-use Rattle.psdl_syntax.specs.declared.lexeme.Lexeme.TheVariants.{Gap, Found, Wrong}
-use Rattle.psdl_syntax.specs.Alphabet.{first, second, is_word_byte, is_blank, run_at}
-use Rattle.psdl_syntax.specs.Numerals.{numeral, is_hexadecimal, integer_of}
-use Rattle.psdl_syntax.specs.Lexis.{lexeme, integer_lexeme, integer_found}
+use Rattle.psdl_tokens.specs.declared.token.TokenKind.TheVariants as kinds
+use Rattle.psdl_tokens.specs.declared.lexeme.Lexeme.TheVariants.{Found}
+use Rattle.psdl_tokens.specs.Alphabet.{first, is_word_byte, is_blank, run_at}
+use Rattle.psdl_tokens.specs.Numerals.{is_hexadecimal, integer_of}
+use Rattle.psdl_tokens.specs.Lexis.{lexeme, integer_lexeme}
 use Rattle.psdl_syntax.proofs.WordsAgain.{word_at}
 
 -- 0 is written as `0`, and another number begins with another digit

@@ -2,14 +2,14 @@
 use Rattle.std.proofs.Common.{◌≡◌, List, [], ◌∷◌, ◌++◌, sym, ap, append-nil}
 use Rattle.part_readers.specs.Sentences.{joined}
 use Rattle.pss_base.specs.declared.place.Place.{Place}
-use Rattle.psdl_syntax.specs.declared.token.Mark.TheVariants as marks
-use Rattle.psdl_syntax.specs.declared.tree.expressions.ShiftOperator.{ShiftOperator}
-use Rattle.psdl_syntax.specs.declared.tree.expressions.SumOperator.{SumOperator}
-use Rattle.psdl_syntax.specs.declared.tree.expressions.ProductOperator.{ProductOperator}
+use Rattle.psdl_tokens.specs.declared.token.Mark.TheVariants as marks
+use Rattle.psdl_tree.specs.declared.expressions.ShiftOperator.{ShiftOperator}
+use Rattle.psdl_tree.specs.declared.expressions.SumOperator.{SumOperator}
+use Rattle.psdl_tree.specs.declared.expressions.ProductOperator.{ProductOperator}
 use Rattle.psdl_syntax.specs.Seen.{Seen, Placed}
-use Rattle.psdl_syntax.specs.Trees.{Unary, Product, Sum, Shift, And, Xor, Expression}
+use Rattle.psdl_tree.specs.Trees.{Unary, Product, Sum, Shift, And, Xor}
 use Rattle.psdl_syntax.specs.Grammar.{unary, product, sum, shift, and, xor, expression, product_mark, sum_mark, shift_mark}
-use Rattle.psdl_syntax.specs.Views.{product_of, sum_of, shift_of, and_of, xor_of, expression_of}
+use Rattle.psdl_tree.specs.Views.{product_of, sum_of, shift_of, and_of, xor_of, expression_of}
 
 abbrev pub product_part : Place × ProductOperator × Unary → List Seen
 product_part p = Placed (product_mark p.1) p.0 ∷ unary p.2

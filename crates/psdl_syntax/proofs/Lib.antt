@@ -1,11 +1,4 @@
-pub mod Scanning
-pub mod Tables
 pub mod Spelled
-pub mod Placing
-pub mod Valuing
-pub mod Wording
-pub mod Stringing
-pub mod Lexing
 pub mod Numbers
 pub mod Depths
 pub mod Operands

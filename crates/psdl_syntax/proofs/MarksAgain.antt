@@ -1,13 +1,13 @@
 -- Marks that are written are read again.
-use Rattle.std.proofs.Common.{◌≡◌, ℕ, List, [], ◌∷◌, ◌++◌, Bool, true, false, not, ◌||◌, ◌==◌, length, refl, sym, ap, ◌∙◌}
+use Rattle.std.proofs.Common.{◌≡◌, ℕ, List, [], ◌∷◌, ◌++◌, true, ◌||◌, ◌==◌, length, refl}
 use Rattle.std.proofs.lemmas.Bool.{not-true, or_parts}
-use Rattle.psdl_syntax.specs.declared.token.Mark.{Mark}
-use Rattle.psdl_syntax.specs.declared.token.Mark.TheVariants as marks
-use Rattle.psdl_syntax.specs.declared.token.TokenKind.TheVariants as kinds
-use Rattle.psdl_syntax.specs.declared.lexeme.Lexeme.TheVariants.{Gap, Found, Wrong}
-use Rattle.psdl_syntax.specs.Alphabet.{first}
-use Rattle.psdl_syntax.specs.Spellings.{mark_spelling}
-use Rattle.psdl_syntax.specs.Lexis.{lexeme, comment_or_mark, mark_lexeme}
+use Rattle.psdl_tokens.specs.declared.token.Mark.{Mark}
+use Rattle.psdl_tokens.specs.declared.token.Mark.TheVariants as marks
+use Rattle.psdl_tokens.specs.declared.token.TokenKind.TheVariants as kinds
+use Rattle.psdl_tokens.specs.declared.lexeme.Lexeme.TheVariants.{Found}
+use Rattle.psdl_tokens.specs.Alphabet.{first}
+use Rattle.psdl_tokens.specs.Spellings.{mark_spelling}
+use Rattle.psdl_tokens.specs.Lexis.{lexeme, comment_or_mark, mark_lexeme}
 use Rattle.psdl_syntax.proofs.Following.{mark_ends}
 
 -- a mark in front of bytes with which it does not go on

@@ -5,14 +5,14 @@ use Rattle.part_readers.specs.Reading.{starts, both, either, optional}
 use Rattle.part_readers.specs.Sentences.{maybe}
 use Rattle.part_readers.proofs.Boths.{both_reads, mapped_reads, both_tokens}
 use Rattle.part_readers.proofs.Choices.{either_reads, either_tokens, optional_reads}
-use Rattle.psdl_syntax.specs.declared.token.Keyword.TheVariants as keywords
-use Rattle.psdl_syntax.specs.declared.token.Mark.TheVariants as marks
-use Rattle.psdl_syntax.specs.declared.tree.names.Identifier.{Identifier}
-use Rattle.psdl_syntax.specs.declared.tree.stores.Direction.{Direction}
-use Rattle.psdl_syntax.specs.declared.tree.stores.Direction.TheVariants as directions
+use Rattle.psdl_tokens.specs.declared.token.Keyword.TheVariants as keywords
+use Rattle.psdl_tokens.specs.declared.token.Mark.TheVariants as marks
+use Rattle.psdl_tree.specs.declared.names.Identifier.{Identifier}
+use Rattle.psdl_tree.specs.declared.stores.Direction.{Direction}
+use Rattle.psdl_tree.specs.declared.stores.Direction.TheVariants as directions
 use Rattle.psdl_syntax.specs.Seen.{Seen, Word, Sign, Placed, Named}
-use Rattle.psdl_syntax.specs.Trees.{Identifiers, StateType, State, Parameter, Parameters, OperationResult, Void, StateResult, Operation, KeyMembers, Key, Factory}
-use Rattle.psdl_syntax.specs.Grammar.{word, sign, placed, identifier, after_commas, name, names, identifiers, state_type, readonly, state, direction_keyword, parameter, parameters, operation_result, operation, key_members, key, factory}
+use Rattle.psdl_tree.specs.Trees.{Identifiers, StateType, State, Parameter, Parameters, OperationResult, Void, StateResult, Operation, KeyMembers, Key, Factory}
+use Rattle.psdl_syntax.specs.Grammar.{word, sign, placed, identifier, after_commas, identifiers, state_type, readonly, state, direction_keyword, parameter, parameters, operation_result, operation, key_members, key, factory}
 use Rattle.psdl_syntax.specs.Productions.{is_word, is_mark, is_identifier, place_part, word_at, sign_at, identifier_at, enclosed, listed, identifiers_at, state_type_at, readonly_at, state_at, direction_of, direction_at, is_direction, parameter_at, parameters_at, result_of, operation_result_at, operation_parameters_at, operation_at, key_members_at, key_at, factory_members_at, factory_at}
 use Rattle.psdl_syntax.proofs.Psdl.{psdl, Keeps, Ends, word_keeps, sign_keeps, identifier_keeps}
 use Rattle.psdl_syntax.proofs.Parts.{anything, listed_keeps}

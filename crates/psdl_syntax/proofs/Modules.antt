@@ -1,31 +1,31 @@
 -- Definitions that were printed.
 use Rattle.std.proofs.Common.{◌≡◌, ◌++◌, ◌∷◌, [], List, map, ap, sym, ◌∙◌, refl}
 use Rattle.part_readers.specs.Sentences.{joined}
-use Rattle.psdl_syntax.specs.declared.token.Keyword.TheVariants as keywords
-use Rattle.psdl_syntax.specs.declared.token.Mark.TheVariants as marks
+use Rattle.psdl_tokens.specs.declared.token.Keyword.TheVariants as keywords
+use Rattle.psdl_tokens.specs.declared.token.Mark.TheVariants as marks
 use Rattle.psdl_syntax.specs.declared.printing.printer.Edge.TheVariants as edges
 use Rattle.psdl_syntax.specs.declared.printing.printer.Printer.{Printer}
-use Rattle.psdl_syntax.specs.declared.tree.definitions.Tree.{Tree}
-use Rattle.psdl_syntax.specs.declared.tree.definitions.Definition.{Definition as DefinitionNode}
-use Rattle.psdl_syntax.specs.declared.tree.definitions.Module.{Module as ModuleNode}
-use Rattle.psdl_syntax.specs.declared.tree.definitions.Definition.TheViews.{out-Module}
-use Rattle.psdl_syntax.specs.declared.tree.definitions.Definition.TheFolds.{fold_out-Module, fold-roll-Definition}
-use Rattle.psdl_syntax.specs.declared.tree.definitions.Constant.{Constant as ConstantNode}
-use Rattle.psdl_syntax.specs.declared.tree.definitions.TypeDefinition.{TypeDefinition as TypeDefinitionNode}
-use Rattle.psdl_syntax.specs.declared.tree.definitions.Struct.{Struct as StructNode}
-use Rattle.psdl_syntax.specs.declared.tree.definitions.Enumeration.{Enumeration as EnumerationNode}
-use Rattle.psdl_syntax.specs.declared.tree.stores.AbstractType.{AbstractType as AbstractTypeNode}
-use Rattle.psdl_syntax.specs.declared.tree.stores.StorageType.{StorageType as StorageTypeNode}
-use Rattle.psdl_syntax.specs.declared.tree.stores.AbstractHome.{AbstractHome as AbstractHomeNode}
-use Rattle.psdl_syntax.specs.declared.tree.stores.StorageHome.{StorageHome as StorageHomeNode}
-use Rattle.psdl_syntax.specs.declared.tree.stores.Catalog.{Catalog as CatalogNode}
-use Rattle.psdl_syntax.specs.declared.tree.definitions.Definition.TheVariants as nodes
-use Rattle.psdl_syntax.specs.declared.tree.definitions.Definition.TheOpen as open_definition
-use Rattle.psdl_syntax.specs.Views as views
+use Rattle.psdl_tree.specs.declared.definitions.Tree.{Tree}
+use Rattle.psdl_tree.specs.declared.definitions.Definition.{Definition as DefinitionNode}
+use Rattle.psdl_tree.specs.declared.definitions.Module.{Module as ModuleNode}
+use Rattle.psdl_tree.specs.declared.definitions.Definition.TheViews.{out-Module}
+use Rattle.psdl_tree.specs.declared.definitions.Definition.TheFolds.{fold_out-Module, fold-roll-Definition}
+use Rattle.psdl_tree.specs.declared.definitions.Constant.{Constant as ConstantNode}
+use Rattle.psdl_tree.specs.declared.definitions.TypeDefinition.{TypeDefinition as TypeDefinitionNode}
+use Rattle.psdl_tree.specs.declared.definitions.Struct.{Struct as StructNode}
+use Rattle.psdl_tree.specs.declared.definitions.Enumeration.{Enumeration as EnumerationNode}
+use Rattle.psdl_tree.specs.declared.stores.AbstractType.{AbstractType as AbstractTypeNode}
+use Rattle.psdl_tree.specs.declared.stores.StorageType.{StorageType as StorageTypeNode}
+use Rattle.psdl_tree.specs.declared.stores.AbstractHome.{AbstractHome as AbstractHomeNode}
+use Rattle.psdl_tree.specs.declared.stores.StorageHome.{StorageHome as StorageHomeNode}
+use Rattle.psdl_tree.specs.declared.stores.Catalog.{Catalog as CatalogNode}
+use Rattle.psdl_tree.specs.declared.definitions.Definition.TheVariants as nodes
+use Rattle.psdl_tree.specs.declared.definitions.Definition.TheOpen as open_definition
+use Rattle.psdl_tree.specs.Views as views
 use Rattle.psdl_syntax.specs.Seen.{Seen, Word, Sign, Named}
-use Rattle.psdl_syntax.specs.Trees.{Definition, ConstantDefinition, TypeDefinitionDefinition, StructDefinition, EnumerationDefinition, AbstractTypeDefinition, StorageTypeDefinition, AbstractHomeDefinition, StorageHomeDefinition, CatalogDefinition}
+use Rattle.psdl_tree.specs.Trees.{Definition, ConstantDefinition, TypeDefinitionDefinition, StructDefinition, EnumerationDefinition, AbstractTypeDefinition, StorageTypeDefinition, AbstractHomeDefinition, StorageHomeDefinition, CatalogDefinition}
 use Rattle.psdl_syntax.specs.Grammar as grammar
-use Rattle.psdl_syntax.specs.Views.{definitions_of, definition_step, module_step, definition_view, module_view, tree_view}
+use Rattle.psdl_tree.specs.Views.{definitions_of, definition_step, module_step, definition_view, module_view, tree_view}
 use Rattle.psdl_syntax.specs.Canonical.{canonical, text_behind}
 use Rattle.psdl_syntax.specs.Printing.{put, put_mark, printed}
 use Rattle.psdl_syntax.proofs.Printed.{printed_append}

@@ -1,15 +1,15 @@
 -- The readers of names keep to the grammar.
-use Rattle.std.proofs.Common.{◌≡◌, ℕ, Bool, true, false, List, [], ◌∷◌, ◌++◌, Option, Some, None, refl}
+use Rattle.std.proofs.Common.{◌≡◌, ℕ, false, List, [], ◌∷◌, ◌++◌, Option, Some, None, refl}
 use Rattle.pss_base.specs.declared.place.Place.{Place}
-use Rattle.part_readers.specs.Reading.{starts, mapped, both, optional, separated}
+use Rattle.part_readers.specs.Reading.{starts, both, optional, separated}
 use Rattle.part_readers.specs.Sentences.{joined, maybe}
 use Rattle.part_readers.proofs.Boths.{both_reads, mapped_reads, both_tokens}
 use Rattle.part_readers.proofs.Choices.{optional_reads}
-use Rattle.psdl_syntax.specs.declared.token.Mark.TheVariants as marks
-use Rattle.psdl_syntax.specs.declared.tree.names.Identifier.{Identifier}
-use Rattle.psdl_syntax.specs.declared.tree.names.NamePart.{NamePart}
-use Rattle.psdl_syntax.specs.Seen.{Seen, Sign, Placed, Named}
-use Rattle.psdl_syntax.specs.Trees.{Name, Names, Identifiers}
+use Rattle.psdl_tokens.specs.declared.token.Mark.TheVariants as marks
+use Rattle.psdl_tree.specs.declared.names.Identifier.{Identifier}
+use Rattle.psdl_tree.specs.declared.names.NamePart.{NamePart}
+use Rattle.psdl_syntax.specs.Seen.{Seen, Placed, Named}
+use Rattle.psdl_tree.specs.Trees.{Name, Names, Identifiers}
 use Rattle.psdl_syntax.specs.Grammar.{placed, identifier, name_part, name, names, identifiers, after_commas}
 use Rattle.psdl_syntax.specs.Productions.{is_mark, place_at, identifier_at, name_part_at, name_at, names_at, identifiers_at, listed}
 use Rattle.psdl_syntax.proofs.Psdl.{psdl, Keeps, Ends, place_keeps, identifier_keeps}

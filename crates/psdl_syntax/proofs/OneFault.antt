@@ -1,15 +1,15 @@
 -- A text has at most one fault, and a text with a fault has no tree.
-use Rattle.std.proofs.Common.{◌≡◌, ℕ, zero, suc, ◌+◌, ◌-◌, ◌≤◌, ◌<◌, List, length, Option, Some, None, refl, sym, ap, subst, ◌∙◌, arith, ◌⊎◌, inl, inr}
+use Rattle.std.proofs.Common.{◌≡◌, ℕ, zero, suc, ◌+◌, ◌-◌, ◌≤◌, ◌<◌, List, length, Option, Some, None, refl, sym, ap, ◌∙◌, arith}
 use Rattle.pss_base.specs.declared.place.Place.{Place}
-use Rattle.psdl_syntax.specs.declared.lexeme.LexicalKind.{LexicalKind}
-use Rattle.psdl_syntax.specs.declared.lexeme.LexicalKind.TheVariants as lexical
-use Rattle.psdl_syntax.specs.declared.lexis.LexicalFault.{LexicalFault}
+use Rattle.psdl_tokens.specs.declared.lexeme.LexicalKind.{LexicalKind}
+use Rattle.psdl_tokens.specs.declared.lexeme.LexicalKind.TheVariants as lexical
+use Rattle.psdl_tokens.specs.declared.lexis.LexicalFault.{LexicalFault}
 use Rattle.psdl_syntax.specs.declared.syntax_fault.SyntaxKind.{SyntaxKind}
 use Rattle.psdl_syntax.specs.declared.syntax_fault.SyntaxKind.TheVariants as kinds
-use Rattle.psdl_syntax.specs.Lexis.{lexed}
+use Rattle.psdl_tokens.specs.Lexis.{lexed}
 use Rattle.psdl_syntax.specs.Grammar.{definitions}
-use Rattle.psdl_syntax.specs.Trees.{Definitions}
-use Rattle.psdl_syntax.specs.Syntax.{most_bytes, most_open, words_of, place_at, IsTextOf, IsTooLong, IsStop, IsUnexpected, OpensTooDeep, IsNoToken, IsFault, HasOneFault, HasNoTree}
+use Rattle.psdl_tree.specs.Trees.{Definitions}
+use Rattle.psdl_syntax.specs.Syntax.{most_bytes, most_open, words_of, place_at, IsTextOf, IsTooLong, IsUnexpected, OpensTooDeep, IsNoToken, IsFault, HasOneFault, HasNoTree}
 use Rattle.psdl_syntax.proofs.Fronts.{begins_front, one_first, one_deep, first_or_deep, all_fits}
 
 -- a lexical kind as a kind of a text's fault

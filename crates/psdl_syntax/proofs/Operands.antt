@@ -1,14 +1,14 @@
 -- An operand behind its operator, as functions read it.
-use Rattle.std.proofs.Common.{◌≡◌, ℕ, ◌-◌, ◌<◌, List, Option, Result, Ok, Err, refl, ap, sym, ◌∙◌}
-use Rattle.psdl_syntax.specs.declared.token.Mark.TheVariants as marks
-use Rattle.psdl_syntax.specs.Trees.{Expression}
+use Rattle.std.proofs.Common.{◌≡◌, ℕ, ◌-◌, ◌<◌, List, Option, Ok, refl, ap, sym, ◌∙◌}
+use Rattle.psdl_tokens.specs.declared.token.Mark.TheVariants as marks
+use Rattle.psdl_tree.specs.Trees.{Expression}
 use Rattle.psdl_syntax.proofs.Depths.{inside_is}
 use Rattle.pss_base.specs.declared.place.Place.{Place}
 use Rattle.part_readers.specs.declared.refusal.Refusal.{Refusal}
 use Rattle.part_readers.specs.Reading.{Fails, both}
 use Rattle.part_readers.proofs.Loops.{first_fails, second_fails, both_gives, mapped_fails, mapped_gives}
 use Rattle.psdl_syntax.specs.declared.fault.Fault.{Fault}
-use Rattle.psdl_syntax.specs.declared.token.Mark.{Mark}
+use Rattle.psdl_tokens.specs.declared.token.Mark.{Mark}
 use Rattle.psdl_syntax.specs.Seen.{Seen}
 use Rattle.psdl_syntax.specs.Productions.{Reads, place_at, sign_at, place_part, opened, operator_at, operand_at, operator_operand_at, group_with, expression_inside, expression_at}
 

@@ -2,13 +2,11 @@
 use Rattle.std.proofs.Common.{◌≡◌, ℕ, ◌≤◌, List, [], length, map, Option, Some, refl, sym, ap, subst, ◌∙◌}
 use Rattle.std.specs.Prelude.{IsSome}
 use Rattle.std.proofs.lemmas.List.{append-nil}
-use Rattle.pss_base.specs.declared.place.Place.{Place}
-use Rattle.psdl_syntax.specs.declared.token.Token.{Token}
-use Rattle.psdl_syntax.specs.declared.lexeme.LexicalKind.{LexicalKind}
-use Rattle.psdl_syntax.specs.declared.lexis.LexicalFault.{LexicalFault}
-use Rattle.psdl_syntax.specs.Lexis.{lexed}
+use Rattle.psdl_tokens.specs.declared.token.Token.{Token}
+use Rattle.psdl_tokens.specs.declared.lexis.LexicalFault.{LexicalFault}
+use Rattle.psdl_tokens.specs.Lexis.{lexed}
 use Rattle.psdl_syntax.specs.Seen.{Seen, seen}
-use Rattle.psdl_syntax.specs.Trees.{Definitions}
+use Rattle.psdl_tree.specs.Trees.{Definitions}
 use Rattle.psdl_syntax.specs.Grammar.{definitions}
 use Rattle.psdl_syntax.specs.Depth.{room, IsFirstDeep}
 use Rattle.psdl_syntax.specs.Syntax.{most_bytes, most_open, words_of, IsTextOf, IsNoToken}

@@ -1,18 +1,17 @@
 -- Parts with words and signs around them.
-use Rattle.std.proofs.Common.{◌≡◌, ℕ, zero, suc, Bool, true, false, List, [], ◌∷◌, ◌++◌, Option, Some, None, refl, sym, ap, subst, ◌∙◌, append_assoc}
-use Rattle.part_readers.specs.Reading.{starts, mapped, both, optional, many, separated}
+use Rattle.std.proofs.Common.{◌≡◌, ℕ, Bool, true, false, List, [], ◌∷◌, ◌++◌, Some, refl, sym, subst, append_assoc}
+use Rattle.part_readers.specs.Reading.{starts, both, many, separated}
 use Rattle.part_readers.specs.Sentences.{joined}
-use Rattle.part_readers.proofs.Law.{IsReader}
 use Rattle.part_readers.proofs.Boths.{both_reads, mapped_reads, both_tokens}
 use Rattle.part_readers.proofs.Lists.{many_reads}
-use Rattle.psdl_syntax.specs.declared.token.Keyword.{Keyword}
-use Rattle.psdl_syntax.specs.declared.token.Mark.{Mark}
-use Rattle.psdl_syntax.specs.declared.token.Mark.TheVariants as marks
-use Rattle.psdl_syntax.specs.Seen.{Seen, Word, Sign, Placed}
+use Rattle.psdl_tokens.specs.declared.token.Keyword.{Keyword}
+use Rattle.psdl_tokens.specs.declared.token.Mark.{Mark}
+use Rattle.psdl_tokens.specs.declared.token.Mark.TheVariants as marks
+use Rattle.psdl_syntax.specs.Seen.{Seen, Word, Sign}
 use Rattle.psdl_syntax.specs.Depth.{room_behind_mark}
 use Rattle.psdl_syntax.specs.Grammar.{behind, sign, after_commas}
 use Rattle.psdl_syntax.specs.Productions.{Reads, is_mark, is_inside, word_at, sign_at, behind_word, behind_sign, before_sign, listed, up_to_brace}
-use Rattle.psdl_syntax.proofs.Psdl.{psdl, Keeps, Ends, word_keeps, sign_keeps}
+use Rattle.psdl_syntax.proofs.Psdl.{psdl, Keeps, word_keeps, sign_keeps}
 
 abbrev pub anything : List Seen → Type 0
 anything rest = Unit {0}

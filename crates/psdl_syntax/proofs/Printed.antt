@@ -2,7 +2,7 @@
 use Rattle.std.proofs.Common.{◌≡◌, ℕ, zero, suc, ◌+◌, ◌<◌, List, [], ◌∷◌, ◌++◌, length, map, drop, get_or, refl, sym, ◌∙◌, ap, arith, add-one, append_assoc}
 use Rattle.part_readers.specs.Sentences.{joined}
 use Rattle.psdl_syntax.specs.declared.printing.printer.Printer.{Printer}
-use Rattle.psdl_syntax.specs.declared.token.Mark.{Mark}
+use Rattle.psdl_tokens.specs.declared.token.Mark.{Mark}
 use Rattle.psdl_syntax.specs.Seen.{Seen}
 use Rattle.psdl_syntax.specs.Canonical.{indent}
 use Rattle.psdl_syntax.specs.Printing.{put, put_mark, printed}

@@ -1,17 +1,17 @@
 -- The language of the grammar, and the readers of one token.
-use Rattle.std.proofs.Common.{◌≡◌, ℕ, zero, suc, Bool, true, false, cond, List, [], ◌∷◌, ◌++◌, length, Result, Ok, Err, Option, Some, None, refl, sym, ap, subst, ◌∙◌, ◌⊎◌, inl, inr}
+use Rattle.std.proofs.Common.{◌≡◌, ℕ, Bool, true, false, cond, List, [], ◌∷◌, ◌++◌, Option, Some, None, refl, ap, ◌∙◌}
 use Rattle.std.specs.Prelude.{option_map}
 use Rattle.pss_base.specs.declared.place.Place.{Place}
-use Rattle.part_readers.specs.Reading.{Reader, starts, one}
+use Rattle.part_readers.specs.Reading.{starts, one}
 use Rattle.part_readers.proofs.Law.{Language, IsReader}
 use Rattle.part_readers.proofs.Ones.{one_reads}
 use Rattle.psdl_syntax.specs.declared.fault.Fault.{Fault}
 use Rattle.psdl_syntax.specs.declared.fault.Fault.TheVariants.{Unexpected, TooDeep}
-use Rattle.psdl_syntax.specs.declared.token.Keyword.{Keyword}
-use Rattle.psdl_syntax.specs.declared.token.Mark.{Mark}
-use Rattle.psdl_syntax.specs.declared.tree.names.Identifier.{Identifier}
-use Rattle.psdl_syntax.specs.declared.tree.expressions.IntegerLiteral.{IntegerLiteral}
-use Rattle.psdl_syntax.specs.declared.tree.expressions.TextLiteral.{TextLiteral}
+use Rattle.psdl_tokens.specs.declared.token.Keyword.{Keyword}
+use Rattle.psdl_tokens.specs.declared.token.Mark.{Mark}
+use Rattle.psdl_tree.specs.declared.names.Identifier.{Identifier}
+use Rattle.psdl_tree.specs.declared.expressions.IntegerLiteral.{IntegerLiteral}
+use Rattle.psdl_tree.specs.declared.expressions.TextLiteral.{TextLiteral}
 use Rattle.psdl_syntax.specs.Codes.{same_keyword, same_mark}
 use Rattle.psdl_syntax.specs.Seen.{Seen, Word, Sign, Placed, Named, Number, Quoted, Stray}
 use Rattle.psdl_syntax.specs.Depth.{room_behind, room_behind_mark}

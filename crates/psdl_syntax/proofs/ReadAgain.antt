@@ -1,20 +1,20 @@
 -- The canonical text of a tree has the tokens of each text that the tree was read from, but for their places.
-use Rattle.std.proofs.Common.{◌≡◌, ℕ, ◌<◌, ◌^◌, List, [], ◌∷◌, Bool, true, false, map, All, refl, sym, ap, ◌∙◌, subst}
+use Rattle.std.proofs.Common.{◌≡◌, ℕ, List, [], ◌∷◌, false, map, refl, sym, ap, ◌∙◌, subst}
 use Rattle.std.proofs.lemmas.Bool.{cond_both}
 use Rattle.pss_base.specs.declared.place.Place.{Place}
-use Rattle.psdl_syntax.specs.declared.token.Mark.{Mark}
-use Rattle.psdl_syntax.specs.declared.token.Token.{Token}
-use Rattle.psdl_syntax.specs.declared.token.TokenKind.{TokenKind}
-use Rattle.psdl_syntax.specs.declared.token.TokenKind.TheVariants as token_kinds
+use Rattle.psdl_tokens.specs.declared.token.Mark.{Mark}
+use Rattle.psdl_tokens.specs.declared.token.Token.{Token}
+use Rattle.psdl_tokens.specs.declared.token.TokenKind.{TokenKind}
+use Rattle.psdl_tokens.specs.declared.token.TokenKind.TheVariants as token_kinds
 use Rattle.psdl_syntax.specs.declared.printing.printer.Edge.TheVariants as edges
-use Rattle.psdl_syntax.specs.Seen.{Seen, Sign, Placed, seen, seen_kind, keeps_place}
-use Rattle.psdl_syntax.specs.Trees.{Definitions}
+use Rattle.psdl_syntax.specs.Seen.{Sign, Placed, seen, seen_kind, keeps_place}
+use Rattle.psdl_tree.specs.Trees.{Definitions}
 use Rattle.psdl_syntax.specs.Grammar.{definitions}
-use Rattle.psdl_syntax.specs.Lexis.{lexed}
+use Rattle.psdl_tokens.specs.Lexis.{lexed}
 use Rattle.psdl_syntax.specs.Canonical.{canonical}
-use Rattle.psdl_syntax.specs.Again.{kinds, ReadsAgain, KeepsTree}
+use Rattle.psdl_syntax.specs.Again.{kinds, KeepsTree}
 use Rattle.psdl_syntax.specs.Depth.{room}
-use Rattle.psdl_syntax.proofs.Standing.{Closed, stand, stand-more}
+use Rattle.psdl_syntax.proofs.Standing.{stand-more}
 use Rattle.psdl_syntax.proofs.Neighbours as neighbours
 use Rattle.psdl_syntax.proofs.Sounding.{SoundKind, SoundKinds, kind_of, Sound, sound_tokens}
 use Rattle.psdl_syntax.proofs.Moving.{moved_seen}

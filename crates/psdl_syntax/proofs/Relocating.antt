@@ -1,18 +1,18 @@
 -- The tokens of a text stand at places of their own, so that those of another text, but for places, are theirs moved.
-use Rattle.std.proofs.Common.{◌≡◌, ℕ, zero, suc, ◌+◌, ◌-◌, ◌<◌, ◌≤◌, List, [], ◌∷◌, ◌++◌, Bool, true, false, cond, ◌==◌, length, map, Option, Some, None, refl, sym, ap, ◌∙◌, arith, length-append, subst}
-use Rattle.std.proofs.lemmas.Bool.{cond_both, cond-true, cond-false, eq-eqb, ne_eqb}
+use Rattle.std.proofs.Common.{◌≡◌, ℕ, zero, suc, ◌+◌, ◌-◌, ◌≤◌, List, [], ◌∷◌, ◌++◌, Bool, true, false, cond, ◌==◌, length, map, Option, Some, None, refl, sym, ap, ◌∙◌, arith, length-append, subst}
+use Rattle.std.proofs.lemmas.Bool.{cond-true, cond-false, eq-eqb, ne_eqb}
 use Rattle.std.specs.Option.{option_and_then}
 use Rattle.pss_base.specs.declared.place.Place.{Place}
-use Rattle.psdl_syntax.specs.declared.token.Mark.{Mark}
-use Rattle.psdl_syntax.specs.declared.token.Token.{Token}
-use Rattle.psdl_syntax.specs.declared.token.TokenKind.{TokenKind}
-use Rattle.psdl_syntax.specs.declared.token.TokenKind.TheVariants as kinds
-use Rattle.psdl_syntax.specs.declared.lexeme.Lexeme.{Lexeme}
-use Rattle.psdl_syntax.specs.declared.lexeme.Lexeme.TheVariants.{Gap, Found, Wrong}
-use Rattle.psdl_syntax.specs.Places.{place_of}
-use Rattle.psdl_syntax.specs.Lexis.{Lexed, lexeme, size_of, before, lexed_behind, lexed}
+use Rattle.psdl_tokens.specs.declared.token.Mark.{Mark}
+use Rattle.psdl_tokens.specs.declared.token.Token.{Token}
+use Rattle.psdl_tokens.specs.declared.token.TokenKind.{TokenKind}
+use Rattle.psdl_tokens.specs.declared.token.TokenKind.TheVariants as kinds
+use Rattle.psdl_tokens.specs.declared.lexeme.Lexeme.{Lexeme}
+use Rattle.psdl_tokens.specs.declared.lexeme.Lexeme.TheVariants.{Gap, Found, Wrong}
+use Rattle.psdl_tokens.specs.Places.{place_of}
+use Rattle.psdl_tokens.specs.Lexis.{Lexed, lexeme, size_of, before, lexed_behind, lexed}
 use Rattle.psdl_syntax.specs.Seen.{Seen, Word, Sign, Placed, Named, Number, Quoted, Stray, seen, seen_kind, keeps_place}
-use Rattle.psdl_syntax.specs.Depth.{room, room_behind, room_behind_mark}
+use Rattle.psdl_syntax.specs.Depth.{room, room_behind}
 use Rattle.psdl_syntax.proofs.Moving.{moved_seen}
 
 -- each token stands behind the one in front, and the first not in front of an offset

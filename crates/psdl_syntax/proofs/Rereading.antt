@@ -1,36 +1,34 @@
 -- The tokens of a canonical text.
-use Rattle.std.proofs.Common.{◌≡◌, ℕ, zero, suc, ◌+◌, ◌-◌, ◌^◌, ◌<◌, ◌≤◌, List, [], ◌∷◌, ◌++◌, Bool, true, false, not, cond, ◌||◌, ◌&&◌, ◌==◌, length, take, drop, map, All, Option, Some, None, refl, sym, ap, ◌∙◌, inl, inr, subst, arith, append_assoc}
+use Rattle.std.proofs.Common.{◌≡◌, ℕ, zero, suc, ◌-◌, ◌<◌, List, [], ◌∷◌, ◌++◌, Bool, true, false, ◌||◌, length, drop, map, None, refl, sym, ap, ◌∙◌, subst, arith, append_assoc}
 use Rattle.std.specs.List.{list_all}
-use Rattle.std.specs.Char.{is_ascii_alphabetic, is_ascii_digit}
+use Rattle.std.specs.Char.{is_ascii_alphabetic}
 use Rattle.std.specs.Fmt.{decimal}
-use Rattle.std.proofs.lemmas.Bool.{cases_Bool, false≢true, cond_both, and_parts}
+use Rattle.std.proofs.lemmas.Bool.{false≢true, cond_both, and_parts}
 use Rattle.std.proofs.lemmas.List.{append-nil, take_at, drop_at}
 use Rattle.pss_base.specs.declared.place.Place.{Place}
-use Rattle.psdl_syntax.specs.declared.token.Keyword.{Keyword}
-use Rattle.psdl_syntax.specs.declared.token.Keyword.TheVariants as keywords
-use Rattle.psdl_syntax.specs.declared.token.Mark.{Mark}
-use Rattle.psdl_syntax.specs.declared.token.Mark.TheVariants as marks
-use Rattle.psdl_syntax.specs.declared.token.Token.{Token}
-use Rattle.psdl_syntax.specs.declared.token.TokenKind.{TokenKind}
-use Rattle.psdl_syntax.specs.declared.token.TokenKind.TheVariants as kinds
-use Rattle.psdl_syntax.specs.declared.lexeme.Lexeme.{Lexeme}
-use Rattle.psdl_syntax.specs.declared.lexeme.Lexeme.TheVariants.{Gap, Found, Wrong}
+use Rattle.psdl_tokens.specs.declared.token.Keyword.{Keyword}
+use Rattle.psdl_tokens.specs.declared.token.Keyword.TheVariants as keywords
+use Rattle.psdl_tokens.specs.declared.token.Mark.{Mark}
+use Rattle.psdl_tokens.specs.declared.token.Mark.TheVariants as marks
+use Rattle.psdl_tokens.specs.declared.token.TokenKind.{TokenKind}
+use Rattle.psdl_tokens.specs.declared.token.TokenKind.TheVariants as kinds
+use Rattle.psdl_tokens.specs.declared.lexeme.Lexeme.TheVariants.{Gap, Found}
 use Rattle.psdl_syntax.specs.declared.printing.printer.Edge.{Edge}
 use Rattle.psdl_syntax.specs.declared.printing.printer.Edge.TheVariants as edges
-use Rattle.psdl_syntax.specs.Alphabet.{first, is_word_byte, is_blank}
-use Rattle.psdl_syntax.specs.Places.{place_of}
-use Rattle.psdl_syntax.specs.Spellings.{keyword_spelling, mark_spelling}
-use Rattle.psdl_syntax.specs.Lexis.{is_keyword_like, is_left_out, lexeme, before, size_of, lexed_behind, lexed, Lexed}
-use Rattle.psdl_syntax.specs.Seen.{Seen, Word, Sign, Placed, Named, Number, Quoted, Stray, seen, seen_kind, keeps_place}
-use Rattle.psdl_syntax.specs.Canonical.{indent, gap, closing_gap, clings, mark_gap, gap_before, name_text, string_text, line_end, token_text, mark_edge, edge_behind, mark_depth, depth_behind, text_behind, text_of}
+use Rattle.psdl_tokens.specs.Alphabet.{first, is_blank}
+use Rattle.psdl_tokens.specs.Places.{place_of}
+use Rattle.psdl_tokens.specs.Spellings.{keyword_spelling, mark_spelling}
+use Rattle.psdl_tokens.specs.Lexis.{is_keyword_like, is_left_out, lexeme, before, size_of, lexed_behind, Lexed}
+use Rattle.psdl_syntax.specs.Seen.{Seen, Word, Sign, Placed, Named, Number, Quoted, Stray}
+use Rattle.psdl_syntax.specs.Canonical.{indent, gap, closing_gap, clings, mark_gap, name_text, string_text, line_end, mark_edge, mark_depth, text_behind}
 use Rattle.psdl_syntax.proofs.Following.{mark_ends, behind_keyword, behind_identifier, behind_operand, behind_mark}
 use Rattle.psdl_syntax.proofs.MarksAgain.{mark_again}
 use Rattle.psdl_syntax.proofs.WordsAgain.{keyword_again, name_again}
 use Rattle.psdl_syntax.proofs.IntegersAgain.{integer_is_read, size_decimal}
 use Rattle.psdl_syntax.proofs.StringsAgain.{string_again}
-use Rattle.psdl_syntax.proofs.Standing.{begins_less, is_less_mark, is_less, may_stand, stand}
-use Rattle.psdl_syntax.proofs.Sounding.{SoundKind, kind_of, Sound}
-use Rattle.psdl_syntax.proofs.Lexing.{lexed-inside}
+use Rattle.psdl_syntax.proofs.Standing.{is_less_mark, may_stand, stand}
+use Rattle.psdl_syntax.proofs.Sounding.{kind_of, Sound}
+use Rattle.psdl_tokens.proofs.Lexing.{lexed-inside}
 
 indent_blank : (depth : ℕ) → list_all is_blank (indent depth) ≡ true
 indent_blank zero = refl

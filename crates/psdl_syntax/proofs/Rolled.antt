@@ -1,26 +1,26 @@
 -- A part that was put together, seen as a tree.
 use Rattle.std.proofs.Common.{◌≡◌, ◌∙◌, sym, ap, map, Box, Vec, Global}
-use Rattle.psdl_syntax.specs.declared.tree.names.Identifier.{Identifier}
-use Rattle.psdl_syntax.specs.declared.tree.definitions.Definition.{Definition as DefinitionNode}
-use Rattle.psdl_syntax.specs.declared.tree.definitions.Definition.TheViews.{Module, roll-Module}
-use Rattle.psdl_syntax.specs.declared.tree.definitions.Definition.TheVariants.{rolls-Module}
-use Rattle.psdl_syntax.specs.declared.tree.definitions.Definition.TheOpen as open_definition
-use Rattle.psdl_syntax.specs.declared.tree.definitions.Definition.TheFolds.{fold-roll-Definition, fold-roll-Module}
-use Rattle.psdl_syntax.specs.declared.tree.expressions.Expression.{Expression as ExpressionNode}
+use Rattle.psdl_tree.specs.declared.names.Identifier.{Identifier}
+use Rattle.psdl_tree.specs.declared.definitions.Definition.{Definition as DefinitionNode}
+use Rattle.psdl_tree.specs.declared.definitions.Definition.TheViews.{Module, roll-Module}
+use Rattle.psdl_tree.specs.declared.definitions.Definition.TheVariants.{rolls-Module}
+use Rattle.psdl_tree.specs.declared.definitions.Definition.TheOpen as open_definition
+use Rattle.psdl_tree.specs.declared.definitions.Definition.TheFolds.{fold-roll-Definition, fold-roll-Module}
+use Rattle.psdl_tree.specs.declared.expressions.Expression.{Expression as ExpressionNode}
 use Rattle.pss_base.specs.declared.place.Place.{Place}
-use Rattle.psdl_syntax.specs.declared.tree.expressions.ShiftOperator.{ShiftOperator}
-use Rattle.psdl_syntax.specs.declared.tree.expressions.SumOperator.{SumOperator}
-use Rattle.psdl_syntax.specs.declared.tree.expressions.ProductOperator.{ProductOperator}
-use Rattle.psdl_syntax.specs.declared.tree.expressions.Xor.{Xor as XorNode}
-use Rattle.psdl_syntax.specs.declared.tree.expressions.And.{And as AndNode}
-use Rattle.psdl_syntax.specs.declared.tree.expressions.Shift.{Shift as ShiftNode}
-use Rattle.psdl_syntax.specs.declared.tree.expressions.Sum.{Sum as SumNode}
-use Rattle.psdl_syntax.specs.declared.tree.expressions.Product.{Product as ProductNode}
-use Rattle.psdl_syntax.specs.declared.tree.expressions.Unary.{Unary as UnaryNode}
-use Rattle.psdl_syntax.specs.declared.tree.expressions.Primary.TheViews.{roll-OrPart, roll-XorPart, roll-AndPart, roll-ShiftPart, roll-SumPart, roll-ProductPart, roll-Group}
-use Rattle.psdl_syntax.specs.declared.tree.expressions.Primary.TheFolds.{fold-roll-OrPart, fold-roll-XorPart, fold-roll-AndPart, fold-roll-ShiftPart, fold-roll-SumPart, fold-roll-ProductPart, fold-roll-Group}
-use Rattle.psdl_syntax.specs.Trees.{Definition, ModuleDefinition, Primary, And, Expression, Product, Shift, Sum, Unary, Xor}
-use Rattle.psdl_syntax.specs.Views.{primary_step, and_step, and_part_step, expression_step, group_step, or_part_step, product_step, product_part_step, shift_step, shift_part_step, sum_step, sum_part_step, unary_step, xor_step, xor_part_step, or_part_view, xor_part_view, and_part_view, shift_part_view, sum_part_view, product_part_view, xor_view, and_view, shift_view, sum_view, product_view, unary_view, group_view, expression_view, definition_view, definition_step, module_step, definitions_of}
+use Rattle.psdl_tree.specs.declared.expressions.ShiftOperator.{ShiftOperator}
+use Rattle.psdl_tree.specs.declared.expressions.SumOperator.{SumOperator}
+use Rattle.psdl_tree.specs.declared.expressions.ProductOperator.{ProductOperator}
+use Rattle.psdl_tree.specs.declared.expressions.Xor.{Xor as XorNode}
+use Rattle.psdl_tree.specs.declared.expressions.And.{And as AndNode}
+use Rattle.psdl_tree.specs.declared.expressions.Shift.{Shift as ShiftNode}
+use Rattle.psdl_tree.specs.declared.expressions.Sum.{Sum as SumNode}
+use Rattle.psdl_tree.specs.declared.expressions.Product.{Product as ProductNode}
+use Rattle.psdl_tree.specs.declared.expressions.Unary.{Unary as UnaryNode}
+use Rattle.psdl_tree.specs.declared.expressions.Primary.TheViews.{roll-OrPart, roll-XorPart, roll-AndPart, roll-ShiftPart, roll-SumPart, roll-ProductPart, roll-Group}
+use Rattle.psdl_tree.specs.declared.expressions.Primary.TheFolds.{fold-roll-OrPart, fold-roll-XorPart, fold-roll-AndPart, fold-roll-ShiftPart, fold-roll-SumPart, fold-roll-ProductPart, fold-roll-Group}
+use Rattle.psdl_tree.specs.Trees.{Definition, ModuleDefinition, Primary, And, Expression, Product, Shift, Sum, Unary, Xor}
+use Rattle.psdl_tree.specs.Views.{primary_step, and_step, and_part_step, expression_step, group_step, or_part_step, product_step, product_part_step, shift_step, shift_part_step, sum_step, sum_part_step, unary_step, xor_step, xor_part_step, or_part_view, xor_part_view, and_part_view, shift_part_view, sum_part_view, product_part_view, xor_view, and_view, shift_view, sum_view, product_view, unary_view, group_view, expression_view, definition_view, definition_step, module_step, definitions_of}
 
 pub or_part_rolled : (place : Place) (operand : XorNode) → or_part_view (roll-OrPart (record { place = place; operand = operand })) ≡ (place, xor_view operand)
 or_part_rolled place operand = fold-roll-OrPart Primary And (Place × Shift) Expression (Place × Expression) (Place × Xor) Product (Place × ProductOperator × Unary) Shift (Place × ShiftOperator × Sum) Sum (Place × SumOperator × Product) Unary Xor (Place × And) primary_step and_step and_part_step expression_step group_step or_part_step product_step product_part_step shift_step shift_part_step sum_step sum_part_step unary_step xor_step xor_part_step (record { place = place; operand = operand })

@@ -1,18 +1,18 @@
 -- A sequence type that was printed.
 use Rattle.std.proofs.Common.{◌≡◌, ◌++◌, ◌∷◌, [], List, Option, option_map, ap, sym, ◌∙◌, Box, Global}
 use Rattle.part_readers.specs.Sentences.{maybe}
-use Rattle.psdl_syntax.specs.declared.token.Keyword.TheVariants as keywords
-use Rattle.psdl_syntax.specs.declared.token.Mark.TheVariants as marks
+use Rattle.psdl_tokens.specs.declared.token.Keyword.TheVariants as keywords
+use Rattle.psdl_tokens.specs.declared.token.Mark.TheVariants as marks
 use Rattle.psdl_syntax.specs.declared.printing.printer.Printer.{Printer}
-use Rattle.psdl_syntax.specs.declared.tree.expressions.Expression.{Expression as ExpressionNode}
-use Rattle.psdl_syntax.specs.declared.tree.types.TypeSpec.{TypeSpec as TypeSpecNode}
-use Rattle.psdl_syntax.specs.declared.tree.types.TypeSpec.TheVariants as nodes
-use Rattle.psdl_syntax.specs.declared.tree.types.TypeSpec.TheOpen as open_spec
-use Rattle.psdl_syntax.specs.declared.tree.types.TypeSpec.TheFolds.{fold-roll-TypeSpec}
+use Rattle.psdl_tree.specs.declared.expressions.Expression.{Expression as ExpressionNode}
+use Rattle.psdl_tree.specs.declared.types.TypeSpec.{TypeSpec as TypeSpecNode}
+use Rattle.psdl_tree.specs.declared.types.TypeSpec.TheVariants as nodes
+use Rattle.psdl_tree.specs.declared.types.TypeSpec.TheOpen as open_spec
+use Rattle.psdl_tree.specs.declared.types.TypeSpec.TheFolds.{fold-roll-TypeSpec}
 use Rattle.psdl_syntax.specs.Seen.{Seen, Word, Sign}
-use Rattle.psdl_syntax.specs.Trees.{Expression, TypeSpec, Sequence}
+use Rattle.psdl_tree.specs.Trees.{TypeSpec, Sequence}
 use Rattle.psdl_syntax.specs.Grammar as grammar
-use Rattle.psdl_syntax.specs.Views.{spec_step, type_spec_view, expression_view}
+use Rattle.psdl_tree.specs.Views.{spec_step, type_spec_view, expression_view}
 use Rattle.psdl_syntax.specs.Printing.{put, put_mark, printed}
 use Rattle.psdl_syntax.proofs.Printed.{printed_append}
 

@@ -1,31 +1,29 @@
 -- What the tokens of a text may hold: names that are words, integers below 2^127, strings without NUL.
-use Rattle.std.proofs.Common.{◌≡◌, ℕ, zero, suc, ◌+◌, ◌-◌, ◌^◌, ◌<◌, List, [], ◌∷◌, ◌++◌, Bool, true, false, not, cond, ◌||◌, ◌&&◌, ◌==◌, length, take, drop, get_or, All, Option, Some, None, refl, sym, ap, ◌∙◌, inl, inr, arith}
+use Rattle.std.proofs.Common.{◌≡◌, ℕ, zero, suc, ◌+◌, ◌-◌, ◌^◌, ◌<◌, List, [], ◌∷◌, ◌++◌, true, false, cond, ◌||◌, ◌&&◌, ◌==◌, length, take, drop, All, Option, Some, None, refl, inl, inr, arith}
 use Rattle.std.specs.Prelude.{nat_lt, option_map}
 use Rattle.std.specs.Option.{option_map_or}
 use Rattle.std.specs.List.{list_all, prefix_len}
 use Rattle.std.specs.Char.{is_ascii_alphabetic, is_ascii_digit, is_digit}
 use Rattle.std.specs.Str.Parse.{digits_value}
 use Rattle.std.proofs.Math.Numerals.{one-add}
-use Rattle.std.proofs.lemmas.Bool.{cases_Bool, false≢true, cond_both, ltb-true, lt-ltb, and_from, or_parts, or_cases, eqb-true, eqb-false}
+use Rattle.std.proofs.lemmas.Bool.{cases_Bool, cond_both, ltb-true, lt-ltb, and_from, or_parts, eqb-false}
 use Rattle.pss_base.specs.declared.place.Place.{Place}
-use Rattle.psdl_syntax.specs.declared.character.Character.{Character}
-use Rattle.psdl_syntax.specs.declared.quoted.Quoted.{Quoted}
-use Rattle.psdl_syntax.specs.declared.token.Keyword.{Keyword}
-use Rattle.psdl_syntax.specs.declared.token.Mark.{Mark}
-use Rattle.psdl_syntax.specs.declared.token.Token.{Token}
-use Rattle.psdl_syntax.specs.declared.token.TokenKind.{TokenKind}
-use Rattle.psdl_syntax.specs.declared.token.TokenKind.TheVariants as kinds
-use Rattle.psdl_syntax.specs.declared.lexeme.Lexeme.{Lexeme}
-use Rattle.psdl_syntax.specs.declared.lexeme.Lexeme.TheVariants.{Gap, Found, Wrong}
-use Rattle.psdl_syntax.specs.declared.lexeme.LexicalKind.TheVariants.{BadByte, OpenComment, BadLiteral, LiteralTooWide, LeftOut}
-use Rattle.psdl_syntax.specs.Alphabet.{first, second, is_word_byte, is_blank, run_at}
-use Rattle.psdl_syntax.specs.Places.{place_of, begins_line}
-use Rattle.psdl_syntax.specs.Spellings.{keyword_of, mark_at, mark_spelling}
-use Rattle.psdl_syntax.specs.Numerals.{integer_of}
-use Rattle.psdl_syntax.specs.Comments.{closing, line_len}
-use Rattle.psdl_syntax.specs.Characters.{character, escape, named_escape, numbered_escape, digit_count, byte_of, onto_string, longer, taken, string_in}
+use Rattle.psdl_tokens.specs.declared.character.Character.{Character}
+use Rattle.psdl_tokens.specs.declared.quoted.Quoted.{Quoted}
+use Rattle.psdl_tokens.specs.declared.token.Token.{Token}
+use Rattle.psdl_tokens.specs.declared.token.TokenKind.{TokenKind}
+use Rattle.psdl_tokens.specs.declared.token.TokenKind.TheVariants as kinds
+use Rattle.psdl_tokens.specs.declared.lexeme.Lexeme.{Lexeme}
+use Rattle.psdl_tokens.specs.declared.lexeme.Lexeme.TheVariants.{Gap, Found, Wrong}
+use Rattle.psdl_tokens.specs.declared.lexeme.LexicalKind.TheVariants.{BadByte, OpenComment, BadLiteral, LiteralTooWide, LeftOut}
+use Rattle.psdl_tokens.specs.Alphabet.{first, second, is_word_byte, is_blank, run_at}
+use Rattle.psdl_tokens.specs.Places.{place_of, begins_line}
+use Rattle.psdl_tokens.specs.Spellings.{keyword_of, mark_at, mark_spelling}
+use Rattle.psdl_tokens.specs.Numerals.{integer_of}
+use Rattle.psdl_tokens.specs.Comments.{closing, line_len}
+use Rattle.psdl_tokens.specs.Characters.{character, escape, named_escape, numbered_escape, digit_count, byte_of, onto_string, longer, taken, string_in}
 use Rattle.psdl_syntax.specs.Seen.{Seen, Word, Sign, Placed, Named, Number, Stray, Quoted as QuotedSeen}
-use Rattle.psdl_syntax.specs.Lexis.{lexeme, word_lexeme, identifier_lexeme, integer_lexeme, integer_found, string_lexeme, comment_or_mark, comment_lexeme, mark_lexeme, is_keyword_like, is_left_out, before, size_of, lexed_behind, lexed, Lexed}
+use Rattle.psdl_tokens.specs.Lexis.{lexeme, word_lexeme, identifier_lexeme, integer_lexeme, integer_found, string_lexeme, comment_or_mark, comment_lexeme, mark_lexeme, is_keyword_like, is_left_out, before, size_of, lexed_behind, lexed, Lexed}
 use Rattle.psdl_syntax.proofs.StringsAgain.{is_text_byte}
 
 -- a token that a text may have

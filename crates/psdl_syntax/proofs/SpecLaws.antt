@@ -6,11 +6,11 @@ use Rattle.part_readers.specs.Sentences.{joined, maybe}
 use Rattle.part_readers.proofs.Boths.{both_reads, mapped_reads, both_tokens}
 use Rattle.part_readers.proofs.Choices.{either_reads, either_tokens, optional_reads}
 use Rattle.part_readers.proofs.Steps.{narrowed}
-use Rattle.psdl_syntax.specs.declared.token.Keyword.TheVariants as keywords
-use Rattle.psdl_syntax.specs.declared.token.Mark.TheVariants as marks
-use Rattle.psdl_syntax.specs.declared.tree.names.Identifier.{Identifier}
+use Rattle.psdl_tokens.specs.declared.token.Keyword.TheVariants as keywords
+use Rattle.psdl_tokens.specs.declared.token.Mark.TheVariants as marks
+use Rattle.psdl_tree.specs.declared.names.Identifier.{Identifier}
 use Rattle.psdl_syntax.specs.Seen.{Seen, Word, Sign, Placed, Named}
-use Rattle.psdl_syntax.specs.Trees.{Name, Expression, PlainType, IntegerPlain, CharPlain, BooleanPlain, OctetPlain, StringPlain, NamePlain, TypeSpec, PlainSpec, Sequence, StateType, PlainState, Reference, Declarator, Declarators, Field}
+use Rattle.psdl_tree.specs.Trees.{Name, Expression, PlainType, IntegerPlain, CharPlain, BooleanPlain, OctetPlain, StringPlain, NamePlain, TypeSpec, PlainSpec, Sequence, StateType, PlainState, Reference, Declarator, Declarators, Field}
 use Rattle.psdl_syntax.specs.Grammar.{sign, identifier, behind, after_commas, name, string_bound, plain_type, type_spec, state_type, dimension, declarator, declarators, field, expression}
 use Rattle.psdl_syntax.specs.Productions.{Reads, is_word, is_mark, is_inside, sign_at, identifier_at, between, up_to_brace, behind_sign, listed, name_at, expression_at, plain_type_at, spec_of, comma_bound_at, sequence_with, type_spec_with, sequence_inside, type_spec_at, state_type_of, reference_at, state_type_at, dimension_at, declarator_at, declarators_at, field_at, fields_at}
 use Rattle.psdl_syntax.proofs.Psdl.{psdl, Keeps, Ends, sign_keeps, identifier_keeps}

@@ -1,8 +1,8 @@
 -- What stands behind the first tokens of a text of the form.
 use Rattle.std.proofs.Common.{ℕ, List, [], ◌∷◌, ◌≡◌, ◌≤◌, length, codes, drop, get_or, sym, ap, ◌∙◌, subst}
 use Rattle.psdl_syntax.specs.declared.form.FirstForm.{FirstForm}
-use Rattle.psdl_syntax.specs.Tokens.{tokens}
-use Rattle.psdl_syntax.specs.Names.{IsName, SameButForCase}
+use Rattle.psdl_tokens.specs.Tokens.{tokens}
+use Rattle.psdl_tokens.specs.Names.{IsName, SameButForCase}
 use Rattle.psdl_syntax.specs.Form.{spelling, IsFirstForm}
 
 -- The tokens up to the member's name were found.

@@ -4,10 +4,10 @@ use Rattle.part_readers.specs.Reading.{starts, both, either, optional}
 use Rattle.part_readers.specs.Sentences.{joined, maybe}
 use Rattle.part_readers.proofs.Boths.{both_reads, mapped_reads, both_tokens}
 use Rattle.part_readers.proofs.Choices.{either_reads, either_tokens, optional_reads}
-use Rattle.psdl_syntax.specs.declared.token.Keyword.TheVariants as keywords
-use Rattle.psdl_syntax.specs.declared.token.Mark.TheVariants as marks
+use Rattle.psdl_tokens.specs.declared.token.Keyword.TheVariants as keywords
+use Rattle.psdl_tokens.specs.declared.token.Mark.TheVariants as marks
 use Rattle.psdl_syntax.specs.Seen.{Seen, Word, Sign}
-use Rattle.psdl_syntax.specs.Trees.{Name, Names, State, Operation, Key, Factory, AbstractTypeMember, StateMember, OperationMember, AbstractTypeBody, AbstractType, StorageTypeBody, StorageType, AbstractHomeMember, KeyMember, FactoryMember, HomeOperation, AbstractHomeBody, AbstractHome, HomeMember, PlainKey, PrimaryKey, HomeFactory, StorageHome, Provision, Catalog}
+use Rattle.psdl_tree.specs.Trees.{Name, Names, State, Operation, Key, Factory, AbstractTypeMember, StateMember, OperationMember, AbstractTypeBody, AbstractType, StorageTypeBody, StorageType, AbstractHomeMember, KeyMember, FactoryMember, HomeOperation, AbstractHomeBody, AbstractHome, HomeMember, PlainKey, PrimaryKey, HomeFactory, StorageHome, Provision, Catalog}
 use Rattle.psdl_syntax.specs.Grammar.{word, sign, identifier, behind, name, names, state, operation, key, factory, braced, abstract_type_member, abstract_type_body, storage_type_body, storage_type, abstract_home_member, abstract_home_body, home_member, storage_home, provision, catalog}
 use Rattle.psdl_syntax.specs.Productions.{Reads, is_word, is_mark, is_inside, word_at, sign_at, identifier_at, braces, up_to_brace, behind_word, behind_sign, name_at, names_at, state_at, is_state, operation_at, key_at, factory_at, bases_at, base_at, implements_at, type_member_of, abstract_type_member_at, abstract_type_members_at, abstract_type_body_at, is_abstract_type_body, abstract_type_at, states_at, storage_type_body_at, is_storage_type_body, storage_type_at, abstract_member_of, abstract_home_member_at, abstract_home_members_at, abstract_home_body_at, abstract_home_at, home_member_of, primary_key_at, home_member_at, home_members_at, storage_home_at, provision_at, provisions_at, catalog_at}
 use Rattle.psdl_syntax.proofs.Psdl.{psdl, Keeps, word_keeps, sign_keeps, identifier_keeps}

@@ -1,16 +1,16 @@
 -- Strings that are written are read again.
-use Rattle.std.proofs.Common.{◌≡◌, ℕ, zero, suc, ◌+◌, ◌-◌, ◌*◌, ◌/◌, ◌%◌, ◌<◌, ◌≤◌, List, [], ◌∷◌, ◌++◌, Bool, true, false, not, ◌||◌, ◌&&◌, ◌==◌, length, take, Option, Some, None, refl, sym, ap, ◌∙◌, inl, inr, arith, append_assoc, length-append}
+use Rattle.std.proofs.Common.{◌≡◌, ℕ, ◌+◌, ◌-◌, ◌/◌, ◌%◌, ◌<◌, List, [], ◌∷◌, ◌++◌, Bool, true, false, not, ◌||◌, ◌&&◌, ◌==◌, length, take, Option, Some, refl, ap, ◌∙◌, inl, inr, arith, append_assoc, length-append}
 use Rattle.std.specs.Prelude.{nat_lt, option_map}
 use Rattle.std.specs.List.{list_all}
 use Rattle.std.specs.Char.{is_digit, digit_value}
 use Rattle.std.specs.Str.Parse.{digits_value}
-use Rattle.std.proofs.lemmas.Bool.{cases_Bool, false≢true, cases_lt, lt-ltb, ltb-true, ne_eqb, eqb-true, and_parts, or_parts, or_cases, not-false}
-use Rattle.psdl_syntax.specs.declared.character.Character.{Character}
-use Rattle.psdl_syntax.specs.declared.quoted.Quoted.{Quoted}
-use Rattle.psdl_syntax.specs.declared.token.TokenKind.TheVariants as kinds
-use Rattle.psdl_syntax.specs.declared.lexeme.Lexeme.TheVariants.{Gap, Found, Wrong}
-use Rattle.psdl_syntax.specs.Characters.{character, escape, numbered_escape, digit_count, byte_of, onto_string, longer, taken, string_in}
-use Rattle.psdl_syntax.specs.Lexis.{lexeme, string_lexeme}
+use Rattle.std.proofs.lemmas.Bool.{cases_Bool, cases_lt, lt-ltb, ltb-true, ne_eqb, eqb-true, and_parts, or_parts, or_cases, not-false}
+use Rattle.psdl_tokens.specs.declared.character.Character.{Character}
+use Rattle.psdl_tokens.specs.declared.quoted.Quoted.{Quoted}
+use Rattle.psdl_tokens.specs.declared.token.TokenKind.TheVariants as kinds
+use Rattle.psdl_tokens.specs.declared.lexeme.Lexeme.TheVariants.{Found}
+use Rattle.psdl_tokens.specs.Characters.{character, digit_count, byte_of, onto_string, longer, string_in}
+use Rattle.psdl_tokens.specs.Lexis.{lexeme, string_lexeme}
 use Rattle.psdl_syntax.specs.Canonical.{digit_text, is_printed, is_numbered, character_text, characters_text, string_text}
 
 -- a byte that is not NUL

@@ -6,16 +6,16 @@ use Rattle.part_readers.specs.Sentences.{maybe}
 use Rattle.part_readers.proofs.Boths.{both_reads, mapped_reads, both_tokens}
 use Rattle.part_readers.proofs.Choices.{either_reads, either_tokens, optional_reads}
 use Rattle.part_readers.proofs.Steps.{narrowed}
-use Rattle.psdl_syntax.specs.declared.token.Keyword.{Keyword}
-use Rattle.psdl_syntax.specs.declared.token.Keyword.TheVariants as keywords
-use Rattle.psdl_syntax.specs.declared.token.Mark.{Mark}
-use Rattle.psdl_syntax.specs.declared.token.Mark.TheVariants as marks
-use Rattle.psdl_syntax.specs.declared.tree.types.IntegerType.{IntegerType}
-use Rattle.psdl_syntax.specs.declared.tree.types.IntegerSize.{IntegerSize}
-use Rattle.psdl_syntax.specs.declared.tree.types.IntegerSize.TheVariants as sizes
+use Rattle.psdl_tokens.specs.declared.token.Keyword.{Keyword}
+use Rattle.psdl_tokens.specs.declared.token.Keyword.TheVariants as keywords
+use Rattle.psdl_tokens.specs.declared.token.Mark.{Mark}
+use Rattle.psdl_tokens.specs.declared.token.Mark.TheVariants as marks
+use Rattle.psdl_tree.specs.declared.types.IntegerType.{IntegerType}
+use Rattle.psdl_tree.specs.declared.types.IntegerSize.{IntegerSize}
+use Rattle.psdl_tree.specs.declared.types.IntegerSize.TheVariants as sizes
 use Rattle.psdl_syntax.specs.Seen.{Seen, Word, Sign, Placed}
-use Rattle.psdl_syntax.specs.Trees.{Name, Expression, PlainType, IntegerPlain, CharPlain, BooleanPlain, OctetPlain, StringPlain, NamePlain}
-use Rattle.psdl_syntax.specs.Grammar.{word, sign, name, names, unsigned, integer_size, integer, string_bound, plain_type, braced, and, expression}
+use Rattle.psdl_tree.specs.Trees.{Name, Expression, PlainType, IntegerPlain, CharPlain, BooleanPlain, OctetPlain, StringPlain, NamePlain}
+use Rattle.psdl_syntax.specs.Grammar.{name, unsigned, integer_size, integer, string_bound, plain_type, braced, expression}
 use Rattle.psdl_syntax.specs.Productions.{Reads, is_word, is_mark, sign_part, place_part, word_at, enclosed, between, braces, name_at, expression_at, size_of, integer_size_at, integer_at, is_integer, plain_of, bound_at, string_at, plain_type_at}
 use Rattle.psdl_syntax.proofs.Psdl.{psdl, Keeps, Ends, word_keeps, sign_told, sign_only, place_told, place_only, some_place}
 use Rattle.psdl_syntax.proofs.Parts.{anything, behind_word_keeps}

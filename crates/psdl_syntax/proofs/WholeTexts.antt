@@ -1,10 +1,10 @@
 -- What reading a whole text says.
-use Rattle.std.proofs.Common.{Bool, true, false, ◌≡◌, ℕ, zero, suc, ◌+◌, ◌-◌, ◌≤◌, ◌<◌, List, [], ◌∷◌, ◌++◌, length, take, map, Result, Ok, Err, Option, Some, None, refl, sym, ap, subst, ◌∙◌, append_assoc, length-append, arith, ◌⊎◌, inl, inr}
+use Rattle.std.proofs.Common.{false, ◌≡◌, ℕ, ◌+◌, ◌-◌, List, [], ◌∷◌, ◌++◌, length, take, Result, Ok, Err, Some, None, refl, sym, ap, subst, ◌∙◌, append_assoc, length-append, arith, ◌⊎◌, inl, inr}
 use Rattle.std.specs.Prelude.{IfOk, OnOk, IsSome}
 use Rattle.part_readers.specs.declared.refusal.Refusal.{Refusal}
 use Rattle.part_readers.specs.declared.refusal.Refusal.TheVariants as refusals
 use Rattle.part_readers.specs.Reading.{Gives, starts, whole}
-use Rattle.part_readers.specs.Sentences.{Begins, IsFirstFault, joined}
+use Rattle.part_readers.specs.Sentences.{IsFirstFault, joined}
 use Rattle.part_readers.proofs.Law.{Stops}
 use Rattle.part_readers.proofs.Steps.{run_append}
 use Rattle.part_readers.proofs.Wholes.{found, given_again, excused_stops, first_fault, level_before, front_is, front_plus}
@@ -12,12 +12,12 @@ use Rattle.psdl_syntax.specs.declared.fault.Fault.{Fault}
 use Rattle.psdl_syntax.specs.declared.fault.Fault.TheVariants.{Unexpected, TooDeep}
 use Rattle.psdl_syntax.specs.Seen.{Seen}
 use Rattle.psdl_syntax.specs.Depth.{room, room_behind, IsFirstDeep, FitsBefore}
-use Rattle.psdl_syntax.specs.Trees.{Definition, Definitions}
+use Rattle.psdl_tree.specs.Trees.{Definition, Definitions}
 use Rattle.psdl_syntax.specs.Grammar.{definition, definitions}
-use Rattle.psdl_syntax.specs.Views.{definitions_of}
+use Rattle.psdl_tree.specs.Views.{definitions_of}
 use Rattle.psdl_syntax.specs.Answers.{IsGiven, IfTooDeep, IfUnexpected}
 use Rattle.psdl_syntax.specs.Productions.{is_any, text_at}
-use Rattle.psdl_syntax.proofs.Psdl.{psdl, Keeps, left_of, IsTooDeep}
+use Rattle.psdl_syntax.proofs.Psdl.{psdl, left_of, IsTooDeep}
 use Rattle.psdl_syntax.proofs.Parts.{anything}
 use Rattle.psdl_syntax.proofs.DefinitionLaws.{list_of, list_onto, definitions_joined, text_at_keeps}
 

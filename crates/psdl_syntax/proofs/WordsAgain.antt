@@ -1,19 +1,18 @@
 -- Words that are written are read again.
-use Rattle.std.proofs.Common.{◌≡◌, ℕ, zero, suc, ◌+◌, List, [], ◌∷◌, ◌++◌, Bool, true, false, not, ◌||◌, ◌&&◌, ◌==◌, length, take, map, Option, Some, None, refl, sym, ap, ◌∙◌, inl, inr, arith}
+use Rattle.std.proofs.Common.{◌≡◌, ℕ, List, [], ◌∷◌, ◌++◌, true, false, not, ◌||◌, length, take, map, Some, None, refl, sym, ap, ◌∙◌, inl, inr, arith}
 use Rattle.std.specs.List.{list_all, list_any, find, prefix_len}
 use Rattle.std.specs.Char.{is_ascii_alphabetic}
 use Rattle.std.specs.Str.{bytes_eq, str_eq_ignore_ascii_case, str_to_ascii_lowercase}
 use Rattle.std.proofs.lemmas.Bool.{cases_Bool, false≢true, not-true, and_parts, or_parts}
 use Rattle.std.proofs.lemmas.List.{take_at}
 use Rattle.std.proofs.lemmas.Slice.Eq.{bytes_eq-Decides}
-use Rattle.psdl_syntax.specs.declared.token.Keyword.{Keyword}
-use Rattle.psdl_syntax.specs.declared.token.Keyword.TheVariants as keywords
-use Rattle.psdl_syntax.specs.declared.token.TokenKind.TheVariants as kinds
-use Rattle.psdl_syntax.specs.declared.lexeme.Lexeme.TheVariants.{Gap, Found, Wrong}
-use Rattle.psdl_syntax.specs.Alphabet.{first, is_word_byte, is_blank, run_at}
-use Rattle.psdl_syntax.specs.Names as names
-use Rattle.psdl_syntax.specs.Spellings.{keyword_spelling, all_keywords, keyword_of}
-use Rattle.psdl_syntax.specs.Lexis.{lexeme, word_lexeme, identifier_lexeme, is_keyword_like, is_left_out}
+use Rattle.psdl_tokens.specs.declared.token.Keyword.{Keyword}
+use Rattle.psdl_tokens.specs.declared.token.Keyword.TheVariants as keywords
+use Rattle.psdl_tokens.specs.declared.token.TokenKind.TheVariants as kinds
+use Rattle.psdl_tokens.specs.declared.lexeme.Lexeme.TheVariants.{Found}
+use Rattle.psdl_tokens.specs.Alphabet.{first, is_word_byte, is_blank, run_at}
+use Rattle.psdl_tokens.specs.Spellings.{keyword_spelling, all_keywords, keyword_of}
+use Rattle.psdl_tokens.specs.Lexis.{lexeme, word_lexeme, identifier_lexeme, is_keyword_like, is_left_out}
 use Rattle.psdl_syntax.specs.Canonical.{name_text}
 
 -- letters, digits and `_` in front of another byte

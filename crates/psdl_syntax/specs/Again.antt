@@ -1,11 +1,11 @@
 -- What reading the canonical text of a tree again gives.
 use Rattle.std.specs.Prelude.{◌≡◌, ℕ, ◌^◌, ◌<◌, List, map, All, None}
 use Rattle.pss_base.specs.declared.place.Place.{Place}
-use Rattle.psdl_syntax.specs.declared.token.Token.{Token}
-use Rattle.psdl_syntax.specs.declared.token.TokenKind.{TokenKind}
-use Rattle.psdl_syntax.specs.Lexis.{lexed}
+use Rattle.psdl_tokens.specs.declared.token.Token.{Token}
+use Rattle.psdl_tokens.specs.declared.token.TokenKind.{TokenKind}
+use Rattle.psdl_tokens.specs.Lexis.{lexed}
 use Rattle.psdl_syntax.specs.Seen.{seen}
-use Rattle.psdl_syntax.specs.Trees.{Definitions}
+use Rattle.psdl_tree.specs.Trees.{Definitions}
 use Rattle.psdl_syntax.specs.Grammar.{definitions}
 use Rattle.psdl_syntax.specs.Depth.{room}
 use Rattle.psdl_syntax.specs.Moved.{moved}

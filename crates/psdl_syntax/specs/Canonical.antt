@@ -2,14 +2,14 @@
 use Rattle.std.specs.Prelude.{ℕ, ◌+◌, ◌-◌, ◌/◌, ◌%◌, zero, suc, List, [], ◌∷◌, ◌++◌, Bool, true, false, if◌then◌else◌, ◌&&◌, ◌||◌, ◌==◌, not, nat_lt}
 use Rattle.std.specs.Char.{is_digit}
 use Rattle.std.specs.Fmt.{decimal}
-use Rattle.psdl_syntax.specs.declared.token.Mark.{Mark}
-use Rattle.psdl_syntax.specs.declared.token.Mark.TheVariants.{ShiftLeft, ShiftRight, Scope, LeftBrace, RightBrace, LeftParen, RightParen, LeftBracket, RightBracket, Less, Greater, Colon, Semicolon, Comma, Equals, Or, Xor, And, Plus, Minus, Times, Divide, Remainder, Not}
+use Rattle.psdl_tokens.specs.declared.token.Mark.{Mark}
+use Rattle.psdl_tokens.specs.declared.token.Mark.TheVariants.{Scope, LeftBrace, RightBrace, LeftParen, RightParen, LeftBracket, RightBracket, Less, Greater, Semicolon, Comma, Plus, Minus, Not}
 use Rattle.psdl_syntax.specs.declared.printing.printer.Edge.{Edge}
 use Rattle.psdl_syntax.specs.declared.printing.printer.Edge.TheVariants as edges
-use Rattle.psdl_syntax.specs.Spellings.{keyword_spelling, mark_spelling}
-use Rattle.psdl_syntax.specs.Lexis.{is_keyword_like, is_left_out}
+use Rattle.psdl_tokens.specs.Spellings.{keyword_spelling, mark_spelling}
+use Rattle.psdl_tokens.specs.Lexis.{is_keyword_like, is_left_out}
 use Rattle.psdl_syntax.specs.Seen.{Seen, Word, Sign, Placed, Named, Number, Quoted, Stray}
-use Rattle.psdl_syntax.specs.Trees.{Definitions}
+use Rattle.psdl_tree.specs.Trees.{Definitions}
 use Rattle.psdl_syntax.specs.Grammar.{definitions}
 
 -- two spaces for each brace that is open

@@ -1,9 +1,9 @@
 -- Keywords and signs by number, by which they are told apart.
 use Rattle.std.specs.Prelude.{ℕ, Bool, ◌==◌}
-use Rattle.psdl_syntax.specs.declared.token.Keyword.{Keyword}
-use Rattle.psdl_syntax.specs.declared.token.Keyword.TheVariants as keywords
-use Rattle.psdl_syntax.specs.declared.token.Mark.{Mark}
-use Rattle.psdl_syntax.specs.declared.token.Mark.TheVariants as marks
+use Rattle.psdl_tokens.specs.declared.token.Keyword.{Keyword}
+use Rattle.psdl_tokens.specs.declared.token.Keyword.TheVariants as keywords
+use Rattle.psdl_tokens.specs.declared.token.Mark.{Mark}
+use Rattle.psdl_tokens.specs.declared.token.Mark.TheVariants as marks
 
 abbrev pub keyword_code : Keyword → ℕ
 keyword_code keywords.Abstract = 0

@@ -1,8 +1,8 @@
 -- Texts of one storage type with one long member, and one storage home of it.
 use Rattle.std.specs.Prelude.{ℕ, List, [], ◌∷◌, ◌≡◌, ◌≤◌, length, codes}
 use Rattle.psdl_syntax.specs.declared.form.FirstForm.{FirstForm}
-use Rattle.psdl_syntax.specs.Tokens.{tokens}
-use Rattle.psdl_syntax.specs.Names.{IsName, SameButForCase}
+use Rattle.psdl_tokens.specs.Tokens.{tokens}
+use Rattle.psdl_tokens.specs.Names.{IsName, SameButForCase}
 
 -- the tokens of `storagetype TYPE { state long MEMBER; }; storagehome HOME of TYPE { };`
 abbrev pub spelling : List ℕ → FirstForm → List (List ℕ)

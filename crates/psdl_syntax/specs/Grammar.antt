@@ -1,29 +1,29 @@
 -- The grammar: what tokens spell each tree, one case for each production.
-use Rattle.std.specs.Prelude.{ℕ, List, [], ◌∷◌, ◌++◌, Option, Some, None, Bool, true, false}
+use Rattle.std.specs.Prelude.{List, [], ◌∷◌, ◌++◌, Bool, true, false}
 use Rattle.pss_base.specs.declared.place.Place.{Place}
 use Rattle.part_readers.specs.Sentences.{joined, maybe}
-use Rattle.psdl_syntax.specs.declared.token.Keyword.{Keyword}
-use Rattle.psdl_syntax.specs.declared.token.Keyword.TheVariants as keywords
-use Rattle.psdl_syntax.specs.declared.token.Mark.{Mark}
-use Rattle.psdl_syntax.specs.declared.token.Mark.TheVariants as marks
-use Rattle.psdl_syntax.specs.declared.tree.names.Identifier.{Identifier}
-use Rattle.psdl_syntax.specs.declared.tree.names.NamePart.{NamePart}
-use Rattle.psdl_syntax.specs.declared.tree.expressions.ShiftOperator.{ShiftOperator}
-use Rattle.psdl_syntax.specs.declared.tree.expressions.ShiftOperator.TheVariants as shifts
-use Rattle.psdl_syntax.specs.declared.tree.expressions.SumOperator.{SumOperator}
-use Rattle.psdl_syntax.specs.declared.tree.expressions.SumOperator.TheVariants as sums
-use Rattle.psdl_syntax.specs.declared.tree.expressions.ProductOperator.{ProductOperator}
-use Rattle.psdl_syntax.specs.declared.tree.expressions.ProductOperator.TheVariants as products
-use Rattle.psdl_syntax.specs.declared.tree.expressions.UnaryOperator.{UnaryOperator}
-use Rattle.psdl_syntax.specs.declared.tree.expressions.UnaryOperator.TheVariants as signs
-use Rattle.psdl_syntax.specs.declared.tree.expressions.UnarySign.{UnarySign}
-use Rattle.psdl_syntax.specs.declared.tree.types.IntegerType.{IntegerType}
-use Rattle.psdl_syntax.specs.declared.tree.types.IntegerSize.{IntegerSize}
-use Rattle.psdl_syntax.specs.declared.tree.types.IntegerSize.TheVariants as sizes
-use Rattle.psdl_syntax.specs.declared.tree.stores.Direction.{Direction}
-use Rattle.psdl_syntax.specs.declared.tree.stores.Direction.TheVariants as directions
+use Rattle.psdl_tokens.specs.declared.token.Keyword.{Keyword}
+use Rattle.psdl_tokens.specs.declared.token.Keyword.TheVariants as keywords
+use Rattle.psdl_tokens.specs.declared.token.Mark.{Mark}
+use Rattle.psdl_tokens.specs.declared.token.Mark.TheVariants as marks
+use Rattle.psdl_tree.specs.declared.names.Identifier.{Identifier}
+use Rattle.psdl_tree.specs.declared.names.NamePart.{NamePart}
+use Rattle.psdl_tree.specs.declared.expressions.ShiftOperator.{ShiftOperator}
+use Rattle.psdl_tree.specs.declared.expressions.ShiftOperator.TheVariants as shifts
+use Rattle.psdl_tree.specs.declared.expressions.SumOperator.{SumOperator}
+use Rattle.psdl_tree.specs.declared.expressions.SumOperator.TheVariants as sums
+use Rattle.psdl_tree.specs.declared.expressions.ProductOperator.{ProductOperator}
+use Rattle.psdl_tree.specs.declared.expressions.ProductOperator.TheVariants as products
+use Rattle.psdl_tree.specs.declared.expressions.UnaryOperator.{UnaryOperator}
+use Rattle.psdl_tree.specs.declared.expressions.UnaryOperator.TheVariants as signs
+use Rattle.psdl_tree.specs.declared.expressions.UnarySign.{UnarySign}
+use Rattle.psdl_tree.specs.declared.types.IntegerType.{IntegerType}
+use Rattle.psdl_tree.specs.declared.types.IntegerSize.{IntegerSize}
+use Rattle.psdl_tree.specs.declared.types.IntegerSize.TheVariants as sizes
+use Rattle.psdl_tree.specs.declared.stores.Direction.{Direction}
+use Rattle.psdl_tree.specs.declared.stores.Direction.TheVariants as directions
 use Rattle.psdl_syntax.specs.Seen.{Seen, Word, Sign, Placed, Named, Number, Quoted}
-use Rattle.psdl_syntax.specs.Trees.{Name, Names, Identifiers, Primary, NameOperand, IntegerOperand, TextOperand, Group, Unary, Signed, Product, OneUnary, Multiplied, Sum, OneProduct, Added, Shift, OneSum, Shifted, And, OneShift, Anded, Xor, OneAnd, Xored, Expression, OneXor, Ored, PlainType, IntegerPlain, CharPlain, BooleanPlain, OctetPlain, StringPlain, NamePlain, TypeSpec, PlainSpec, Sequence, StateType, PlainState, Reference, Declarator, Declarators, Field, State, Parameter, Parameters, OperationResult, Void, StateResult, Operation, KeyMembers, Key, Factory, AbstractTypeMember, StateMember, OperationMember, AbstractTypeBody, AbstractType, StorageTypeBody, StorageType, AbstractHomeMember, KeyMember, FactoryMember, HomeOperation, AbstractHomeBody, AbstractHome, HomeMember, PlainKey, PrimaryKey, HomeFactory, StorageHome, Provision, Catalog, ConstantType, IntegerConstant, OctetConstant, StringConstant, NameConstant, Constant, TypeDefinition, Struct, Enumeration, Definition, ModuleDefinition, ConstantDefinition, TypeDefinitionDefinition, StructDefinition, EnumerationDefinition, AbstractTypeDefinition, StorageTypeDefinition, AbstractHomeDefinition, StorageHomeDefinition, CatalogDefinition, Definitions, NoDefinition, AndDefinition}
+use Rattle.psdl_tree.specs.Trees.{Name, Names, Identifiers, Primary, NameOperand, IntegerOperand, TextOperand, Group, Unary, Signed, Product, OneUnary, Multiplied, Sum, OneProduct, Added, Shift, OneSum, Shifted, And, OneShift, Anded, Xor, OneAnd, Xored, Expression, OneXor, Ored, PlainType, IntegerPlain, CharPlain, BooleanPlain, OctetPlain, StringPlain, NamePlain, TypeSpec, PlainSpec, Sequence, StateType, PlainState, Reference, Declarator, Declarators, Field, State, Parameter, Parameters, OperationResult, Void, StateResult, Operation, KeyMembers, Key, Factory, AbstractTypeMember, StateMember, OperationMember, AbstractTypeBody, AbstractType, StorageTypeBody, StorageType, AbstractHomeMember, KeyMember, FactoryMember, HomeOperation, AbstractHomeBody, AbstractHome, HomeMember, PlainKey, PrimaryKey, HomeFactory, StorageHome, Provision, Catalog, ConstantType, IntegerConstant, OctetConstant, StringConstant, NameConstant, Constant, TypeDefinition, Struct, Enumeration, Definition, ModuleDefinition, ConstantDefinition, TypeDefinitionDefinition, StructDefinition, EnumerationDefinition, AbstractTypeDefinition, StorageTypeDefinition, AbstractHomeDefinition, StorageHomeDefinition, CatalogDefinition, Definitions, NoDefinition, AndDefinition}
 
 abbrev pub word : Keyword → List Seen
 word keyword = Word keyword ∷ []

@@ -1,12 +1,12 @@
 -- Trees whose places are others.
-use Rattle.std.specs.Prelude.{List, map, Option, option_map}
+use Rattle.std.specs.Prelude.{map, option_map}
 use Rattle.pss_base.specs.declared.place.Place.{Place}
-use Rattle.psdl_syntax.specs.declared.tree.names.Identifier.{Identifier}
-use Rattle.psdl_syntax.specs.declared.tree.names.NamePart.{NamePart}
-use Rattle.psdl_syntax.specs.declared.tree.expressions.IntegerLiteral.{IntegerLiteral}
-use Rattle.psdl_syntax.specs.declared.tree.expressions.TextLiteral.{TextLiteral}
-use Rattle.psdl_syntax.specs.declared.tree.expressions.UnarySign.{UnarySign}
-use Rattle.psdl_syntax.specs.Trees.{Name, Names, Identifiers, Primary, NameOperand, IntegerOperand, TextOperand, Group, Unary, Signed, Product, OneUnary, Multiplied, Sum, OneProduct, Added, Shift, OneSum, Shifted, And, OneShift, Anded, Xor, OneAnd, Xored, Expression, OneXor, Ored, PlainType, IntegerPlain, CharPlain, BooleanPlain, OctetPlain, StringPlain, NamePlain, TypeSpec, PlainSpec, Sequence, StateType, PlainState, Reference, Declarator, Declarators, Field, State, Parameter, Parameters, OperationResult, Void, StateResult, Operation, KeyMembers, Key, Factory, AbstractTypeMember, StateMember, OperationMember, AbstractTypeBody, AbstractType, StorageTypeBody, StorageType, AbstractHomeMember, KeyMember, FactoryMember, HomeOperation, AbstractHomeBody, AbstractHome, HomeMember, PlainKey, PrimaryKey, HomeFactory, StorageHome, Provision, Catalog, ConstantType, IntegerConstant, OctetConstant, StringConstant, NameConstant, Constant, TypeDefinition, Struct, Enumeration, Definition, ModuleDefinition, ConstantDefinition, TypeDefinitionDefinition, StructDefinition, EnumerationDefinition, AbstractTypeDefinition, StorageTypeDefinition, AbstractHomeDefinition, StorageHomeDefinition, CatalogDefinition, Definitions, NoDefinition, AndDefinition}
+use Rattle.psdl_tree.specs.declared.names.Identifier.{Identifier}
+use Rattle.psdl_tree.specs.declared.names.NamePart.{NamePart}
+use Rattle.psdl_tree.specs.declared.expressions.IntegerLiteral.{IntegerLiteral}
+use Rattle.psdl_tree.specs.declared.expressions.TextLiteral.{TextLiteral}
+use Rattle.psdl_tree.specs.declared.expressions.UnarySign.{UnarySign}
+use Rattle.psdl_tree.specs.Trees.{Name, Names, Identifiers, Primary, NameOperand, IntegerOperand, TextOperand, Group, Unary, Signed, Product, OneUnary, Multiplied, Sum, OneProduct, Added, Shift, OneSum, Shifted, And, OneShift, Anded, Xor, OneAnd, Xored, Expression, OneXor, Ored, PlainType, IntegerPlain, CharPlain, BooleanPlain, OctetPlain, StringPlain, NamePlain, TypeSpec, PlainSpec, Sequence, StateType, PlainState, Reference, Declarator, Declarators, Field, State, Parameter, Parameters, OperationResult, Void, StateResult, Operation, KeyMembers, Key, Factory, AbstractTypeMember, StateMember, OperationMember, AbstractTypeBody, AbstractType, StorageTypeBody, StorageType, AbstractHomeMember, KeyMember, FactoryMember, HomeOperation, AbstractHomeBody, AbstractHome, HomeMember, PlainKey, PrimaryKey, HomeFactory, StorageHome, Provision, Catalog, ConstantType, IntegerConstant, OctetConstant, StringConstant, NameConstant, Constant, TypeDefinition, Struct, Enumeration, Definition, ModuleDefinition, ConstantDefinition, TypeDefinitionDefinition, StructDefinition, EnumerationDefinition, AbstractTypeDefinition, StorageTypeDefinition, AbstractHomeDefinition, StorageHomeDefinition, CatalogDefinition, Definitions, NoDefinition, AndDefinition}
 
 -- Each part of a tree, with what `move` makes of each of its places.
 

@@ -1,11 +1,11 @@
 -- What a printer does with tokens, one at a time.
 use Rattle.std.specs.Prelude.{ℕ, List, [], ◌∷◌, ◌++◌}
 use Rattle.std.specs.Fmt.{decimal}
-use Rattle.psdl_syntax.specs.declared.token.Mark.{Mark}
+use Rattle.psdl_tokens.specs.declared.token.Mark.{Mark}
 use Rattle.psdl_syntax.specs.declared.printing.printer.Edge.{Edge}
 use Rattle.psdl_syntax.specs.declared.printing.printer.Edge.TheVariants as edges
 use Rattle.psdl_syntax.specs.declared.printing.printer.Printer.{Printer}
-use Rattle.psdl_syntax.specs.Spellings.{keyword_spelling, mark_spelling}
+use Rattle.psdl_tokens.specs.Spellings.{keyword_spelling, mark_spelling}
 use Rattle.psdl_syntax.specs.Canonical.{name_text, string_text, gap, mark_gap, line_end, mark_edge, mark_depth}
 use Rattle.psdl_syntax.specs.Seen.{Seen, Word, Sign, Placed, Named, Number, Quoted, Stray}
 

@@ -1,15 +1,15 @@
 -- Tokens as the grammar sees them: with their places where a tree keeps these, and without them elsewhere.
-use Rattle.std.specs.Prelude.{ℕ, List, Bool, true, false, if◌then◌else◌, ◌||◌}
+use Rattle.std.specs.Prelude.{Bool, true, false, if◌then◌else◌}
 use Rattle.pss_base.specs.declared.place.Place.{Place}
-use Rattle.psdl_syntax.specs.declared.token.Keyword.{Keyword}
-use Rattle.psdl_syntax.specs.declared.token.Mark.{Mark}
-use Rattle.psdl_syntax.specs.declared.token.Mark.TheVariants as marks
-use Rattle.psdl_syntax.specs.declared.token.Token.{Token}
-use Rattle.psdl_syntax.specs.declared.token.TokenKind.{TokenKind}
-use Rattle.psdl_syntax.specs.declared.token.TokenKind.TheVariants as kinds
-use Rattle.psdl_syntax.specs.declared.tree.names.Identifier.{Identifier}
-use Rattle.psdl_syntax.specs.declared.tree.expressions.IntegerLiteral.{IntegerLiteral}
-use Rattle.psdl_syntax.specs.declared.tree.expressions.TextLiteral.{TextLiteral}
+use Rattle.psdl_tokens.specs.declared.token.Keyword.{Keyword}
+use Rattle.psdl_tokens.specs.declared.token.Mark.{Mark}
+use Rattle.psdl_tokens.specs.declared.token.Mark.TheVariants as marks
+use Rattle.psdl_tokens.specs.declared.token.Token.{Token}
+use Rattle.psdl_tokens.specs.declared.token.TokenKind.{TokenKind}
+use Rattle.psdl_tokens.specs.declared.token.TokenKind.TheVariants as kinds
+use Rattle.psdl_tree.specs.declared.names.Identifier.{Identifier}
+use Rattle.psdl_tree.specs.declared.expressions.IntegerLiteral.{IntegerLiteral}
+use Rattle.psdl_tree.specs.declared.expressions.TextLiteral.{TextLiteral}
 
 pub data Seen : Type 0 where
   Word : (keyword : Keyword) → Seen

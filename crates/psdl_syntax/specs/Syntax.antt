@@ -1,21 +1,21 @@
 -- The tree of a text, or else the fault of the text.
-use Rattle.std.specs.Prelude.{ℕ, ◌-◌, ◌≡◌, ◌<◌, ◌≤◌, List, [], map, length, take, Option, Some, None, IsSome, Result, Ok, Err, slice_get}
+use Rattle.std.specs.Prelude.{ℕ, ◌-◌, ◌≡◌, ◌<◌, ◌≤◌, List, [], map, length, take, Some, None, IsSome, Result, Ok, Err, slice_get}
 use Rattle.std.specs.Option.{option_map_or}
 use Rattle.pss_base.specs.declared.place.Place.{Place}
 use Rattle.part_readers.specs.Sentences.{Begins, IsFirstFault}
-use Rattle.psdl_syntax.specs.declared.token.Token.{Token}
-use Rattle.psdl_syntax.specs.declared.lexeme.LexicalKind.{LexicalKind}
-use Rattle.psdl_syntax.specs.declared.lexeme.LexicalKind.TheVariants as lexical
-use Rattle.psdl_syntax.specs.declared.tree.definitions.Tree.{Tree}
+use Rattle.psdl_tokens.specs.declared.token.Token.{Token}
+use Rattle.psdl_tokens.specs.declared.lexeme.LexicalKind.{LexicalKind}
+use Rattle.psdl_tokens.specs.declared.lexeme.LexicalKind.TheVariants as lexical
+use Rattle.psdl_tree.specs.declared.definitions.Tree.{Tree}
 use Rattle.psdl_syntax.specs.declared.syntax_fault.SyntaxFault.{SyntaxFault}
 use Rattle.psdl_syntax.specs.declared.syntax_fault.SyntaxKind.{SyntaxKind}
 use Rattle.psdl_syntax.specs.declared.syntax_fault.SyntaxKind.TheVariants as kinds
-use Rattle.psdl_syntax.specs.Places.{place_of}
-use Rattle.psdl_syntax.specs.Lexis.{lexed}
+use Rattle.psdl_tokens.specs.Places.{place_of}
+use Rattle.psdl_tokens.specs.Lexis.{lexed}
 use Rattle.psdl_syntax.specs.Seen.{Seen, seen}
-use Rattle.psdl_syntax.specs.Trees.{Definitions}
+use Rattle.psdl_tree.specs.Trees.{Definitions}
 use Rattle.psdl_syntax.specs.Grammar.{definitions}
-use Rattle.psdl_syntax.specs.Views.{tree_view}
+use Rattle.psdl_tree.specs.Views.{tree_view}
 use Rattle.psdl_syntax.specs.Depth.{room, FitsBefore, IsFirstDeep}
 
 -- a text has at most so many bytes

@@ -1,19 +1,17 @@
 // The tree of a text, or its fault.
 ghost use Rattle.std.specs.Prelude.{ℕ, List, ◌≡◌, ◌≤◌, ◌<◌, ◌-◌, ◌^◌, length, take, IfOk, IfErr};
-ghost use Rattle.psdl_syntax.specs.Trees.{Definitions};
-ghost use Rattle.psdl_syntax.specs.Views.{tree_view};
-ghost use Rattle.psdl_syntax.specs.Places.{place_of};
-ghost use Rattle.psdl_syntax.specs.Lexis.{lexed};
+ghost use Rattle.psdl_tree.specs.Trees.{Definitions};
+ghost use Rattle.psdl_tree.specs.Views.{tree_view};
+ghost use Rattle.psdl_tokens.specs.Places.{place_of};
+ghost use Rattle.psdl_tokens.specs.Lexis.{lexed};
 ghost use Rattle.psdl_syntax.specs.Syntax.{place_at, IsStop, IsTextOf, IsNoToken, IsTold, IsParsed, HasOneFault, HasNoTree};
 
-use crate::cursor::{START, place_behind};
-use crate::lexeme::LexicalKind;
-use crate::lexis::{LexicalFault, MOST_BYTES, scan};
+use crate::Fault;
 use crate::read::read;
 use crate::syntax_fault::{SyntaxFault, SyntaxKind};
-use crate::tree::Tree;
-use crate::{Fault, Token};
 use part_readers::Refusal;
+use psdl_tokens::{LexicalFault, LexicalKind, MOST_BYTES, START, Token, place_behind, scan};
+use psdl_tree::Tree;
 use pss_base::{NoMemory, Place};
 use std::alloc::Global;
 

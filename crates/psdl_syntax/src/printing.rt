@@ -2,7 +2,7 @@
 ghost use Rattle.std.specs.Prelude.{◌≡◌, IfOk};
 ghost use Rattle.psdl_syntax.specs.Again.{KeepsTree};
 ghost use Rattle.psdl_syntax.specs.Canonical.{canonical};
-ghost use Rattle.psdl_syntax.specs.Views.{tree_view};
+ghost use Rattle.psdl_tree.specs.Views.{tree_view};
 
 mod definitions;
 mod expressions;
@@ -13,9 +13,9 @@ mod printer;
 mod stores;
 mod types;
 
-use crate::tree::Tree;
 use definitions::print_definitions;
 use printer::Printer;
+use psdl_tree::Tree;
 use pss_base::{Bytes, NoMemory};
 use std::alloc::Global;
 

@@ -1,13 +1,13 @@
 // The tree of a list of tokens, by recursive descent.
-ghost use Rattle.std.specs.Prelude.{◌≡◌, ◌^◌, map, IfOk, OnOk, Some};
+ghost use Rattle.std.specs.Prelude.{◌≡◌, map, IfOk, OnOk, Some};
 ghost use Rattle.part_readers.specs.Reading.{Gives, starts, many, whole};
 ghost use Rattle.part_readers.specs.Sentences.{IsFirstFault};
 ghost use Rattle.psdl_syntax.specs.Seen.{seen};
-ghost use Rattle.psdl_syntax.specs.Trees.{Definitions};
+ghost use Rattle.psdl_tree.specs.Trees.{Definitions};
 ghost use Rattle.psdl_syntax.specs.Grammar.{definitions};
-ghost use Rattle.psdl_syntax.specs.Views.{definition_view, tree_view};
+ghost use Rattle.psdl_tree.specs.Views.{definition_view, tree_view};
 ghost use Rattle.psdl_syntax.specs.Depth.{room, FitsBefore, IsFirstDeep};
-ghost use Rattle.psdl_syntax.specs.Productions.{is_any, definition_at, text_at};
+ghost use Rattle.psdl_syntax.specs.Productions.{is_any, text_at};
 ghost use Rattle.psdl_syntax.specs.Answers.{IsGiven, IfUnexpected, IfTooDeep};
 
 mod definitions;
@@ -19,11 +19,12 @@ mod stores;
 mod types;
 mod words;
 
+use crate::Fault;
 use crate::read::definitions::definition_of;
 use crate::read::words::{Read, unexpected};
-use crate::tree::{Definition, Tree};
-use crate::{Fault, Token};
 use part_readers::Refusal;
+use psdl_tokens::Token;
+use psdl_tree::{Definition, Tree};
 use std::alloc::Global;
 
 /// So many brackets may be open at once.

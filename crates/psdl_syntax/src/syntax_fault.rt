@@ -3,7 +3,7 @@ ghost use Rattle.std.specs.Prelude.{◌≡◌};
 ghost use Rattle.psdl_syntax.specs.declared.syntax_fault.SyntaxKind.TheVariants as kinds;
 ghost use Rattle.psdl_syntax.specs.Syntax.{start};
 
-use crate::cursor::START;
+use psdl_tokens::START;
 use pss_base::{NoMemory, Place};
 use thiserror::Error;
 

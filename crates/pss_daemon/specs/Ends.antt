@@ -5,7 +5,7 @@ use Rattle.std.specs.Io.KnownBytes.{append_known}
 use Rattle.pss_base.specs.Causes.{Rose}
 use Rattle.psdl_syntax.specs.Form.{IsFirstForm}
 use Rattle.psdl_syntax.specs.Syntax.{IsTextOf, IsFault}
-use Rattle.psdl_syntax.specs.Trees.{Definitions}
+use Rattle.psdl_tree.specs.Trees.{Definitions}
 use Rattle.psdl_syntax.specs.declared.syntax_fault.SyntaxFault.{SyntaxFault}
 use Rattle.psdl_syntax.specs.declared.form.FirstForm.{FirstForm}
 use Rattle.pss_daemon.specs.Forms.{IsPlanOf}

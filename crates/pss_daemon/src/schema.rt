@@ -3,12 +3,12 @@ ghost use Rattle.std.specs.Prelude.{◌≡◌, false, Some};
 ghost use Rattle.pss_base.specs.Causes.{HasCauseIf};
 ghost use Rattle.pss_daemon.specs.Schema.{IsOf, is_fault};
 
-use psdl_syntax::{FirstForm, SyntaxFault, SyntaxKind, first_form, parse};
+use psdl_syntax::{FirstForm, MOST_BYTES, SyntaxFault, SyntaxKind, first_form, parse};
 use pss_base::{ReadAll, Source, read_all};
 use std::alloc::Global;
 
-/// A text in PSDL has at most 1,048,576 bytes. One more is read, by which a longer text is told.
-const MOST_READ: u32 = 1048577;
+/// One byte more than a text may have is read, by which a longer text is told.
+const MOST_READ: u32 = MOST_BYTES as u32 + 1;
 
 /// What the schema's source gave.
 #[derive(Drop)]

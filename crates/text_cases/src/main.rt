@@ -4,7 +4,8 @@
 
 ghost use Rattle.std.specs.Prelude.{◌<◌, IfSome};
 
-use psdl_syntax::{Tree, parse, print};
+use psdl_syntax::{parse, print};
+use psdl_tree::Tree;
 use pss_base::{Bytes, NoMemory, StdSource, read_all};
 use std::alloc::Global;
 use std::io::Write;

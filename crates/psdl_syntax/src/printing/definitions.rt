@@ -5,7 +5,7 @@ ghost use Rattle.std.specs.Prelude.{◌≡◌, OnOk, map};
 ghost use Rattle.part_readers.specs.Sentences.{joined};
 ghost use Rattle.psdl_syntax.specs.Grammar as grammar;
 ghost use Rattle.psdl_syntax.specs.Printing.{printed};
-ghost use Rattle.psdl_syntax.specs.Views as views;
+ghost use Rattle.psdl_tree.specs.Views as views;
 
 use super::expressions::print_expression;
 use super::names::{print_identifiers, print_name};
@@ -16,10 +16,8 @@ use super::stores::{
 use super::types::{
     print_declarators, print_field, print_fields, print_integer_type, print_type_spec,
 };
-use crate::tree::{
-    Constant, ConstantType, Definition, Enumeration, Module, Struct, TypeDefinition,
-};
-use crate::{Keyword, Mark};
+use psdl_tokens::{Keyword, Mark};
+use psdl_tree::{Constant, ConstantType, Definition, Enumeration, Module, Struct, TypeDefinition};
 use pss_base::NoMemory;
 
 fn print_constant_type(printer: &mut Printer, constant_type: &ConstantType) -> Result<(), NoMemory>

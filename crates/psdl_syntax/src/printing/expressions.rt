@@ -4,13 +4,13 @@
 ghost use Rattle.std.specs.Prelude.{◌≡◌, OnOk};
 ghost use Rattle.part_readers.specs.Sentences.{maybe};
 ghost use Rattle.psdl_syntax.specs.Grammar as grammar;
-ghost use Rattle.psdl_syntax.specs.Printing.{printed, put_mark};
-ghost use Rattle.psdl_syntax.specs.Views as views;
+ghost use Rattle.psdl_syntax.specs.Printing.{printed};
+ghost use Rattle.psdl_tree.specs.Views as views;
 
 use super::names::print_name;
 use super::printer::Printer;
-use crate::Mark;
-use crate::tree::{
+use psdl_tokens::Mark;
+use psdl_tree::{
     And, Expression, Primary, Product, ProductOperator, Shift, ShiftOperator, Sum, SumOperator,
     Unary, UnaryOperator, UnarySign, Xor,
 };

@@ -1,13 +1,12 @@
 // The texts of names, integers and strings.
-ghost use Rattle.std.specs.Prelude.{◌≡◌, ◌<◌, ◌++◌, ◌&&◌, ◌||◌, OnOk, not, nat_lt};
+ghost use Rattle.std.specs.Prelude.{◌≡◌, ◌<◌, ◌++◌, ◌&&◌, ◌||◌, OnOk};
 ghost use Rattle.std.specs.Char.{is_digit};
 ghost use Rattle.std.specs.Fmt.{decimal};
-ghost use Rattle.psdl_syntax.specs.Lexis.{is_keyword_like, is_left_out};
+ghost use Rattle.psdl_tokens.specs.Lexis.{is_keyword_like, is_left_out};
 ghost use Rattle.psdl_syntax.specs.Canonical.{name_text, digit_text, is_numbered, character_text, string_text};
 
-use crate::names::{is_keyword, is_left_out};
-use crate::numeral::is_digit;
 use itoa::Buffer;
+use psdl_tokens::{is_digit, is_keyword, is_left_out};
 use pss_base::{Bytes, NoMemory};
 
 fn is_reserved(name: &[u8]) -> bool

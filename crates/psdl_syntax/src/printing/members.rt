@@ -2,19 +2,19 @@
 #![tactic(auto, using(crate::proofs::Printed::printed_append))]
 
 ghost use Rattle.std.specs.Prelude.{◌≡◌, OnOk, map, option_map};
-ghost use Rattle.part_readers.specs.Sentences.{joined, maybe};
+ghost use Rattle.part_readers.specs.Sentences.{maybe};
 ghost use Rattle.psdl_syntax.specs.Grammar as grammar;
 ghost use Rattle.psdl_syntax.specs.Printing.{printed};
-ghost use Rattle.psdl_syntax.specs.Views as views;
+ghost use Rattle.psdl_tree.specs.Views as views;
 
 use super::names::print_identifiers;
 use super::printer::Printer;
 use super::types::print_state_type;
-use crate::tree::{
+use psdl_tokens::{Keyword, Mark};
+use psdl_tree::{
     Direction, Factory, Identifiers, Key, KeyMembers, Operation, OperationResult, Parameter,
     Parameters, State,
 };
-use crate::{Keyword, Mark};
 use pss_base::NoMemory;
 
 fn print_readonly(printer: &mut Printer, readonly: bool) -> Result<(), NoMemory>

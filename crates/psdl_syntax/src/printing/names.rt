@@ -5,12 +5,12 @@ ghost use Rattle.std.specs.Prelude.{◌≡◌, OnOk, map};
 ghost use Rattle.part_readers.specs.Sentences.{joined, maybe};
 ghost use Rattle.psdl_syntax.specs.Grammar as grammar;
 ghost use Rattle.psdl_syntax.specs.Printing.{printed};
-ghost use Rattle.psdl_syntax.specs.Views.{name_view, names_view, identifiers_view};
-ghost use Rattle.psdl_syntax.specs.declared.token.Mark.TheVariants as marks;
+ghost use Rattle.psdl_tree.specs.Views.{name_view, names_view, identifiers_view};
+ghost use Rattle.psdl_tokens.specs.declared.token.Mark.TheVariants as marks;
 
 use super::printer::Printer;
-use crate::Mark;
-use crate::tree::{Identifier, Identifiers, Name, NamePart, Names};
+use psdl_tokens::Mark;
+use psdl_tree::{Identifier, Identifiers, Name, NamePart, Names};
 use pss_base::{NoMemory, Place};
 
 fn print_leading(printer: &mut Printer, leading: Option<Place>) -> Result<(), NoMemory>

@@ -3,12 +3,11 @@ ghost use Rattle.std.specs.Prelude.{◌≡◌, ◌++◌, OnOk, IfOk, []};
 ghost use Rattle.psdl_syntax.specs.Canonical.{indent, gap, clings, closing_gap, mark_gap, line_end, sign_edge, mark_edge, mark_depth};
 ghost use Rattle.psdl_syntax.specs.Printing.{put, put_mark, put_text};
 ghost use Rattle.psdl_syntax.specs.Seen.{Word, Named, Number, Quoted};
-ghost use Rattle.psdl_syntax.specs.Spellings.{mark_spelling};
+ghost use Rattle.psdl_tokens.specs.Spellings.{mark_spelling};
 
 use super::literals::{extend_integer, extend_name, extend_string};
-use crate::spelling::{keyword_spelling, mark_spelling};
-use crate::tree::{Identifier, IntegerLiteral, TextLiteral};
-use crate::{Keyword, Mark};
+use psdl_tokens::{Keyword, Mark, keyword_spelling, mark_spelling};
+use psdl_tree::{Identifier, IntegerLiteral, TextLiteral};
 use pss_base::{Bytes, NoMemory};
 use std::alloc::Global;
 

@@ -5,19 +5,19 @@ ghost use Rattle.std.specs.Prelude.{◌≡◌, OnOk, map, option_map};
 ghost use Rattle.part_readers.specs.Sentences.{joined, maybe};
 ghost use Rattle.psdl_syntax.specs.Grammar as grammar;
 ghost use Rattle.psdl_syntax.specs.Printing.{printed};
-ghost use Rattle.psdl_syntax.specs.Views as views;
-ghost use Rattle.psdl_syntax.specs.declared.token.Keyword.TheVariants as keywords;
-ghost use Rattle.psdl_syntax.specs.declared.token.Mark.TheVariants as marks;
+ghost use Rattle.psdl_tree.specs.Views as views;
+ghost use Rattle.psdl_tokens.specs.declared.token.Keyword.TheVariants as keywords;
+ghost use Rattle.psdl_tokens.specs.declared.token.Mark.TheVariants as marks;
 
 use super::members::{print_factory, print_key, print_operation, print_state};
 use super::names::{print_name, print_names};
 use super::printer::Printer;
-use crate::tree::{
+use psdl_tokens::{Keyword, Mark};
+use psdl_tree::{
     AbstractHome, AbstractHomeBody, AbstractHomeMember, AbstractType, AbstractTypeBody,
     AbstractTypeMember, Catalog, HomeMember, Name, Names, Provision, State, StorageHome,
     StorageType, StorageTypeBody,
 };
-use crate::{Keyword, Mark};
 use pss_base::NoMemory;
 
 fn print_base(printer: &mut Printer, base: &Option<Name>) -> Result<(), NoMemory>

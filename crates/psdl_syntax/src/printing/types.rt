@@ -5,17 +5,17 @@ ghost use Rattle.std.specs.Prelude.{◌≡◌, OnOk, map, option_map};
 ghost use Rattle.part_readers.specs.Sentences.{joined, maybe};
 ghost use Rattle.psdl_syntax.specs.Grammar as grammar;
 ghost use Rattle.psdl_syntax.specs.Printing.{printed};
-ghost use Rattle.psdl_syntax.specs.Views as views;
-ghost use Rattle.psdl_syntax.specs.declared.token.Mark.TheVariants as marks;
+ghost use Rattle.psdl_tree.specs.Views as views;
+ghost use Rattle.psdl_tokens.specs.declared.token.Mark.TheVariants as marks;
 
 use super::expressions::print_expression;
 use super::names::print_name;
 use super::printer::Printer;
-use crate::tree::{
+use psdl_tokens::{Keyword, Mark};
+use psdl_tree::{
     Declarator, Declarators, Expression, Field, IntegerSize, IntegerType, PlainType, StateType,
     TypeSpec,
 };
-use crate::{Keyword, Mark};
 use pss_base::NoMemory;
 
 fn print_unsigned(printer: &mut Printer, unsigned: bool) -> Result<(), NoMemory>

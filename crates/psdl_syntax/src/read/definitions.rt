@@ -1,9 +1,9 @@
 // Definitions and whole texts.
-ghost use Rattle.std.specs.Prelude.{◌≡◌, ◌-◌, map};
-ghost use Rattle.part_readers.specs.Reading.{Gives, starts, many};
+ghost use Rattle.std.specs.Prelude.{◌-◌, map};
+ghost use Rattle.part_readers.specs.Reading.{Gives, many};
 ghost use Rattle.psdl_syntax.specs.Seen.{seen};
-ghost use Rattle.psdl_syntax.specs.Views.{name_view, constant_type_view, constant_view, type_definition_view, struct_view, field_view, enumeration_view, identifiers_view, definition_view};
-ghost use Rattle.psdl_syntax.specs.Productions.{is_any, is_inside, braces, up_to_brace, fields_at, identifiers_at, constant_type_at, constant_at, type_definition_at, struct_at, enumeration_at, module_with, abstract_at, body_with, definition_with, definitions_inside, definition_at, text_at};
+ghost use Rattle.psdl_tree.specs.Views.{constant_type_view, constant_view, type_definition_view, struct_view, field_view, enumeration_view, identifiers_view, definition_view};
+ghost use Rattle.psdl_syntax.specs.Productions.{is_inside, braces, fields_at, identifiers_at, constant_type_at, constant_at, type_definition_at, struct_at, enumeration_at, module_with, abstract_at, body_with, definition_with, definitions_inside, definition_at};
 
 use super::expressions::expression_of;
 use super::names::{identifiers_of, name_of};
@@ -12,11 +12,11 @@ use super::stores::{
 };
 use super::types::{at_integer_type, declarators_of, fields_of, integer_type_of, type_spec_of};
 use super::words::{Read, at_keyword, before_brace, identifier_of, keyword_of, mark_of, open_of};
-use crate::tree::{
+use psdl_tokens::{Keyword, Mark, Token};
+use psdl_tree::{
     Constant, ConstantType, Definition, Enumeration, Field, Identifier, Identifiers, Module,
     Struct, TypeDefinition,
 };
-use crate::{Keyword, Mark, Token};
 use std::alloc::Global;
 
 #[tactic(auto, unfolding(crate::specs::Productions::constant_type_at))]

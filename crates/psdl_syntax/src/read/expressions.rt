@@ -1,10 +1,10 @@
 // Expressions.
-ghost use Rattle.std.specs.Prelude.{◌≡◌, map};
-ghost use Rattle.part_readers.specs.Reading.{Gives, optional, many};
+ghost use Rattle.std.specs.Prelude.{map};
+ghost use Rattle.part_readers.specs.Reading.{Gives, many};
 ghost use Rattle.psdl_syntax.specs.Seen.{seen};
-ghost use Rattle.psdl_syntax.specs.Views.{group_view, primary_view, unary_view, product_view, sum_view, shift_view, and_view, xor_view, expression_view, product_part_view, sum_part_view, shift_part_view, and_part_view, xor_part_view, or_part_view};
+ghost use Rattle.psdl_tree.specs.Views.{group_view, primary_view, unary_view, product_view, sum_view, shift_view, and_view, xor_view, expression_view, product_part_view, sum_part_view, shift_part_view, and_part_view, xor_part_view, or_part_view};
 ghost use Rattle.psdl_syntax.specs.Productions.{is_mark, is_operator, shift_operator, sum_operator, product_operator, operand_at, operator_operand_at, group_with, primary_with, unary_with, product_with, sum_with, shift_with, and_with, xor_with, expression_at, expression_inside};
-ghost use Rattle.psdl_syntax.specs.declared.token.Mark.TheVariants as marks;
+ghost use Rattle.psdl_tokens.specs.declared.token.Mark.TheVariants as marks;
 
 use super::names::name_of;
 use super::operators::{
@@ -15,11 +15,11 @@ use super::words::{
     Read, at_integer, at_mark, at_name, at_text, integer_literal_of, mark_of, open_paren_of,
     place_of, text_literal_of,
 };
-use crate::tree::{
+use psdl_tokens::{Mark, Token};
+use psdl_tree::{
     And, AndPart, Expression, Group, OrPart, Primary, Product, ProductPart, Shift, ShiftPart, Sum,
     SumPart, Unary, Xor, XorPart,
 };
-use crate::{Mark, Token};
 use std::alloc::Global;
 
 /// An expression, where so many brackets may open.

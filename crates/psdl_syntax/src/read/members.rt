@@ -1,22 +1,21 @@
 // Members of storage types and homes.
-ghost use Rattle.std.specs.Prelude.{◌≡◌, ◌-◌, map, option_map, is_some};
+ghost use Rattle.std.specs.Prelude.{◌≡◌, ◌-◌, map, option_map};
 ghost use Rattle.part_readers.specs.Reading.{Gives, starts, optional, many};
 ghost use Rattle.psdl_syntax.specs.Seen.{seen};
-ghost use Rattle.psdl_syntax.specs.Views.{state_view, parameter_view, parameters_view, operation_result_view, operation_view, key_members_view, key_view, factory_view, identifiers_view};
-ghost use Rattle.psdl_syntax.specs.Productions.{is_mark, is_word, is_state, is_direction, is_identifier, behind_sign, word_at, state_at, readonly_at, direction_at, parameter_at, parameters_at, operation_result_at, operation_parameters_at, operation_at, key_members_at, key_at, factory_members_at, factory_at, identifiers_at};
-ghost use Rattle.psdl_syntax.specs.declared.token.Keyword.TheVariants as keywords;
-ghost use Rattle.psdl_syntax.specs.declared.token.Mark.TheVariants as marks;
+ghost use Rattle.psdl_tree.specs.Views.{state_view, parameter_view, parameters_view, operation_result_view, operation_view, key_members_view, key_view, factory_view, identifiers_view};
+ghost use Rattle.psdl_syntax.specs.Productions.{is_mark, is_state, is_direction, is_identifier, behind_sign, state_at, readonly_at, direction_at, parameter_at, parameters_at, operation_result_at, operation_parameters_at, operation_at, key_members_at, key_at, factory_members_at, factory_at, identifiers_at};
+ghost use Rattle.psdl_tokens.specs.declared.token.Mark.TheVariants as marks;
 
 use super::names::identifiers_of;
 use super::types::state_type_of;
 use super::words::{
     Read, at_identifier, at_keyword, at_mark, identifier_of, keyword_of, mark_of, open_paren_of,
 };
-use crate::tree::{
+use psdl_tokens::{Keyword, Mark, Token};
+use psdl_tree::{
     Direction, Factory, Identifiers, Key, KeyMembers, Operation, OperationResult, Parameter,
     Parameters, State,
 };
-use crate::{Keyword, Mark, Token};
 use pss_base::Place;
 use std::alloc::Global;
 

@@ -1,14 +1,14 @@
 // Names.
-ghost use Rattle.std.specs.Prelude.{◌≡◌, map};
+ghost use Rattle.std.specs.Prelude.{map};
 ghost use Rattle.part_readers.specs.Reading.{Gives, optional, many};
 ghost use Rattle.psdl_syntax.specs.Seen.{seen};
-ghost use Rattle.psdl_syntax.specs.Views.{name_view, names_view, identifiers_view};
+ghost use Rattle.psdl_tree.specs.Views.{name_view, names_view, identifiers_view};
 ghost use Rattle.psdl_syntax.specs.Productions.{is_mark, place_at, name_part_at, name_at, names_at, identifiers_at, identifier_at, behind_sign};
-ghost use Rattle.psdl_syntax.specs.declared.token.Mark.TheVariants as marks;
+ghost use Rattle.psdl_tokens.specs.declared.token.Mark.TheVariants as marks;
 
 use super::words::{Read, at_mark, identifier_of, mark_of, place_of};
-use crate::tree::{Identifier, Identifiers, Name, NamePart, Names};
-use crate::{Mark, Token};
+use psdl_tokens::{Mark, Token};
+use psdl_tree::{Identifier, Identifiers, Name, NamePart, Names};
 use pss_base::Place;
 use std::alloc::Global;
 

@@ -5,51 +5,49 @@ ghost use Rattle.psdl_syntax.specs.Seen.{seen};
 ghost use Rattle.psdl_syntax.specs.Productions.{is_operator, operator_at, unary_sign_at, shift_operator, sum_operator, product_operator, unary_operator};
 
 use super::words::{Read, unexpected};
-use crate::tree::{ProductOperator, ShiftOperator, SumOperator, UnaryOperator, UnarySign};
-use crate::{Mark, Token, TokenKind};
+use psdl_tokens::{Mark, Token, TokenKind};
+use psdl_tree::{ProductOperator, ShiftOperator, SumOperator, UnaryOperator, UnarySign};
 use pss_base::Place;
 
-impl Mark {
-    fn shift(self) -> Option<ShiftOperator>
-        ensures { result ≡ shift_operator self }
-    {
-        match self {
-            Mark::ShiftLeft => Some(ShiftOperator::Left),
-            Mark::ShiftRight => Some(ShiftOperator::Right),
-            _ => None,
-        }
+fn shift_operator(mark: Mark) -> Option<ShiftOperator>
+    ensures { result ≡ shift_operator mark }
+{
+    match mark {
+        Mark::ShiftLeft => Some(ShiftOperator::Left),
+        Mark::ShiftRight => Some(ShiftOperator::Right),
+        _ => None,
     }
+}
 
-    fn sum(self) -> Option<SumOperator>
-        ensures { result ≡ sum_operator self }
-    {
-        match self {
-            Mark::Plus => Some(SumOperator::Plus),
-            Mark::Minus => Some(SumOperator::Minus),
-            _ => None,
-        }
+fn sum_operator(mark: Mark) -> Option<SumOperator>
+    ensures { result ≡ sum_operator mark }
+{
+    match mark {
+        Mark::Plus => Some(SumOperator::Plus),
+        Mark::Minus => Some(SumOperator::Minus),
+        _ => None,
     }
+}
 
-    fn product(self) -> Option<ProductOperator>
-        ensures { result ≡ product_operator self }
-    {
-        match self {
-            Mark::Times => Some(ProductOperator::Times),
-            Mark::Divide => Some(ProductOperator::Divide),
-            Mark::Remainder => Some(ProductOperator::Remainder),
-            _ => None,
-        }
+fn product_operator(mark: Mark) -> Option<ProductOperator>
+    ensures { result ≡ product_operator mark }
+{
+    match mark {
+        Mark::Times => Some(ProductOperator::Times),
+        Mark::Divide => Some(ProductOperator::Divide),
+        Mark::Remainder => Some(ProductOperator::Remainder),
+        _ => None,
     }
+}
 
-    fn unary(self) -> Option<UnaryOperator>
-        ensures { result ≡ unary_operator self }
-    {
-        match self {
-            Mark::Minus => Some(UnaryOperator::Minus),
-            Mark::Plus => Some(UnaryOperator::Plus),
-            Mark::Not => Some(UnaryOperator::Not),
-            _ => None,
-        }
+fn unary_operator(mark: Mark) -> Option<UnaryOperator>
+    ensures { result ≡ unary_operator mark }
+{
+    match mark {
+        Mark::Minus => Some(UnaryOperator::Minus),
+        Mark::Plus => Some(UnaryOperator::Plus),
+        Mark::Not => Some(UnaryOperator::Not),
+        _ => None,
     }
 }
 
@@ -58,7 +56,7 @@ pub(super) fn at_shift(tokens: &[Token]) -> bool
 {
     match tokens {
         [token, ..] => match &token.kind {
-            TokenKind::Mark(mark) => mark.shift().is_some(),
+            TokenKind::Mark(mark) => shift_operator(*mark).is_some(),
             _ => false,
         },
         [] => false,
@@ -71,7 +69,7 @@ pub(super) fn shift_operator_of(tokens: &[Token]) -> Read<'_, (Place, ShiftOpera
 {
     match tokens {
         [token, rest @ ..] => match &token.kind {
-            TokenKind::Mark(mark) => match mark.shift() {
+            TokenKind::Mark(mark) => match shift_operator(*mark) {
                 Some(operator) => Ok(((token.place, operator), rest)),
                 None => unexpected(tokens),
             },
@@ -86,7 +84,7 @@ pub(super) fn at_sum(tokens: &[Token]) -> bool
 {
     match tokens {
         [token, ..] => match &token.kind {
-            TokenKind::Mark(mark) => mark.sum().is_some(),
+            TokenKind::Mark(mark) => sum_operator(*mark).is_some(),
             _ => false,
         },
         [] => false,
@@ -99,7 +97,7 @@ pub(super) fn sum_operator_of(tokens: &[Token]) -> Read<'_, (Place, SumOperator)
 {
     match tokens {
         [token, rest @ ..] => match &token.kind {
-            TokenKind::Mark(mark) => match mark.sum() {
+            TokenKind::Mark(mark) => match sum_operator(*mark) {
                 Some(operator) => Ok(((token.place, operator), rest)),
                 None => unexpected(tokens),
             },
@@ -114,7 +112,7 @@ pub(super) fn at_product(tokens: &[Token]) -> bool
 {
     match tokens {
         [token, ..] => match &token.kind {
-            TokenKind::Mark(mark) => mark.product().is_some(),
+            TokenKind::Mark(mark) => product_operator(*mark).is_some(),
             _ => false,
         },
         [] => false,
@@ -127,7 +125,7 @@ pub(super) fn product_operator_of(tokens: &[Token]) -> Read<'_, (Place, ProductO
 {
     match tokens {
         [token, rest @ ..] => match &token.kind {
-            TokenKind::Mark(mark) => match mark.product() {
+            TokenKind::Mark(mark) => match product_operator(*mark) {
                 Some(operator) => Ok(((token.place, operator), rest)),
                 None => unexpected(tokens),
             },
@@ -142,7 +140,7 @@ fn at_unary(tokens: &[Token]) -> bool
 {
     match tokens {
         [token, ..] => match &token.kind {
-            TokenKind::Mark(mark) => mark.unary().is_some(),
+            TokenKind::Mark(mark) => unary_operator(*mark).is_some(),
             _ => false,
         },
         [] => false,
@@ -155,7 +153,7 @@ fn unary_operator_of(tokens: &[Token]) -> Read<'_, (Place, UnaryOperator)>
 {
     match tokens {
         [token, rest @ ..] => match &token.kind {
-            TokenKind::Mark(mark) => match mark.unary() {
+            TokenKind::Mark(mark) => match unary_operator(*mark) {
                 Some(operator) => Ok(((token.place, operator), rest)),
                 None => unexpected(tokens),
             },

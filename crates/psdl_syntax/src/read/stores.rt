@@ -1,23 +1,21 @@
 // Storage types, storage homes and catalogs.
-ghost use Rattle.std.specs.Prelude.{◌≡◌, ◌-◌, map, option_map, is_some};
-ghost use Rattle.part_readers.specs.Reading.{Gives, starts, optional, many};
+ghost use Rattle.std.specs.Prelude.{◌≡◌, ◌-◌, map, option_map};
+ghost use Rattle.part_readers.specs.Reading.{Gives, starts, many};
 ghost use Rattle.psdl_syntax.specs.Seen.{seen};
-ghost use Rattle.psdl_syntax.specs.Views.{names_view, name_view, abstract_type_member_view, abstract_type_body_view, abstract_type_view, state_view, storage_type_body_view, storage_type_view, abstract_home_member_view, abstract_home_body_view, abstract_home_view, home_member_view, storage_home_view, provision_view, catalog_view, key_view};
-ghost use Rattle.psdl_syntax.specs.Productions.{is_mark, is_word, is_inside, is_state, is_abstract_type_body, is_storage_type_body, braces, up_to_brace, bases_at, base_at, implements_at, abstract_type_member_at, abstract_type_members_at, abstract_type_body_at, abstract_type_at, state_at, states_at, storage_type_body_at, storage_type_at, abstract_home_member_at, abstract_home_members_at, abstract_home_body_at, abstract_home_at, primary_key_at, home_member_at, home_members_at, storage_home_at, provision_at, provisions_at, catalog_at};
-ghost use Rattle.psdl_syntax.specs.declared.token.Keyword.TheVariants as keywords;
-ghost use Rattle.psdl_syntax.specs.declared.token.Mark.TheVariants as marks;
+ghost use Rattle.psdl_tree.specs.Views.{names_view, name_view, abstract_type_member_view, abstract_type_body_view, abstract_type_view, state_view, storage_type_body_view, storage_type_view, abstract_home_member_view, abstract_home_body_view, abstract_home_view, home_member_view, storage_home_view, provision_view, catalog_view, key_view};
+ghost use Rattle.psdl_syntax.specs.Productions.{is_inside, is_abstract_type_body, is_storage_type_body, braces, bases_at, base_at, implements_at, abstract_type_member_at, abstract_type_members_at, abstract_type_body_at, abstract_type_at, state_at, states_at, storage_type_body_at, storage_type_at, abstract_home_member_at, abstract_home_members_at, abstract_home_body_at, abstract_home_at, primary_key_at, home_member_at, home_members_at, storage_home_at, provision_at, provisions_at, catalog_at};
 
 use super::members::{at_state, factory_of, key_of, operation_of, state_of};
 use super::names::{name_of, names_of};
 use super::words::{
     Read, at_keyword, at_mark, before_brace, identifier_of, keyword_of, mark_of, open_of,
 };
-use crate::tree::{
+use psdl_tokens::{Keyword, Mark, Token};
+use psdl_tree::{
     AbstractHome, AbstractHomeBody, AbstractHomeMember, AbstractType, AbstractTypeBody,
     AbstractTypeMember, Catalog, HomeMember, Key, Name, Names, Provision, State, StorageHome,
     StorageType, StorageTypeBody,
 };
-use crate::{Keyword, Mark, Token};
 use std::alloc::Global;
 
 #[tactic(auto, unfolding(crate::specs::Productions::bases_at))]

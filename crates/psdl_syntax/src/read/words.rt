@@ -4,30 +4,27 @@ ghost use Rattle.part_readers.specs.Reading.{Gives, starts};
 ghost use Rattle.psdl_syntax.specs.Codes.{same_keyword, same_mark};
 ghost use Rattle.psdl_syntax.specs.Seen.{seen, keeps_place};
 ghost use Rattle.psdl_syntax.specs.Productions.{is_word, is_mark, is_inside, is_identifier, is_name, is_number, is_quoted, word_at, sign_at, place_at, sign_part, place_part, opened, identifier_at, number_at, quoted_at};
-ghost use Rattle.psdl_syntax.specs.declared.token.Mark.TheVariants as marks;
+ghost use Rattle.psdl_tokens.specs.declared.token.Mark.TheVariants as marks;
 
-use crate::tree::{Identifier, IntegerLiteral, TextLiteral};
-use crate::{Fault, Keyword, Mark, Token, TokenKind};
+use crate::Fault;
 use part_readers::Refusal;
+use psdl_tokens::{Keyword, Mark, Token, TokenKind};
+use psdl_tree::{Identifier, IntegerLiteral, TextLiteral};
 use pss_base::{NoMemory, Place};
 
 /// What was read, and the tokens behind it.
 pub(super) type Read<'a, T> = Result<(T, &'a [Token]), Refusal<Fault>>;
 
-impl Keyword {
-    fn is(self, other: Keyword) -> bool
-        ensures { result ≡ same_keyword self other }
-    {
-        self as u8 == other as u8
-    }
+fn same_keyword(one: Keyword, other: Keyword) -> bool
+    ensures { result ≡ same_keyword one other }
+{
+    one as u8 == other as u8
 }
 
-impl Mark {
-    fn is(self, other: Mark) -> bool
-        ensures { result ≡ same_mark self other }
-    {
-        self as u8 == other as u8
-    }
+fn same_mark(one: Mark, other: Mark) -> bool
+    ensures { result ≡ same_mark one other }
+{
+    one as u8 == other as u8
 }
 
 // The token that was not expected is the first.
@@ -42,7 +39,7 @@ pub(super) fn at_keyword(keyword: Keyword, tokens: &[Token]) -> bool
 {
     match tokens {
         [token, ..] => match &token.kind {
-            TokenKind::Keyword(first) => first.is(keyword),
+            TokenKind::Keyword(first) => same_keyword(*first, keyword),
             _ => false,
         },
         [] => false,
@@ -54,7 +51,7 @@ pub(super) fn at_mark(mark: Mark, tokens: &[Token]) -> bool
 {
     match tokens {
         [token, ..] => match &token.kind {
-            TokenKind::Mark(first) => first.is(mark),
+            TokenKind::Mark(first) => same_mark(*first, mark),
             _ => false,
         },
         [] => false,
@@ -67,7 +64,7 @@ pub(super) fn keyword_of(keyword: Keyword, tokens: &[Token]) -> Result<&[Token],
 {
     match tokens {
         [token, rest @ ..] => match &token.kind {
-            TokenKind::Keyword(first) if first.is(keyword) => Ok(rest),
+            TokenKind::Keyword(first) if same_keyword(*first, keyword) => Ok(rest),
             _ => unexpected(tokens),
         },
         [] => unexpected(tokens),
@@ -115,7 +112,7 @@ pub(super) fn mark_of(mark: Mark, tokens: &[Token]) -> Result<&[Token], Refusal<
 {
     match tokens {
         [token, rest @ ..] => match &token.kind {
-            TokenKind::Mark(first) if first.is(mark) => Ok(rest),
+            TokenKind::Mark(first) if same_mark(*first, mark) => Ok(rest),
             _ => unexpected(tokens),
         },
         [] => unexpected(tokens),
@@ -130,7 +127,7 @@ pub(super) fn place_of(mark: Mark, tokens: &[Token]) -> Read<'_, Place>
 {
     match tokens {
         [token, rest @ ..] => match &token.kind {
-            TokenKind::Mark(first) if first.is(mark) => Ok((token.place, rest)),
+            TokenKind::Mark(first) if same_mark(*first, mark) => Ok((token.place, rest)),
             _ => unexpected(tokens),
         },
         [] => unexpected(tokens),
@@ -146,7 +143,7 @@ pub(super) fn open_of(mark: Mark, depth: u32, tokens: &[Token]) -> Result<&[Toke
 {
     match tokens {
         [token, rest @ ..] => match &token.kind {
-            TokenKind::Mark(first) if first.is(mark) => {
+            TokenKind::Mark(first) if same_mark(*first, mark) => {
                 if depth == 0 {
                     return Err(Refusal::Fault(Fault::TooDeep(tokens.len())));
                 }
@@ -166,7 +163,7 @@ pub(super) fn open_paren_of(depth: u32, tokens: &[Token]) -> Read<'_, Place>
 {
     match tokens {
         [token, rest @ ..] => match &token.kind {
-            TokenKind::Mark(first) if first.is(Mark::LeftParen) => {
+            TokenKind::Mark(first) if same_mark(*first, Mark::LeftParen) => {
                 if depth == 0 {
                     return Err(Refusal::Fault(Fault::TooDeep(tokens.len())));
                 }

@@ -1,5 +1,5 @@
 use Rattle.std.proofs.Common.{drop, []}
-use Rattle.psdl_syntax.specs.Tokens.{tokens}
+use Rattle.psdl_tokens.specs.Tokens.{tokens}
 use Rattle.psdl_syntax.specs.Form.{spelling}
 use Rattle.psdl_syntax.proofs.Spelled.{UpToMember, behind_member, behind_home}
 use Rattle.psdl_syntax.proofs.form.names_of.Goals as goal

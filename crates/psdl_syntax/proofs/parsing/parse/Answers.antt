@@ -1,5 +1,5 @@
 use Rattle.std.proofs.Common.{◌∙◌}
-use Rattle.psdl_syntax.specs.Views.{tree_view}
+use Rattle.psdl_tree.specs.Views.{tree_view}
 use Rattle.psdl_syntax.proofs.Parsed.{behind_tree, not_deep}
 use Rattle.psdl_syntax.proofs.parsing.parse.Goals as goal
 

@@ -1,5 +1,5 @@
-use Rattle.std.proofs.Common.{◌≡◌, ◌∙◌, sym, subst}
-use Rattle.psdl_syntax.specs.Views.{tree_view}
+use Rattle.std.proofs.Common.{◌∙◌, sym, subst}
+use Rattle.psdl_tree.specs.Views.{tree_view}
 use Rattle.psdl_syntax.specs.Again.{KeepsTree}
 use Rattle.psdl_syntax.proofs.Modules.{canonical_printed}
 use Rattle.psdl_syntax.proofs.ReadAgain.{canonical_keeps}

@@ -1,6 +1,6 @@
 use Rattle.std.proofs.Common.{map}
 use Rattle.psdl_syntax.specs.Seen.{seen}
-use Rattle.psdl_syntax.specs.Views.{definition_view}
+use Rattle.psdl_tree.specs.Views.{definition_view}
 use Rattle.psdl_syntax.proofs.WholeTexts.{is_found, is_given, is_first, fits_before, is_deep, is_level}
 use Rattle.psdl_syntax.proofs.read.read.Goals as goal
 

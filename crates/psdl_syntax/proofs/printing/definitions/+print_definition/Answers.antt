@@ -1,7 +1,7 @@
 use Rattle.std.proofs.Common.{◌≡◌, ◌∙◌, OnOk, ap, subst}
 use Rattle.psdl_syntax.specs.declared.printing.printer.Printer.{Printer}
 use Rattle.psdl_syntax.specs.Grammar as grammar
-use Rattle.psdl_syntax.specs.Views as views
+use Rattle.psdl_tree.specs.Views as views
 use Rattle.psdl_syntax.proofs.Printed.{goes_on}
 use Rattle.psdl_syntax.proofs.Modules as modules
 use Rattle.psdl_syntax.proofs.printing.definitions.+print_definition.Goals as goal

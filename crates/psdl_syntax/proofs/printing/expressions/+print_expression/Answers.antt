@@ -1,9 +1,10 @@
 use Rattle.std.proofs.Common.{◌≡◌, OnOk, refl, subst}
 use Rattle.psdl_syntax.specs.declared.printing.printer.Printer.{Printer}
-use Rattle.psdl_syntax.specs.declared.tree.expressions.Primary.TheViews as nodes
+use Rattle.psdl_tree.specs.declared.expressions.Primary.TheViews as nodes
 use Rattle.psdl_syntax.specs.Grammar as grammar
-use Rattle.psdl_syntax.specs.Views as views
+use Rattle.psdl_tree.specs.Views as views
 use Rattle.psdl_syntax.proofs.Levels as levels
+use Rattle.psdl_tree.proofs.Opened as parts
 use Rattle.psdl_syntax.proofs.Opened as opened
 use Rattle.psdl_syntax.proofs.Printed.{begins, goes_on, behind_mark}
 use Rattle.psdl_syntax.proofs.printing.expressions.+print_expression.Goals as goal
@@ -21,7 +22,7 @@ print_product-loop-part-init t c =
 pub print_product-loop-part-preserved : goal.print_product-loop-part-preserved
 print_product-loop-part-preserved t c =
     goes_on levels.product_part views.product_part_view c.loop-part.printer c.print_unary-in-loop-part.new.printer _ c.deref-part-items.result.now c.loop-part.part-index c.part-item.result c.loop-part-test.true c.part-item.is
-    (rw (opened.product_part_opened c.part-item.result) (behind_mark _ _ _ _ _ (grammar.unary (views.unary_view (nodes.out-ProductPart c.part-item.result).operand)) c.product_mark.ensures c.in_ok-mark.ensures c.in_ok-print_unary-2.ensures)) c.loop-part.invariant
+    (rw (parts.product_part_opened c.part-item.result) (behind_mark _ _ _ _ _ (grammar.unary (views.unary_view (nodes.out-ProductPart c.part-item.result).operand)) c.product_mark.ensures c.in_ok-mark.ensures c.in_ok-print_unary-2.ensures)) c.loop-part.invariant
 
 pub print_sum-loop-part-init : goal.print_sum-loop-part-init
 print_sum-loop-part-init t c =
@@ -30,7 +31,7 @@ print_sum-loop-part-init t c =
 pub print_sum-loop-part-preserved : goal.print_sum-loop-part-preserved
 print_sum-loop-part-preserved t c =
     goes_on levels.sum_part views.sum_part_view c.loop-part.printer c.print_product-in-loop-part.new.printer _ c.deref-part-items.result.now c.loop-part.part-index c.part-item.result c.loop-part-test.true c.part-item.is
-    (rw (opened.sum_part_opened c.part-item.result) (behind_mark _ _ _ _ _ (grammar.product (views.product_view (nodes.out-SumPart c.part-item.result).operand)) c.sum_mark.ensures c.in_ok-mark.ensures c.in_ok-print_product-2.ensures)) c.loop-part.invariant
+    (rw (parts.sum_part_opened c.part-item.result) (behind_mark _ _ _ _ _ (grammar.product (views.product_view (nodes.out-SumPart c.part-item.result).operand)) c.sum_mark.ensures c.in_ok-mark.ensures c.in_ok-print_product-2.ensures)) c.loop-part.invariant
 
 pub print_shift-loop-part-init : goal.print_shift-loop-part-init
 print_shift-loop-part-init t c =
@@ -39,7 +40,7 @@ print_shift-loop-part-init t c =
 pub print_shift-loop-part-preserved : goal.print_shift-loop-part-preserved
 print_shift-loop-part-preserved t c =
     goes_on levels.shift_part views.shift_part_view c.loop-part.printer c.print_sum-in-loop-part.new.printer _ c.deref-part-items.result.now c.loop-part.part-index c.part-item.result c.loop-part-test.true c.part-item.is
-    (rw (opened.shift_part_opened c.part-item.result) (behind_mark _ _ _ _ _ (grammar.sum (views.sum_view (nodes.out-ShiftPart c.part-item.result).operand)) c.shift_mark.ensures c.in_ok-mark.ensures c.in_ok-print_sum-2.ensures)) c.loop-part.invariant
+    (rw (parts.shift_part_opened c.part-item.result) (behind_mark _ _ _ _ _ (grammar.sum (views.sum_view (nodes.out-ShiftPart c.part-item.result).operand)) c.shift_mark.ensures c.in_ok-mark.ensures c.in_ok-print_sum-2.ensures)) c.loop-part.invariant
 
 pub print_and-loop-part-init : goal.print_and-loop-part-init
 print_and-loop-part-init t c =
@@ -48,7 +49,7 @@ print_and-loop-part-init t c =
 pub print_and-loop-part-preserved : goal.print_and-loop-part-preserved
 print_and-loop-part-preserved t c =
     goes_on levels.and_part views.and_part_view c.loop-part.printer c.print_shift-in-loop-part.new.printer _ c.deref-part-items.result.now c.loop-part.part-index c.part-item.result c.loop-part-test.true c.part-item.is
-    (rw (opened.and_part_opened c.part-item.result) (behind_mark _ _ _ _ _ (grammar.shift (views.shift_view (nodes.out-AndPart c.part-item.result).operand)) refl c.in_ok-mark.ensures c.in_ok-print_shift-2.ensures)) c.loop-part.invariant
+    (rw (parts.and_part_opened c.part-item.result) (behind_mark _ _ _ _ _ (grammar.shift (views.shift_view (nodes.out-AndPart c.part-item.result).operand)) refl c.in_ok-mark.ensures c.in_ok-print_shift-2.ensures)) c.loop-part.invariant
 
 pub print_xor-loop-part-init : goal.print_xor-loop-part-init
 print_xor-loop-part-init t c =
@@ -57,7 +58,7 @@ print_xor-loop-part-init t c =
 pub print_xor-loop-part-preserved : goal.print_xor-loop-part-preserved
 print_xor-loop-part-preserved t c =
     goes_on levels.xor_part views.xor_part_view c.loop-part.printer c.print_and-in-loop-part.new.printer _ c.deref-part-items.result.now c.loop-part.part-index c.part-item.result c.loop-part-test.true c.part-item.is
-    (rw (opened.xor_part_opened c.part-item.result) (behind_mark _ _ _ _ _ (grammar.and (views.and_view (nodes.out-XorPart c.part-item.result).operand)) refl c.in_ok-mark.ensures c.in_ok-print_and-2.ensures)) c.loop-part.invariant
+    (rw (parts.xor_part_opened c.part-item.result) (behind_mark _ _ _ _ _ (grammar.and (views.and_view (nodes.out-XorPart c.part-item.result).operand)) refl c.in_ok-mark.ensures c.in_ok-print_and-2.ensures)) c.loop-part.invariant
 
 pub print_expression-loop-part-init : goal.print_expression-loop-part-init
 print_expression-loop-part-init t c =
@@ -66,4 +67,4 @@ print_expression-loop-part-init t c =
 pub print_expression-loop-part-preserved : goal.print_expression-loop-part-preserved
 print_expression-loop-part-preserved t c =
     goes_on levels.or_part views.or_part_view c.loop-part.printer c.print_xor-in-loop-part.new.printer _ c.deref-part-items.result.now c.loop-part.part-index c.part-item.result c.loop-part-test.true c.part-item.is
-    (rw (opened.or_part_opened c.part-item.result) (behind_mark _ _ _ _ _ (grammar.xor (views.xor_view (nodes.out-OrPart c.part-item.result).operand)) refl c.in_ok-mark.ensures c.in_ok-print_xor-2.ensures)) c.loop-part.invariant
+    (rw (parts.or_part_opened c.part-item.result) (behind_mark _ _ _ _ _ (grammar.xor (views.xor_view (nodes.out-OrPart c.part-item.result).operand)) refl c.in_ok-mark.ensures c.in_ok-print_xor-2.ensures)) c.loop-part.invariant

@@ -1,6 +1,6 @@
 use Rattle.std.proofs.Common.{◌≡◌, true, false, refl}
-use Rattle.psdl_syntax.specs.Lexis.{is_keyword_like, is_left_out}
-use Rattle.psdl_syntax.proofs.Wording.{keyword_test, left_out_test}
+use Rattle.psdl_tokens.specs.Lexis.{is_keyword_like, is_left_out}
+use Rattle.psdl_tokens.proofs.Wording.{keyword_test, left_out_test}
 use Rattle.psdl_syntax.proofs.printing.literals.is_reserved.Goals as goal
 
 pub returns-then-is_keyword : goal.returns-then-is_keyword

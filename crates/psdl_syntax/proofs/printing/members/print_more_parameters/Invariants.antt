@@ -1,6 +1,6 @@
 use Rattle.std.proofs.Common.{◌≡◌, drop, map}
 use Rattle.psdl_syntax.specs.Grammar as grammar
-use Rattle.psdl_syntax.specs.Views as views
+use Rattle.psdl_tree.specs.Views as views
 use Rattle.psdl_syntax.specs.Printing.{printed}
 use Rattle.psdl_syntax.proofs.printing.members.print_more_parameters.Given as goal
 

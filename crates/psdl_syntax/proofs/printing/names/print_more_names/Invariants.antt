@@ -1,6 +1,6 @@
 use Rattle.std.proofs.Common.{◌≡◌, drop, map}
 use Rattle.psdl_syntax.specs.Grammar.{name, after_commas}
-use Rattle.psdl_syntax.specs.Views.{name_view}
+use Rattle.psdl_tree.specs.Views.{name_view}
 use Rattle.psdl_syntax.specs.Printing.{printed}
 use Rattle.psdl_syntax.proofs.printing.names.print_more_names.Given as goal
 

@@ -1,4 +1,3 @@
-use Rattle.std.proofs.Common.{◌≡◌}
 use Rattle.psdl_syntax.proofs.Printed.{one_deeper}
 use Rattle.psdl_syntax.proofs.printing.printer.extend_indent.Goals as goal
 

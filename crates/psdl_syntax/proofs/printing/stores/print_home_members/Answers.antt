@@ -1,5 +1,5 @@
 use Rattle.psdl_syntax.specs.Grammar as grammar
-use Rattle.psdl_syntax.specs.Views as views
+use Rattle.psdl_tree.specs.Views as views
 use Rattle.psdl_syntax.proofs.Printed.{goes_on}
 use Rattle.psdl_syntax.proofs.printing.stores.print_home_members.Goals as goal
 

@@ -1,7 +1,7 @@
 use Rattle.std.proofs.Common.{◌≡◌, drop, map}
 use Rattle.part_readers.specs.Sentences.{joined}
 use Rattle.psdl_syntax.specs.Grammar as grammar
-use Rattle.psdl_syntax.specs.Views as views
+use Rattle.psdl_tree.specs.Views as views
 use Rattle.psdl_syntax.specs.Printing.{printed}
 use Rattle.psdl_syntax.proofs.printing.types.print_dimensions.Given as goal
 

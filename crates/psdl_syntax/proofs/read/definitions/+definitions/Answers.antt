@@ -2,9 +2,9 @@ use Rattle.std.proofs.Common.{rules, true, ◌≡◌, length, map, refl}
 use Rattle.std.proofs.lemmas.Result.{err_from_is_err_and}
 use Rattle.part_readers.specs.Reading.{starts, many}
 use Rattle.part_readers.proofs.Loops.{pushed_on, stops, no_more, is_done}
-use Rattle.psdl_syntax.specs.declared.token.Keyword.TheVariants as keywords
+use Rattle.psdl_tokens.specs.declared.token.Keyword.TheVariants as keywords
 use Rattle.psdl_syntax.specs.Seen.{seen}
-use Rattle.psdl_syntax.specs.Views.{definition_view}
+use Rattle.psdl_tree.specs.Views.{definition_view}
 use Rattle.psdl_syntax.specs.Productions.{is_inside, definition_at, body_with, is_word}
 use Rattle.psdl_syntax.proofs.Rolled.{module_rolled}
 use Rattle.psdl_syntax.proofs.read.definitions.+definitions.Goals as goal

@@ -2,7 +2,7 @@ use Rattle.std.proofs.Common.{◌≡◌, ◌+◌, ◌*◌, ◌-◌, length, map}
 use Rattle.part_readers.specs.Reading.{many_at, many}
 use Rattle.part_readers.proofs.Loops.{with_front}
 use Rattle.psdl_syntax.specs.Seen.{seen}
-use Rattle.psdl_syntax.specs.Views.{definition_view}
+use Rattle.psdl_tree.specs.Views.{definition_view}
 use Rattle.psdl_syntax.specs.Productions.{is_inside, definition_at}
 use Rattle.psdl_syntax.proofs.read.definitions.+definitions.Given as goal
 

@@ -1,12 +1,11 @@
-use Rattle.std.proofs.Common.{rules, ◌≡◌, length, map, sym, ◌∙◌, ◌++◌, ◌∷◌, [], true, false}
+use Rattle.std.proofs.Common.{rules, length, map}
 use Rattle.std.proofs.lemmas.Result.{err_from_is_err_and}
-use Rattle.std.proofs.lemmas.List.{map_push}
-use Rattle.part_readers.specs.Reading.{starts, many}
+use Rattle.part_readers.specs.Reading.{many}
 use Rattle.part_readers.proofs.Loops.{pushed_on, stops, no_more, is_done}
-use Rattle.psdl_syntax.specs.declared.token.Mark.TheVariants as marks
+use Rattle.psdl_tokens.specs.declared.token.Mark.TheVariants as marks
 use Rattle.psdl_syntax.specs.Seen.{seen}
-use Rattle.psdl_syntax.specs.Views.{product_part_view, sum_part_view, shift_part_view, and_part_view, xor_part_view, or_part_view, unary_view, product_view, sum_view, shift_view, and_view, xor_view, expression_view}
-use Rattle.psdl_syntax.specs.Productions.{is_mark, is_operator, shift_operator, sum_operator, product_operator, place_at, operator_at, operand_at, operator_operand_at, unary_with, product_with, sum_with, shift_with, and_with, xor_with, expression_inside, group_with}
+use Rattle.psdl_tree.specs.Views.{product_part_view, sum_part_view, shift_part_view, and_part_view, xor_part_view, or_part_view, unary_view, product_view, sum_view, shift_view, and_view, xor_view, expression_view}
+use Rattle.psdl_syntax.specs.Productions.{is_mark, is_operator, shift_operator, sum_operator, product_operator, operand_at, operator_operand_at, unary_with, product_with, sum_with, shift_with, and_with, xor_with, expression_inside}
 use Rattle.psdl_syntax.proofs.Rolled.{or_part_rolled, xor_part_rolled, and_part_rolled, shift_part_rolled, sum_part_rolled, product_part_rolled, group_rolled}
 use Rattle.psdl_syntax.proofs.Operands.{sign_fails, operand_fails, operand_gives, operator_fails, behind_operator_fails, operator_gives, group_gives}
 use Rattle.psdl_syntax.proofs.read.expressions.+expressions.Goals as goal

@@ -1,9 +1,9 @@
 use Rattle.std.proofs.Common.{◌≡◌, ◌+◌, ◌-◌, ◌*◌, length, map}
 use Rattle.part_readers.specs.Reading.{many_at, many}
 use Rattle.part_readers.proofs.Loops.{with_front}
-use Rattle.psdl_syntax.specs.declared.token.Mark.TheVariants as marks
+use Rattle.psdl_tokens.specs.declared.token.Mark.TheVariants as marks
 use Rattle.psdl_syntax.specs.Seen.{seen}
-use Rattle.psdl_syntax.specs.Views.{product_part_view, sum_part_view, shift_part_view, and_part_view, xor_part_view, or_part_view}
+use Rattle.psdl_tree.specs.Views.{product_part_view, sum_part_view, shift_part_view, and_part_view, xor_part_view, or_part_view}
 use Rattle.psdl_syntax.specs.Productions.{is_mark, is_operator, shift_operator, sum_operator, product_operator, operand_at, operator_operand_at, unary_with, product_with, sum_with, shift_with, and_with, xor_with, expression_inside}
 use Rattle.psdl_syntax.proofs.read.expressions.+expressions.Given as goal
 

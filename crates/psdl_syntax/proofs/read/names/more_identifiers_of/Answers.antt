@@ -1,8 +1,8 @@
-use Rattle.std.proofs.Common.{rules, ◌≡◌, length, map, refl}
+use Rattle.std.proofs.Common.{rules, length, map}
 use Rattle.std.proofs.lemmas.Result.{err_from_is_err_and}
 use Rattle.part_readers.specs.Reading.{many}
 use Rattle.part_readers.proofs.Loops.{goes_on, stops, no_more, is_done}
-use Rattle.psdl_syntax.specs.declared.token.Mark.TheVariants as marks
+use Rattle.psdl_tokens.specs.declared.token.Mark.TheVariants as marks
 use Rattle.psdl_syntax.specs.Seen.{seen}
 use Rattle.psdl_syntax.specs.Productions.{behind_sign, identifier_at, is_mark}
 use Rattle.psdl_syntax.proofs.read.names.more_identifiers_of.Goals as goal

@@ -1,7 +1,7 @@
 use Rattle.std.proofs.Common.{◌≡◌, ◌-◌, length, map}
 use Rattle.part_readers.specs.Reading.{many_at, many}
 use Rattle.part_readers.proofs.Loops.{with_front}
-use Rattle.psdl_syntax.specs.declared.token.Mark.TheVariants as marks
+use Rattle.psdl_tokens.specs.declared.token.Mark.TheVariants as marks
 use Rattle.psdl_syntax.specs.Seen.{seen}
 use Rattle.psdl_syntax.specs.Productions.{behind_sign, identifier_at, is_mark}
 use Rattle.psdl_syntax.proofs.read.names.more_identifiers_of.Given as goal

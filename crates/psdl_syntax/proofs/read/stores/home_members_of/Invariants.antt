@@ -1,9 +1,8 @@
 use Rattle.std.proofs.Common.{◌≡◌, ◌-◌, length, map}
 use Rattle.part_readers.specs.Reading.{many_at, many}
 use Rattle.part_readers.proofs.Loops.{with_front}
-use Rattle.psdl_syntax.specs.declared.token.Mark.TheVariants as marks
 use Rattle.psdl_syntax.specs.Seen.{seen}
-use Rattle.psdl_syntax.specs.Views.{home_member_view}
+use Rattle.psdl_tree.specs.Views.{home_member_view}
 use Rattle.psdl_syntax.specs.Productions.{home_member_at, is_inside}
 use Rattle.psdl_syntax.proofs.read.stores.home_members_of.Given as goal
 

@@ -1,10 +1,9 @@
-use Rattle.std.proofs.Common.{rules, ◌≡◌, length, map, refl}
+use Rattle.std.proofs.Common.{rules, length, map, refl}
 use Rattle.std.proofs.lemmas.Result.{err_from_is_err_and}
 use Rattle.part_readers.specs.Reading.{many}
 use Rattle.part_readers.proofs.Loops.{pushed_on, stops, no_more, is_done}
-use Rattle.psdl_syntax.specs.declared.token.Mark.TheVariants as marks
 use Rattle.psdl_syntax.specs.Seen.{seen}
-use Rattle.psdl_syntax.specs.Views.{provision_view}
+use Rattle.psdl_tree.specs.Views.{provision_view}
 use Rattle.psdl_syntax.specs.Productions.{is_inside, provision_at}
 use Rattle.psdl_syntax.proofs.read.stores.provisions_of.Goals as goal
 

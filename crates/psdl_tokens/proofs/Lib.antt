@@ -1,0 +1,7 @@
+pub mod Scanning
+pub mod Tables
+pub mod Placing
+pub mod Valuing
+pub mod Wording
+pub mod Stringing
+pub mod Lexing

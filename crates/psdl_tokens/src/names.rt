@@ -1,0 +1,111 @@
+// The words that may name a type, a home or a member.
+ghost use Rattle.std.specs.Prelude.{◌↔◌, IsTrue, Any, Contains, map};
+ghost use Rattle.psdl_tokens.specs.Names.{SameButForCase, keywords, left_out_words, IsName};
+
+use crate::tokens::is_word;
+
+// The words of the grammar. No name is one of them in any case.
+const KEYWORDS: [&str; 30] = [
+    "abstract",
+    "boolean",
+    "catalog",
+    "char",
+    "const",
+    "enum",
+    "factory",
+    "implements",
+    "in",
+    "inout",
+    "key",
+    "long",
+    "module",
+    "octet",
+    "of",
+    "out",
+    "primary",
+    "provides",
+    "readonly",
+    "ref",
+    "sequence",
+    "short",
+    "state",
+    "storagehome",
+    "storagetype",
+    "string",
+    "struct",
+    "typedef",
+    "unsigned",
+    "void",
+];
+
+// The words of PSS 2.0 that this language leaves out. No name is one of them exactly.
+const LEFT_OUT_WORDS: [&str; 33] = [
+    "any",
+    "as",
+    "attribute",
+    "case",
+    "context",
+    "custom",
+    "default",
+    "double",
+    "exception",
+    "fixed",
+    "float",
+    "interface",
+    "local",
+    "native",
+    "Object",
+    "oneway",
+    "private",
+    "public",
+    "raises",
+    "scope",
+    "store",
+    "stores",
+    "strong",
+    "supports",
+    "switch",
+    "truncatable",
+    "union",
+    "valuetype",
+    "ValueBase",
+    "wchar",
+    "wstring",
+    "TRUE",
+    "FALSE",
+];
+
+fn is_in_but_for_case(word: &[u8], table: &[&str]) -> bool
+    ensures { IsTrue result ↔ Any (SameButForCase word.now) (map (λ entry. entry.now) table.now) }
+{
+    table
+        .iter()
+        .any(|entry| word.eq_ignore_ascii_case(entry.as_bytes()))
+}
+
+fn is_in(word: &[u8], table: &[&str]) -> bool
+    ensures { IsTrue result ↔ Contains (map (λ entry. entry.now) table.now) word.now }
+{
+    table.iter().any(|entry| entry.as_bytes() == word)
+}
+
+/// Tells whether this is a keyword in any case.
+pub fn is_keyword(word: &[u8]) -> bool
+    ensures { IsTrue result ↔ Any (SameButForCase word.now) keywords }
+{
+    is_in_but_for_case(word, &KEYWORDS)
+}
+
+/// Tells whether this is a left-out word, in exact case.
+pub fn is_left_out(word: &[u8]) -> bool
+    ensures { IsTrue result ↔ Contains left_out_words word.now }
+{
+    is_in(word, &LEFT_OUT_WORDS)
+}
+
+/// Tells whether a type, a home or a member may have this name.
+pub fn is_name(word: &[u8]) -> bool
+    ensures { IsTrue result ↔ IsName word.now }
+{
+    is_word(word) && !is_keyword(word) && !is_left_out(word)
+}

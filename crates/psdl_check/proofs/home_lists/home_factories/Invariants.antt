@@ -1,0 +1,12 @@
+use Rattle.std.proofs.Common.{map, take}
+use Rattle.std.specs.List.{flat_map}
+use Rattle.psdl_check.specs.Descent.{listed_factory}
+use Rattle.psdl_check.specs.Directories.{all_of}
+use Rattle.psdl_check.specs.Listings.{Gathers}
+use Rattle.psdl_check.specs.Lookup.{at}
+use Rattle.psdl_check.specs.Parts.{factories}
+use Rattle.psdl_check.proofs.home_lists.home_factories.Given as goal
+
+abbrev pub invariant-loop-number : goal.invariant-loop-number
+invariant-loop-number l =
+    Gathers l.found.keys (flat_map (λ a. map listed_factory (factories (at (all_of l.directory) a).what)) (take l.number-index l.ancestry))

@@ -1,0 +1,55 @@
+//! The checks of a PSDL text, and the schema of a text that passes them.
+#![tactic(auto)]
+
+mod ancestors;
+mod assess;
+mod assessment;
+mod clashes;
+mod conformity;
+mod contributors;
+mod cycle;
+mod declaration;
+mod descendants;
+mod descent;
+mod directory;
+mod fault;
+mod fields;
+mod flat;
+mod forward;
+mod heritage;
+mod home_lists;
+mod joined;
+mod kind;
+mod lineage;
+mod list_clashes;
+mod listed;
+mod lists;
+mod lookup;
+mod marks;
+mod meant;
+mod meets;
+mod members;
+mod naming;
+mod need;
+mod operator;
+mod parts;
+mod providers;
+mod range;
+mod ranges;
+mod redefined;
+mod scoped;
+mod scopes;
+mod scoping;
+mod sight;
+mod sizes;
+mod sorts;
+mod spelling;
+mod standing;
+mod strings;
+mod table;
+mod told;
+mod type_kind;
+mod walk;
+mod whole;
+
+pub use fault::{CheckFault, CheckKind};

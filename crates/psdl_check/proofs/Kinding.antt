@@ -29,7 +29,7 @@ pub sequence_kind : (names : Name → Standing) (item : TypeSpec) (bound : Optio
 sequence_kind names item None = unbounded (spec_by names item)
 sequence_kind names item (Some e) = bounded (spec_by names item) (size_by names e)
 
-sequence_view : (item : Box TypeSpecNode Global) (bound : Option ExpressionNode) → type_spec_view (nodes.Sequence item bound) ≡ Sequence (type_spec_view item.value) (option_map expression_view bound)
+pub sequence_view : (item : Box TypeSpecNode Global) (bound : Option ExpressionNode) → type_spec_view (nodes.Sequence item bound) ≡ Sequence (type_spec_view item.value) (option_map expression_view bound)
 sequence_view item bound = ap type_spec_view (sym (nodes.rolls-Sequence item bound)) ∙ fold-roll-TypeSpec TypeSpec spec_step (open_spec.Sequence item bound)
 
 pub sequence_node_kind : (names : Name → Standing) (x inner : TypeSpecNode) (item : Box TypeSpecNode Global) (bound : Option ExpressionNode) (k r : Option Kind) (b : Bool) → x ≡ nodes.Sequence item bound → inner ≡ item.value

@@ -20,7 +20,7 @@ or_swap true false c = refl
 or_swap false true c = refl
 or_swap false false c = refl
 
-any_push : {X : Type 0} (test : X → Bool) (xs : List X) (x : X) → list_any test (xs ++ x ∷ []) ≡ test x || list_any test xs
+pub any_push : {X : Type 0} (test : X → Bool) (xs : List X) (x : X) → list_any test (xs ++ x ∷ []) ≡ test x || list_any test xs
 any_push test [] x = refl
 any_push test (y ∷ ys) x = ap (λ (b : Bool). test y || b) (any_push test ys x) ∙ or_swap (test y) (test x) (list_any test ys)
 
@@ -40,7 +40,7 @@ noted_more {Z} names k q = at (has_name names k.items) refl
 abbrev pub before : List (Bor Identifier) → ℕ → List Identifier
 before xs i = reverse (map (λ (x : Bor Identifier). x.now) (take i xs))
 
-before_more : (xs : List (Bor Identifier)) (i : ℕ) (x : Bor Identifier) → i < length xs → x ≡ get_or xs i x → before xs (i + 1) ≡ x.now ∷ before xs i
+pub before_more : (xs : List (Bor Identifier)) (i : ℕ) (x : Bor Identifier) → i < length xs → x ≡ get_or xs i x → before xs (i + 1) ≡ x.now ∷ before xs i
 before_more xs i x lt at =
     let now : Bor Identifier → Identifier = λ y. y.now in
     ap reverse (map_more now xs i x lt ∙ ap (λ (y : Bor Identifier). map now (take i xs) ++ now y ∷ []) (sym at)) ∙ reverse-append (map now (take i xs)) (x.now ∷ [])

@@ -1,6 +1,7 @@
 -- Scopes by number.
-use Rattle.std.proofs.Common.{◌≡◌, ℕ, zero, suc, ◌+◌, ◌-◌, ◌<◌, List, [], ◌∷◌, ◌++◌, length, get_or, Some, refl, sym, ap, ◌∙◌, arith, length-append}
+use Rattle.std.proofs.Common.{◌≡◌, ℕ, zero, suc, ◌+◌, ◌-◌, ◌<◌, List, [], ◌∷◌, ◌++◌, length, get_or, Some, refl, sym, ap, ◌∙◌, arith, length-append, ◌≤◌}
 use Rattle.std.proofs.Common.{add-zero}
+use Rattle.std.proofs.lemmas.List.{append-nil}
 use Rattle.std.proofs.Math.ListN.{get_or-append}
 use Rattle.std.proofs.Math.Seq.{get_or-append_seam}
 use Rattle.psdl_check.specs.Declarations.{Path}
@@ -51,6 +52,15 @@ outer-is rows n d fits gt lt =
     let is = named ([] ∷ []) rows (n - 1) d (omega arith) (λ k l. omega (arith, fits k d l)) in
     ap outer (sym (rw e at is))
 
+-- each scope's path by that of the scope round it
+pub path-is : (rows : List Row) (n : ℕ) (d : Row) → HasParents rows → 0 < n → n < length rows + 1
+    → path_at (paths_of rows) n ≡ (get_or rows (n - 1) d).name.now ∷ path_at (paths_of rows) ((get_or rows (n - 1) d).parent)
+unfolding paths_of
+path-is rows n d fits gt lt =
+    let e : 1 + (n - 1) ≡ n = omega arith in
+    let is = named ([] ∷ []) rows (n - 1) d (omega arith) (λ k l. omega (arith, fits k d l)) in
+    rw e at is
+
 paths_after-append : (done : List Path) (rows : List Row) (r : Row) → paths_after done (rows ++ r ∷ []) ≡ paths_after done rows ++ (r.name.now ∷ get_or (paths_after done rows) r.parent []) ∷ []
 paths_after-append done [] r = refl
 paths_after-append done (x ∷ xs) r = paths_after-append (with_row done x) xs r
@@ -58,3 +68,10 @@ paths_after-append done (x ∷ xs) r = paths_after-append (with_row done x) xs r
 pub paths_of-append : (rows : List Row) (r : Row) → paths_of (rows ++ r ∷ []) ≡ paths_of rows ++ (r.name.now ∷ path_at (paths_of rows) r.parent) ∷ []
 unfolding paths_of
 paths_of-append rows r = paths_after-append ([] ∷ []) rows r
+
+-- at the scope 0 no names are left
+pub all_named : (paths : List Path) (rows : List Row) (at : ℕ) (found total : Path) → paths_of rows ≡ paths → at ≤ 0 → found ++ path_at paths at ≡ total → found ≡ total
+all_named paths rows at found total is end so_far =
+    let zero : at ≡ 0 = omega arith in
+    let none : path_at paths at ≡ [] = ap (λ (n : ℕ). path_at paths n) zero ∙ ap (λ (ps : List Path). path_at ps 0) (sym is) ∙ path-zero rows in
+    sym (append-nil found) ∙ ap (λ (p : Path). found ++ p) (sym none) ∙ so_far

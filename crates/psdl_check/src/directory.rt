@@ -101,6 +101,14 @@ impl<'a> Directory<'a> {
         self.declarations[number].scope
     }
 
+    /// The names of the modules round a declaration, the innermost first.
+    pub(crate) fn modules(&self, alloc: Global, number: usize) -> Result<Vec<&'a [u8]>, NoMemory>
+        requires { number < length (all_of self.now) }
+        ensures { IfOk result (λ names. map (λ n. n.now) names.items ≡ (at (all_of self.now) number).path) }
+    {
+        self.scopes.names(alloc, self.scope(number))
+    }
+
     fn is_module(&self, number: usize) -> bool
         requires { number < length (all_of self.now) }
         ensures { result ≡ is_module (at (all_of self.now) number).what }

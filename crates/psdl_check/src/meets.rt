@@ -8,6 +8,7 @@ ghost use Rattle.psdl_check.specs.Uses as of;
 
 use crate::declaration::What;
 use crate::need::Need;
+use crate::sorts::is_storage_type;
 use crate::told::{Kind, Told};
 
 fn is_type(what: What<'_>) -> bool
@@ -17,16 +18,6 @@ fn is_type(what: What<'_>) -> bool
         What::Alias(_, _, _) => true,
         What::Struct(_) => true,
         What::Enumeration(_) => true,
-        _ => false,
-    }
-}
-
-fn is_storage_type(what: What<'_>) -> bool
-    ensures { result ≡ parts.is_storage_type (what_view what.entry) }
-{
-    match what {
-        What::AbstractType(_) => true,
-        What::ConcreteType(_) => true,
         _ => false,
     }
 }

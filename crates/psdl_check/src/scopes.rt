@@ -1,5 +1,5 @@
 // The text and its modules, by number.
-ghost use Rattle.std.specs.Prelude.{◌≡◌, ◌<◌, ◌++◌, ◌∷◌, ℕ, [], length, IfSome, IfNone, IfOk, OnOk, option_map};
+ghost use Rattle.std.specs.Prelude.{◌≡◌, ◌<◌, ◌++◌, ◌∷◌, ℕ, [], length, map, IfSome, IfNone, IfOk, OnOk, option_map};
 ghost use Rattle.psdl_check.specs.Tables.{outer, path_at, Grows, AreDistinct};
 
 use crate::scoped::ScopedName;
@@ -72,6 +72,32 @@ impl<'a> Scopes<'a> {
             return None;
         }
         Some(rows[scope - 1].parent)
+    }
+
+    // The scope round this one, and the name that this one has in it.
+    fn row(&self, scope: usize) -> Row<'a>
+        requires above { 0 < scope }
+        requires there { scope < length self.now }
+        ensures path { path_at self.now scope ≡ result.name.now ∷ path_at self.now result.parent }
+        ensures lower { result.parent < scope }
+    {
+        self.rows[scope - 1]
+    }
+
+    /// The names of a scope and of those round it, the innermost first.
+    pub(crate) fn names(&self, alloc: Global, scope: usize) -> Result<Vec<&'a [u8]>, NoMemory>
+        requires { scope < length self.now }
+        ensures { IfOk result (λ names. map (λ n. n.now) names.items ≡ path_at self.now scope) }
+    {
+        let _rows = &self.rows;
+        let mut names = Vec::new(alloc);
+        let mut at = scope;
+        while at > 0 {
+            let row = self.row(at);
+            names.push(row.name)?;
+            at = row.parent;
+        }
+        Ok(names)
     }
 
     /// The scope of that name in this one, opened where it is not there.

@@ -14,3 +14,4 @@ pub mod AtMoments
 pub mod Ending
 pub mod Overlong
 pub mod Told
+pub mod Found

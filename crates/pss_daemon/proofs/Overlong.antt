@@ -7,9 +7,10 @@ use Rattle.psdl_tokens.specs.Places.{place_of}
 use Rattle.psdl_syntax.specs.Syntax.{IsFault, most_bytes}
 use Rattle.psdl_syntax.specs.declared.syntax_fault.SyntaxKind.{SyntaxKind}
 use Rattle.psdl_syntax.specs.declared.syntax_fault.SyntaxKind.TheVariants as kinds
-use Rattle.pss_daemon.specs.Schema.{IsOf}
-use Rattle.pss_daemon.specs.declared.schema.Schema.{Schema}
-use Rattle.pss_daemon.specs.declared.schema.Schema.TheVariants.{Form, Other, Refused, ReadFault, NoMemory}
+use Rattle.pss_daemon.specs.Schema.{IsFound}
+use Rattle.pss_daemon.specs.declared.reading.Checked.{Checked}
+use Rattle.pss_daemon.specs.declared.reading.Checked.TheVariants as checked
+use Rattle.pss_daemon.specs.declared.schema_fault.SchemaFault.TheVariants.{Syntax, Check}
 
 fits_not : (n size : ℕ) (all : List ℕ) → size < n → n < length all → length (take n all) ≤ size → ⊥
 fits_not n size all past over fits =
@@ -34,27 +35,26 @@ module _ (n : ℕ) (all : List ℕ) (past : most_bytes < n) (over : n < length a
   }
   too_long place kinds.NoMemory f = f
 
-  known : (schema : Schema) → IsOf schema (Some (take n all)) → IsOf schema (Some all)
-  known (Form form) o = absurd (none o.0.1.within)
-  known Other o = absurd (none o.0.1.within)
-  known (Refused fault) o = too_long fault.place fault.kind o
-  known ReadFault o = tt
-  known NoMemory o = tt
+  known : (found : Checked) → IsFound found (Some (take n all)) → IsFound found (Some all)
+  known (checked.Sound sound) o = absurd (none (rw o.2 at o.0.0.within))
+  known (checked.Refused (Syntax fault)) o = too_long fault.place fault.kind o
+  known (checked.Refused (Check fault)) o = absurd (none o.1.within)
+  known checked.ReadFault o = tt
+  known checked.NoMemory o = tt
 
-unknown : (schema : Schema) → IsOf schema None
-unknown (Form form) = tt
-unknown Other = tt
-unknown (Refused fault) = tt
-unknown ReadFault = tt
-unknown NoMemory = tt
+unknown : (found : Checked) (bytes : List ℕ) → IsFound found (Some bytes) → IsFound found None
+unknown (checked.Sound sound) bytes o = (o.0, o.1, tt)
+unknown (checked.Refused fault) bytes o = tt
+unknown checked.ReadFault bytes o = tt
+unknown checked.NoMemory bytes o = tt
 
 -- all bytes that come were read
-pub whole : (schema : Schema) (bytes : List ℕ) (left : Option (List ℕ)) → IfSome left (λ all. bytes ≡ all) → IsOf schema (Some bytes) → IsOf schema left
-whole schema bytes None is of = unknown schema
-whole schema bytes (Some all) is of = rw is at of
+pub whole : (found : Checked) (bytes : List ℕ) (left : Option (List ℕ)) → IfSome left (λ all. bytes ≡ all) → IsFound found (Some bytes) → IsFound found left
+whole found bytes None is of = unknown found bytes of
+whole found bytes (Some all) is of = rw is at of
 
 -- the first bytes tell of the whole text
-pub longer : (n : ℕ) (schema : Schema) (bytes : List ℕ) (left : Option (List ℕ)) → most_bytes < n → IfSome left (λ all. (n < length all) × (bytes ≡ take n all))
-    → IsOf schema (Some bytes) → IsOf schema left
-longer n schema bytes None past is of = unknown schema
-longer n schema bytes (Some all) past is of = known n all past is.0 schema (rw is.1 at of)
+pub longer : (n : ℕ) (found : Checked) (bytes : List ℕ) (left : Option (List ℕ)) → most_bytes < n → IfSome left (λ all. (n < length all) × (bytes ≡ take n all))
+    → IsFound found (Some bytes) → IsFound found left
+longer n found bytes None past is of = unknown found bytes of
+longer n found bytes (Some all) past is of = known n all past is.0 found (rw is.1 at of)

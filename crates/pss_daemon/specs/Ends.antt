@@ -4,13 +4,13 @@ use Rattle.std.specs.declared.option.Option.{Option}
 use Rattle.std.specs.Io.KnownBytes.{append_known}
 use Rattle.pss_base.specs.Causes.{Rose}
 use Rattle.psdl_syntax.specs.Form.{IsFirstForm}
-use Rattle.psdl_syntax.specs.Syntax.{IsTextOf, IsFault}
 use Rattle.psdl_tree.specs.Trees.{Definitions}
-use Rattle.psdl_syntax.specs.declared.syntax_fault.SyntaxFault.{SyntaxFault}
 use Rattle.psdl_syntax.specs.declared.form.FirstForm.{FirstForm}
+use Rattle.pss_daemon.specs.Checked.{IsSound, HasFault, checked_text}
 use Rattle.pss_daemon.specs.Forms.{IsPlanOf}
 use Rattle.pss_daemon.specs.Refusals.{refusal_line}
 use Rattle.pss_daemon.specs.Runs.{Says, SaidInPart}
+use Rattle.pss_daemon.specs.declared.schema_fault.SchemaFault.{SchemaFault}
 use Rattle.pss_daemon.specs.declared.forms.Plan.{Plan}
 use Rattle.pss_daemon.specs.declared.forms.Plan.TheVariants.{Check, Init, Run, Demo}
 use Rattle.pss_daemon.specs.declared.status.Status.{Status}
@@ -40,32 +40,44 @@ IsNoPlan words = (plan : Plan) → IsPlanOf words plan → ⊥
 abbrev pub IsRun : List (List ℕ) → Type 0
 IsRun words = (schema : ℕ) × (store : ℕ) × IsPlanOf words (Run schema store)
 
--- a plan other than to serve a script
+-- the words ask to check a text
+abbrev pub IsCheck : List (List ℕ) → Type 0
+IsCheck words = (schema : ℕ) × IsPlanOf words (Check schema)
+
+-- the words name a text that is read
+abbrev pub IsReading : List (List ℕ) → Type 0
+IsReading words = IsRun words ⊎ IsCheck words
+
+-- a plan other than to check a text or to serve a script
 abbrev pub IsOther : Plan → Type 0
-IsOther (Check schema) = Unit {0}
+IsOther (Check schema) = ⊥
 IsOther (Init schema store) = Unit {0}
 IsOther (Run schema store) = ⊥
 IsOther (Demo rounds store) = Unit {0}
 
--- a text that a tree stands for
-abbrev pub HasTree : List ℕ → Type 0
-HasTree text = (tree : Definitions) × IsTextOf tree text
+-- a text in which nothing is wrong
+abbrev pub IsFaultless : List ℕ → Type 0
+IsFaultless text = (tree : Definitions) × IsSound text tree
 
--- a text that a tree stands for, of the first form
+-- such a text of the first form
 abbrev pub IsServed : List ℕ → FirstForm → Type 0
-IsServed text form = HasTree text × IsFirstForm text form
+IsServed text form = IsFaultless text × IsFirstForm text form
 
--- a text that a tree stands for, of another form
+-- such a text of another form
 abbrev pub IsOtherText : List ℕ → Type 0
-IsOtherText text = HasTree text × ((form : FirstForm) → IsFirstForm text form → ⊥)
+IsOtherText text = IsFaultless text × ((form : FirstForm) → IsFirstForm text form → ⊥)
 
--- the plan is not to serve a script, or the text has no fault and is not of the first form
+-- the plan is neither to check a text nor to serve a script; or a script was to be served, and the text has no fault and is not of the first form
 abbrev pub IsNotBuilt : List (List ℕ) → Option (List ℕ) → Type 0
 IsNotBuilt words schema = ((plan : Plan) × IsPlanOf words plan × IsOther plan) ⊎ (IsRun words × IfSome schema IsOtherText)
 
--- the script was to be served, and the schema's text has this fault
-abbrev pub IsRefused : List (List ℕ) → Option (List ℕ) → SyntaxFault → Type 0
-IsRefused words schema fault = IsRun words × IfSome schema (λ text. IsFault text fault.place fault.kind)
+-- the text was to be checked, or a script to be served over it, and it has this fault
+abbrev pub IsRefused : List (List ℕ) → Option (List ℕ) → SchemaFault → Type 0
+IsRefused words schema fault = IsReading words × IfSome schema (λ text. HasFault text fault)
+
+-- the text was to be checked, and nothing is wrong in it; this is its tree
+abbrev pub IsChecked : List (List ℕ) → Option (List ℕ) → Definitions → Type 0
+IsChecked words schema tree = IsCheck words × IfSome schema (λ text. IsSound text tree)
 
 -- a script is served over the form of the schema's text
 abbrev pub Serves : List (List ℕ) → Option (List ℕ) → FirstForm → Type 0
@@ -94,23 +106,28 @@ pub record Counts : Type 0 where
 abbrev pub EndsServing : Status → Call → Type 0
 EndsServing status call = (form : FirstForm) × Serves call.words call.schema form × Says status form most_lines most_bytes call.script call.left call.before call.after
 
+-- what checking the text comes to
+abbrev pub EndsChecking : Call → Type 0
+EndsChecking call = (tree : Definitions) × IsChecked call.words call.schema tree × (call.after ≡ append_known call.before (checked_text tree))
+
 -- some first bytes were spoken of what there is to say
 abbrev pub SaidSome : List (List ℕ) → Option (List ℕ) → Option (List ℕ) → Option (List ℕ) → Option (List ℕ) → Type 0
 SaidSome words schema script before after =
     (IsNoPlan words × SaidOf usage_line before after)
     ⊎ ((IsNotBuilt words schema × SaidOf not_built_line before after)
-    ⊎ (((fault : SyntaxFault) × IsRefused words schema fault × SaidOf (refusal_line fault) before after)
-    ⊎ ((form : FirstForm) × Serves words schema form × SaidInPart form most_lines most_bytes script before after)))
+    ⊎ (((fault : SchemaFault) × IsRefused words schema fault × SaidOf (refusal_line fault) before after)
+    ⊎ (((tree : Definitions) × IsChecked words schema tree × SaidOf (checked_text tree) before after)
+    ⊎ ((form : FirstForm) × Serves words schema form × SaidInPart form most_lines most_bytes script before after))))
 
 -- Each way in which a call ends: where it comes, and what was spoken by then.
 abbrev pub Ends : Status → Call → Counts → Counts → Type 0
-Ends status.Ok call old new = EndsServing status.Ok call
+Ends status.Ok call old new = EndsChecking call ⊎ EndsServing status.Ok call
 Ends status.Usage call old new = IsNoPlan call.words × (call.after ≡ append_known call.before usage_line)
-Ends status.SchemaRefused call old new = (fault : SyntaxFault) × IsRefused call.words call.schema fault × (call.after ≡ append_known call.before (refusal_line fault))
+Ends status.SchemaRefused call old new = (fault : SchemaFault) × IsRefused call.words call.schema fault × (call.after ≡ append_known call.before (refusal_line fault))
 Ends status.NotBuilt call old new = IsNotBuilt call.words call.schema × (call.after ≡ append_known call.before not_built_line)
 Ends status.ScriptTooLong call old new = EndsServing status.ScriptTooLong call
 Ends status.ReadFault call old new =
-    (IsRun call.words × Rose old.schema new.schema × (call.after ≡ call.before)) ⊎ ((new.schema ≡ old.schema) × EndsServing status.ReadFault call)
+    (IsReading call.words × Rose old.schema new.schema × (call.after ≡ call.before)) ⊎ ((new.schema ≡ old.schema) × EndsServing status.ReadFault call)
 Ends status.SpeakFault call old new = SaidSome call.words call.schema call.script call.before call.after
 Ends status.NoMemory call old new = (call.after ≡ call.before) ⊎ EndsServing status.NoMemory call
 

@@ -9,6 +9,7 @@ pub mod View
 pub mod Forms
 pub mod Turns
 pub mod Runs
+pub mod Checked
 pub mod Ends
 pub mod Schema
 pub mod Codes

@@ -2,13 +2,16 @@
 //! catalog of one storage home, kept in memory.
 #![tactic(auto)]
 
+mod checking;
 mod command;
 mod forms;
 mod machine;
 mod planning;
+mod reading;
 mod refusal;
 mod reply;
 mod schema;
+mod schema_fault;
 mod service;
 mod serving;
 mod status;

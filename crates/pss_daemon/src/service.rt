@@ -2,6 +2,7 @@
 ghost use Rattle.pss_disk.specs.Moments.{Through};
 ghost use Rattle.pss_daemon.specs.Ends.{Ends, HasCauses, SaidSome, IsRun};
 
+use crate::checking::tell_checked;
 use crate::forms::Plan;
 use crate::planning::plan;
 use crate::schema::{Schema, read_schema};
@@ -23,9 +24,10 @@ const MOST_LINES: u32 = 4294967295;
 /// A script has at most so many bytes.
 const MOST_BYTES: u64 = 281474976710656;
 
-/// Does what the words ask for, the program's own name left out: under `run SCHEMA STORE` the schema's text is read, and
-/// then each line of the script is served and its reply is spoken in one piece. No store is opened yet: the catalog
-/// is empty at first, and gone afterwards.
+/// Does what the words ask for, the program's own name left out. Under `check SCHEMA` the text is read and checked, and
+/// its canonical text, the line `--` and the shape of its records are spoken in one piece. Under `run SCHEMA STORE` the
+/// text is read and checked, and then each line of the script is served and its reply is spoken in one piece. No store
+/// is opened yet: the catalog is empty at first, and gone afterwards.
 ///
 /// The order is: words, schema, script. The first fault ends the call. Where speaking fails, the status is
 /// `SpeakFault`, whatever was to be told.
@@ -56,6 +58,7 @@ pub fn pssd<P: Source, C: Source, W: Station>(
         };
     };
     match asked {
+        Plan::Check { .. } => tell_checked(alloc, words, schema, station),
         Plan::Run { .. } => run(alloc, words, schema, script, station),
         _ => match speak(station, NOT_BUILT) {
             Ok(()) => Status::NotBuilt,

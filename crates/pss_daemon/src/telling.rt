@@ -11,7 +11,7 @@ ghost use Rattle.pss_daemon.specs.Turns.{Speaks, said_for, is_fault};
 use crate::machine::Machine;
 use crate::refusal::print_refusal;
 use crate::reply::{Reply, print_line};
-use psdl_syntax::SyntaxFault;
+use crate::schema_fault::SchemaFault;
 use pss_base::{Failed, LineStep};
 use pss_disk::Station;
 use std::alloc::Global;
@@ -53,7 +53,7 @@ fn say<W: Station>(alloc: Global, reply: &Reply, station: &mut W) -> Turn
 }
 
 /// Speaks the fault of the schema's text.
-pub fn refuse<W: Station>(alloc: Global, fault: &SyntaxFault, station: &mut W) -> Turn
+pub fn refuse<W: Station>(alloc: Global, fault: &SchemaFault, station: &mut W) -> Turn
     ensures speaks { Speaks result (refusal_line fault.now) (W.now station.old).spoken (W.now station.new).spoken }
     ensures moments { Through (W.history station.old) (W.history station.new) (DuringSpeak (refusal_line fault.now) (W.now station.old)) }
     ensures cause { HasCauseIf (W.speak_faults station.old) (W.speak_faults station.new) (is_fault result) }

@@ -46,8 +46,21 @@ const UNENDED: &str = "open s1 basic rw\ncreate s1 Cells 7";
 
 const RUN: &[&str] = &["run", "cells.psdl", "cells.store"];
 
+const CHECK: &[&str] = &["check", "cells.psdl"];
+
+// What is spoken of CELLS where it is checked.
+const CHECKED: &str = "storagetype Cell {
+  state long v;
+};
+storagehome Cells of Cell {
+};
+--
+home 1 0 Cells
+member v long
+";
+
 // The words, the schema, the script, how the call ends, and what it speaks.
-const WHOLE: [(&[&str], &str, &str, Status, &str); 8] = [
+const WHOLE: [(&[&str], &str, &str, Status, &str); 11] = [
     (RUN, CELLS, FIRST, Status::Ok, REPLIES),
     (RUN, CELLS, "", Status::Ok, ""),
     (RUN, CELLS, "# x\n\n", Status::Ok, ""),
@@ -60,10 +73,17 @@ const WHOLE: [(&[&str], &str, &str, Status, &str); 8] = [
     ),
     (
         RUN,
-        "storagetype Cell;",
+        "storagetype Cell {};",
         FIRST,
         Status::NotBuilt,
         "not built\n",
+    ),
+    (
+        RUN,
+        "storagetype Cell;",
+        FIRST,
+        Status::SchemaRefused,
+        "schema 1:13 C5 Incomplete\n",
     ),
     (
         RUN,
@@ -72,12 +92,20 @@ const WHOLE: [(&[&str], &str, &str, Status, &str); 8] = [
         Status::SchemaRefused,
         "schema 1:23 S6 LeftOut\n",
     ),
+    (CHECK, CELLS, FIRST, Status::Ok, CHECKED),
     (
-        &["check", "cells.psdl"],
-        CELLS,
+        CHECK,
+        "const long Abc = 1; const long ABC = 2;",
         FIRST,
-        Status::NotBuilt,
-        "not built\n",
+        Status::SchemaRefused,
+        "schema 1:32 C1 Redefined\n",
+    ),
+    (
+        CHECK,
+        "struct Q { long x; }; storagetype T { state Q p; }; storagehome H of T { key p; };",
+        FIRST,
+        Status::SchemaRefused,
+        "schema 1:78 C9 KeyType\n",
     ),
     (&[], CELLS, FIRST, Status::Usage, USAGE),
 ];
@@ -99,7 +127,7 @@ fn any_pieces_give_the_same_replies(rt: HostRuntime) -> Result<(), Fail> {
 }
 
 // The words; the reads of the schema, the reads of the script and the calls of speech that fail; how the call ends, and what it speaks.
-const BROKEN: [(&[&str], &[u32], &[u32], &[u32], Status, &str); 7] = [
+const BROKEN: [(&[&str], &[u32], &[u32], &[u32], Status, &str); 9] = [
     (RUN, &[0], &[], &[], Status::ReadFault, ""),
     (RUN, &[1], &[], &[], Status::ReadFault, ""),
     (RUN, &[], &[0], &[], Status::ReadFault, ""),
@@ -107,6 +135,8 @@ const BROKEN: [(&[&str], &[u32], &[u32], &[u32], Status, &str); 7] = [
     (RUN, &[], &[1], &[], Status::ReadFault, "OK\n"),
     (RUN, &[], &[], &[0], Status::SpeakFault, ""),
     (RUN, &[], &[], &[1], Status::SpeakFault, "OK\n"),
+    (CHECK, &[0], &[], &[], Status::ReadFault, ""),
+    (CHECK, &[], &[0], &[0], Status::SpeakFault, ""),
     (&["go"], &[], &[], &[0], Status::SpeakFault, ""),
 ];
 

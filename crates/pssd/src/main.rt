@@ -58,8 +58,10 @@ fn open<R: Files>(rt: &R, name: &[u8]) -> Option<R::File> {
 
 // The schema's file, where the words name one that can be opened.
 fn open_schema<R: Files>(rt: &R, words: &[Bytes]) -> Option<R::File> {
-    let Ok(Plan::Run { schema, .. }) = plan(words) else {
-        return None;
+    let schema = match plan(words) {
+        Ok(Plan::Check { schema }) => schema,
+        Ok(Plan::Run { schema, .. }) => schema,
+        _ => return None,
     };
     let name = words.get(schema)?;
     open(rt, name.as_slice())

@@ -1,4 +1,4 @@
-use Rattle.std.proofs.Common.{inr}
+use Rattle.std.proofs.Common.{inl, inr}
 use Rattle.pss_daemon.proofs.Ending.{not_built_moments, refused_moments}
 use Rattle.pss_daemon.proofs.service.run.Goals as goal
 
@@ -10,12 +10,12 @@ returns-in-Err-clause-moments g c = not_built_moments c.args.words.now _ _ _ _ (
 
 pub returns-in-Went-clause-moments : goal.returns-in-Went-clause-moments
 returns-in-Went-clause-moments g c =
-    refused_moments c.args.words.now _ _ _ _ (g.W.Station.now c.args.station.now) c.in-Refused.fault (c.requires, c.in-Refused.ensures.of) c.refuse.ensures.moments
+    refused_moments c.args.words.now _ _ _ _ (g.W.Station.now c.args.station.now) c.in-Refused.fault (inl c.requires, c.in-Refused.ensures.of) c.refuse.ensures.moments
 
 pub returns-in-SpeakFault-clause-moments : goal.returns-in-SpeakFault-clause-moments
 returns-in-SpeakFault-clause-moments g c =
-    refused_moments c.args.words.now _ _ _ _ (g.W.Station.now c.args.station.now) c.in-Refused.fault (c.requires, c.in-Refused.ensures.of) c.refuse.ensures.moments
+    refused_moments c.args.words.now _ _ _ _ (g.W.Station.now c.args.station.now) c.in-Refused.fault (inl c.requires, c.in-Refused.ensures.of) c.refuse.ensures.moments
 
 pub returns-in-NoMemory-refuse-clause-moments : goal.returns-in-NoMemory-refuse-clause-moments
 returns-in-NoMemory-refuse-clause-moments g c =
-    refused_moments c.args.words.now _ _ _ _ (g.W.Station.now c.args.station.now) c.in-Refused.fault (c.requires, c.in-Refused.ensures.of) c.refuse.ensures.moments
+    refused_moments c.args.words.now _ _ _ _ (g.W.Station.now c.args.station.now) c.in-Refused.fault (inl c.requires, c.in-Refused.ensures.of) c.refuse.ensures.moments

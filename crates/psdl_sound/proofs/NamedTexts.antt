@@ -1,0 +1,27 @@
+-- Each text that has a tree has names for its identifiers and small literals, and without a fault a sound schema.
+use Rattle.std.proofs.Common.{List, ℕ, subst, refl}
+use Rattle.psdl_tree.specs.Trees.{Definitions}
+use Rattle.psdl_syntax.specs.Syntax.{IsTextOf}
+use Rattle.psdl_syntax.specs.Grammar.{definitions}
+use Rattle.psdl_check.specs.Declarations.{all_declarations}
+use Rattle.psdl_sound.specs.TextLaws.{TextsHaveNames, TextsAreSmall, TextsAreSound}
+use Rattle.psdl_sound.proofs.Worded.{AreFit, words_fit}
+use Rattle.psdl_sound.proofs.Naming.{tree_named}
+use Rattle.psdl_sound.proofs.SmallTrees.{tree_small}
+use Rattle.psdl_sound.proofs.SoundSchemas.{sound_schema}
+
+-- the tokens that spell the tree of a text
+tree_fits : (tree : Definitions) (text : List ℕ) → IsTextOf tree text → AreFit (definitions tree)
+tree_fits tree text is = subst AreFit is.spelled (words_fit text)
+
+-- a text that has a tree has names
+pub texts_have_names : TextsHaveNames
+texts_have_names tree text is = tree_named tree (tree_fits tree text is)
+
+-- and small literals
+pub texts_are_small : TextsAreSmall
+texts_are_small tree text is = tree_small tree (tree_fits tree text is)
+
+-- a text without a fault is sound
+pub texts_are_sound : TextsAreSound
+texts_are_sound tree text is none = sound_schema tree (all_declarations tree) refl none (texts_have_names tree text is) (texts_are_small tree text is)

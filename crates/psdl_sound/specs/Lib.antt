@@ -1,0 +1,5 @@
+pub mod SoundHomes
+pub mod TextLaws
+pub mod SoundCatalogs
+pub mod SoundSchemas
+pub mod SmallLiterals

@@ -1,0 +1,38 @@
+// Laws on the schemas of texts.
+ghost use Rattle.psdl_sound.specs.SoundCatalogs.{SchemasHaveSoundCatalogs};
+ghost use Rattle.psdl_sound.specs.SoundHomes.{SchemasHaveSoundHomes};
+ghost use Rattle.psdl_sound.specs.SoundSchemas.{SchemasAreSound};
+ghost use Rattle.psdl_sound.specs.TextLaws.{TextsAreSmall, TextsAreSound, TextsHaveNames};
+
+/// The schema of a text without a fault, whose identifiers are names, has sound homes and layouts.
+pub fn schema_has_sound_homes()
+    ensures { SchemasHaveSoundHomes }
+{}
+
+/// The same schema has sound keys, factories and catalogs, but for the types of keys.
+pub fn schema_has_sound_catalogs()
+    ensures { SchemasHaveSoundCatalogs }
+{}
+
+/// The whole schema of such a text is sound, where its integer literals are below 2^127.
+pub fn schema_is_sound()
+    ensures { SchemasAreSound }
+{}
+
+/// The identifiers of each text that has a tree are names: a letter, and then letters, digits and
+/// `_`. The tree has them without the `_` that a text may have in front.
+pub fn identifiers_are_names()
+    ensures { TextsHaveNames }
+{}
+
+/// The integer literals of each text that has a tree are below 2^127: those in the values of
+/// constants, in bounds and in dimensions. A wider literal is no token.
+pub fn literals_are_small()
+    ensures { TextsAreSmall }
+{}
+
+/// The schema of each text that has a tree and no fault is sound. Nothing else is asked of the
+/// text.
+pub fn text_is_sound()
+    ensures { TextsAreSound }
+{}

@@ -1,0 +1,9 @@
+//! That the schema of every PSDL text without a fault is sound.
+#![tactic(auto)]
+
+mod laws;
+
+pub use laws::{
+    identifiers_are_names, literals_are_small, schema_has_sound_catalogs, schema_has_sound_homes,
+    schema_is_sound, text_is_sound,
+};

@@ -10,26 +10,26 @@ use Rattle.type_layout.specs.Schemas.{given}
 use Rattle.type_layout.specs.ShapeText.{key_text, key_line, home_line, member_line, home_lines}
 use Rattle.type_layout.specs.declared.key.KeyNo.{KeyNo}
 use Rattle.type_layout.specs.declared.schema.Schema.{Schema}
-use Rattle.psdl_check.specs.Declarations.{Declaration}
+use Rattle.psdl_names.specs.Declarations.{Declaration}
 use Rattle.psdl_check.specs.HomeNos.{home_nos}
-use Rattle.psdl_check.specs.LineLengths.{length_of_key}
+use Rattle.psdl_types.specs.LineLengths.{length_of_key}
 use Rattle.psdl_check.specs.Making.{lines_after, lines_at, AreHomeParts, home_by, keyed}
 use Rattle.psdl_check.specs.declared.home_parts.HomeParts.{HomeParts}
 use Rattle.psdl_check.specs.Referring.{homes_in, AreReferents}
-use Rattle.psdl_check.specs.Schemas.{home_no, scoped_name, home_layout, key_numbers, factory_of, home_of, key_of, all_introduced, referents}
-use Rattle.psdl_check.specs.Descent.{base_home, home_factories}
-use Rattle.psdl_check.specs.Lookup.{at}
-use Rattle.psdl_check.specs.Standings.{standings}
+use Rattle.psdl_conditions.specs.Schemas.{home_no, scoped_name, home_layout, key_numbers, factory_of, home_of, key_of, all_introduced, referents}
+use Rattle.psdl_names.specs.Descent.{base_home, home_factories}
+use Rattle.psdl_names.specs.Lookup.{at}
+use Rattle.psdl_names.specs.Standings.{standings}
 use Rattle.psdl_check.specs.TypedMembers.{type_by, typed_view, typed_views, is_there, AreThere}
 use Rattle.psdl_check.specs.declared.typed_members.MemberType.{MemberType}
 use Rattle.psdl_check.specs.declared.typed_members.MemberType.TheVariants as kinds
 use Rattle.psdl_check.specs.declared.typed_members.TypedMember.{TypedMember}
 use Rattle.type_layout.specs.declared.schema.Factory.{Factory}
 use Rattle.type_layout.specs.Types.{PlainType, RefTo, PlainMember}
-use Rattle.psdl_check.specs.TextLengths.{cut}
-use Rattle.psdl_check.proofs.Lettering.{cut_sum}
+use Rattle.psdl_types.specs.TextLengths.{cut}
+use Rattle.psdl_types.proofs.Lettering.{cut_sum}
 use Rattle.psdl_check.proofs.Lining.{key_length}
-use Rattle.psdl_check.proofs.Typed.{some_there}
+use Rattle.psdl_conditions.proofs.Typed.{some_there}
 
 -- ---- the numbers of homes
 
@@ -113,7 +113,7 @@ home_is all h name base members keys factories a b c d e = λ i. record { name =
 pub home_lines_are : (all : List Declaration) (types : List PlainType) (lists : List (List HomeNo)) (parts_keys : List Key) (number h : ℕ) (p : HomeParts)
     → AreHomeParts all types h p → AreReferents all lists → parts_keys ≡ map (key_of all (standings all)) (all_introduced all)
     → home_lines (keyed parts_keys) number (home_by types (homes_in lists) p) ≡ lines_at all number h
-unfolding lines_at Rattle.psdl_check.specs.Schemas.schema
+unfolding lines_at Rattle.psdl_conditions.specs.Schemas.schema
 home_lines_are all types lists parts_keys number h p are referring same =
     let members : typed_views types (homes_in lists) p.layout.members.items ≡ home_layout all (standings all) h =
     views_agree types (length all) (homes_in lists) (referents all) p.layout.members.items are.there referring.each ∙ are.members in

@@ -9,12 +9,12 @@ use Rattle.std.proofs.lemmas.List.{drop-drop}
 use Rattle.std.proofs.lemmas.Slice.Eq.{bytes_eq-Decides, slice_eq-Decides}
 use Rattle.indexmap.specs.IndexMap.{insert_entry}
 use Rattle.psdl_check.specs.declared.key_table.IntroducedKey.{IntroducedKey}
-use Rattle.psdl_check.specs.declared.listed.Listed.{Listed as ListedNode}
-use Rattle.psdl_check.specs.Descent.{Listed, same_list, same_listed}
+use Rattle.psdl_conditions.specs.declared.listed.Listed.{Listed as ListedNode}
+use Rattle.psdl_names.specs.Descent.{Listed, same_list, same_listed}
 use Rattle.psdl_check.specs.Introductions.{introduced_views, introduced_by}
 use Rattle.psdl_check.specs.KeyChains.{first_of, number_from, AreNext}
-use Rattle.psdl_check.specs.Listings.{listed_view}
-use Rattle.psdl_check.specs.Schemas.{Introduced}
+use Rattle.psdl_conditions.specs.Listings.{listed_view}
+use Rattle.psdl_conditions.specs.Schemas.{Introduced}
 use Rattle.psdl_check.proofs.Introducing.{node_eq, node_is_same}
 
 -- ---- by name and list

@@ -11,14 +11,14 @@ use Rattle.std.specs.declared.vec.Vec.{Vec}
 use Rattle.type_layout.specs.declared.home.HomeNo.{HomeNo}
 use Rattle.type_layout.specs.Schemas.{given}
 use Rattle.psdl_check.specs.Conforming.{has_type}
-use Rattle.psdl_check.specs.Declarations.{Declaration}
-use Rattle.psdl_check.specs.Descent.{has, lines, ancestry, concrete_homes}
-use Rattle.psdl_check.specs.Limits.{home_number}
+use Rattle.psdl_names.specs.Declarations.{Declaration}
+use Rattle.psdl_names.specs.Descent.{has, lines, ancestry, concrete_homes}
+use Rattle.psdl_types.specs.Limits.{home_number}
 use Rattle.psdl_check.specs.Referring.{homes_in, lists_in}
-use Rattle.psdl_check.specs.Schemas.{home_no, referents}
-use Rattle.psdl_check.proofs.Entering.{take_more}
-use Rattle.psdl_check.proofs.Repeats.{once, fresh, fresh_old, fresh_new, fresh_fresh}
-use Rattle.psdl_check.proofs.Slots.{numbered_at}
+use Rattle.psdl_conditions.specs.Schemas.{home_no, referents}
+use Rattle.psdl_names.proofs.Entering.{take_more}
+use Rattle.psdl_conditions.proofs.Repeats.{once, fresh, fresh_old, fresh_new, fresh_fresh}
+use Rattle.psdl_conditions.proofs.Slots.{numbered_at}
 
 abbrev last_if : Bool → HomeNo → List HomeNo
 last_if b home = cond b (home ∷ []) []

@@ -5,10 +5,10 @@ use Rattle.std.proofs.lemmas.Bool.{and_from}
 use Rattle.std.proofs.lemmas.List.{length-map}
 use Rattle.type_layout.specs.Schemas.{given}
 use Rattle.psdl_check.specs.declared.key_table.IntroducedKey.{IntroducedKey}
-use Rattle.psdl_check.specs.Descent.{Listed, same_listed}
+use Rattle.psdl_names.specs.Descent.{Listed, same_listed}
 use Rattle.psdl_check.specs.Introductions.{introduced_views}
 use Rattle.psdl_check.specs.KeyChains.{number_from, AreNext}
-use Rattle.psdl_check.specs.Schemas.{Introduced}
+use Rattle.psdl_conditions.specs.Schemas.{Introduced}
 use Rattle.psdl_check.proofs.Chained.{listed_is, cut_rest, cut_within, map_cut, view_of}
 
 -- that have this name and list, in a home that passes a test

@@ -2,9 +2,9 @@
 use Rattle.std.proofs.Common.{◌≡◌, ℕ, zero, suc, ◌+◌, ◌<◌, List, [], ◌∷◌, ◌++◌, length, map, Some, refl, sym, arith}
 use Rattle.psdl_tree.specs.declared.names.Identifier.{Identifier}
 use Rattle.psdl_tree.specs.Trees.{TypeSpec, Declarator, Definition, ModuleDefinition, ConstantDefinition, TypeDefinitionDefinition, StructDefinition, EnumerationDefinition, AbstractTypeDefinition, StorageTypeDefinition, AbstractHomeDefinition, StorageHomeDefinition, CatalogDefinition, Definitions, NoDefinition, AndDefinition}
-use Rattle.psdl_check.specs.Declarations.{Path, IsModule, IsAlias, IsEnumerator, Declaration, declared, all_identifiers, aliases, declared_by, declarations, all_declarations}
-use Rattle.psdl_check.specs.Lookup.{at}
-use Rattle.psdl_check.specs.Turns.{before_of, spec_of, Follows, AreInTurn}
+use Rattle.psdl_names.specs.Declarations.{Path, IsModule, IsAlias, IsEnumerator, Declaration, declared, all_identifiers, aliases, declared_by, declarations, all_declarations}
+use Rattle.psdl_names.specs.Lookup.{at}
+use Rattle.psdl_types.specs.Turns.{before_of, spec_of, Follows, AreInTurn}
 
 abbrev Turn : Declaration → Declaration → Type 0
 Turn d e = (b : ℕ) → before_of e.what ≡ suc b → Follows d e b

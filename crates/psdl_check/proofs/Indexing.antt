@@ -8,15 +8,15 @@ use Rattle.std.proofs.lemmas.List.{append-nil, map-append}
 use Rattle.type_layout.specs.declared.home.HomeNo.{HomeNo}
 use Rattle.type_layout.specs.Types.{PlainType, PlainMember}
 use Rattle.type_layout.specs.declared.schema.Factory.{Factory}
-use Rattle.psdl_check.specs.declared.listed.Listed.{Listed as ListedNode}
+use Rattle.psdl_conditions.specs.declared.listed.Listed.{Listed as ListedNode}
 use Rattle.psdl_check.specs.declared.typed_members.TypedMember.{TypedMember}
-use Rattle.psdl_check.specs.Descent.{StateMember}
+use Rattle.psdl_names.specs.Descent.{StateMember}
 use Rattle.psdl_check.specs.LayoutNames.{typed_names}
-use Rattle.psdl_check.specs.Listings.{listed_view}
-use Rattle.psdl_check.specs.Placing.{place_called}
-use Rattle.psdl_check.specs.Schemas.{indexes, factory_of}
+use Rattle.psdl_conditions.specs.Listings.{listed_view}
+use Rattle.psdl_conditions.specs.Placing.{place_called}
+use Rattle.psdl_conditions.specs.Schemas.{indexes, factory_of}
 use Rattle.psdl_check.specs.TypedMembers.{typed_views}
-use Rattle.psdl_check.proofs.Entering.{map_more}
+use Rattle.psdl_names.proofs.Entering.{map_more}
 use Rattle.psdl_check.proofs.Laying.{name_list}
 
 abbrev pub view_names : List PlainMember → List (List ℕ)

@@ -7,12 +7,12 @@ use Rattle.std.specs.Str.{bytes_eq}
 use Rattle.std.proofs.lemmas.List.{append-nil, map-append, take_all}
 use Rattle.std.proofs.lemmas.List.Elements.{filter-append}
 use Rattle.psdl_check.specs.declared.key_table.IntroducedKey.{IntroducedKey}
-use Rattle.psdl_check.specs.declared.listed.Listed.{Listed as ListedNode}
-use Rattle.psdl_check.specs.Descent.{Listed, same_listed}
+use Rattle.psdl_conditions.specs.declared.listed.Listed.{Listed as ListedNode}
+use Rattle.psdl_names.specs.Descent.{Listed, same_listed}
 use Rattle.psdl_check.specs.Introductions.{introduced_views, introduced_by, new_keys}
-use Rattle.psdl_check.specs.Listings.{listed_view}
-use Rattle.psdl_check.specs.Schemas.{Introduced}
-use Rattle.psdl_check.proofs.Entering.{take_more}
+use Rattle.psdl_conditions.specs.Listings.{listed_view}
+use Rattle.psdl_conditions.specs.Schemas.{Introduced}
+use Rattle.psdl_names.proofs.Entering.{take_more}
 
 abbrev pub node_eq : ListedNode → ListedNode → Bool
 node_eq a b = bytes_eq a.name.now b.name.now && pointwise (λ (m n : Bor (List ℕ)). bytes_eq m.now n.now) a.members.items b.members.items

@@ -8,19 +8,19 @@ use Rattle.type_layout.specs.declared.schema.Schema.{Schema}
 use Rattle.type_layout.specs.Schemas.{given, nth}
 use Rattle.std.specs.List.{flat_map, enumerate_from}
 use Rattle.pss_base.specs.declared.place.Place.{Place}
-use Rattle.psdl_check.specs.declared.fault.CheckFault.{CheckFault}
-use Rattle.psdl_check.specs.declared.fault.CheckKind.TheVariants.{Limit}
+use Rattle.psdl_names.specs.declared.fault.CheckFault.{CheckFault}
+use Rattle.psdl_names.specs.declared.fault.CheckKind.TheVariants.{Limit}
 use Rattle.psdl_check.specs.declared.making.Made.{Made}
 use Rattle.psdl_check.specs.declared.making.Made.TheVariants as made
-use Rattle.psdl_check.specs.Declarations.{Declaration}
-use Rattle.psdl_check.specs.Descent.{concrete_homes}
-use Rattle.psdl_check.specs.Fault.{fault, least}
-use Rattle.psdl_check.specs.Faults.{faults, long_shape, or_else, all_faults, first_fault, passing}
-use Rattle.psdl_check.specs.Lookup.{at}
+use Rattle.psdl_names.specs.Declarations.{Declaration}
+use Rattle.psdl_names.specs.Descent.{concrete_homes}
+use Rattle.psdl_names.specs.Fault.{fault, least}
+use Rattle.psdl_conditions.specs.Faults.{faults, long_shape, or_else, all_faults, first_fault, passing}
+use Rattle.psdl_names.specs.Lookup.{at}
 use Rattle.psdl_check.specs.Making.{IsMade}
-use Rattle.psdl_check.specs.Schemas.{key_of, all_introduced, provided_homes, schema}
-use Rattle.psdl_check.specs.Standings.{standings}
-use Rattle.psdl_check.proofs.Least.{nothing_least}
+use Rattle.psdl_conditions.specs.Schemas.{key_of, all_introduced, provided_homes, schema}
+use Rattle.psdl_names.specs.Standings.{standings}
+use Rattle.psdl_names.proofs.Least.{nothing_least}
 use Rattle.psdl_check.proofs.Overlong.{home_declared}
 
 -- ---- what is made

@@ -10,20 +10,20 @@ use Rattle.psdl_tree.specs.Views.{state_type_view}
 use Rattle.type_layout.specs.declared.home.HomeNo.{HomeNo}
 use Rattle.type_layout.specs.Schemas.{given}
 use Rattle.type_layout.specs.Types.{PlainType, PlainMember, RefTo}
-use Rattle.psdl_check.specs.declared.members.Member.{Member}
+use Rattle.psdl_conditions.specs.declared.members.Member.{Member}
 use Rattle.psdl_check.specs.declared.typed_members.MemberType.{MemberType}
 use Rattle.psdl_check.specs.declared.typed_members.MemberType.TheVariants as kinds
 use Rattle.psdl_check.specs.declared.typed_members.TypedMember.{TypedMember}
-use Rattle.psdl_check.specs.Declarations.{Declaration}
-use Rattle.psdl_check.specs.Descent.{StateMember}
-use Rattle.psdl_check.specs.Layouts.{layout_member, member_type, state_type_by}
-use Rattle.psdl_check.specs.Lookup.{at, defined}
-use Rattle.psdl_check.specs.Membership.{member_view, member_views}
-use Rattle.psdl_check.specs.Standings.{Standing, all_there, sight}
-use Rattle.psdl_check.specs.TypeNodes.{Extends}
+use Rattle.psdl_names.specs.Declarations.{Declaration}
+use Rattle.psdl_names.specs.Descent.{StateMember}
+use Rattle.psdl_types.specs.Layouts.{layout_member, member_type, state_type_by}
+use Rattle.psdl_names.specs.Lookup.{at, defined}
+use Rattle.psdl_conditions.specs.Membership.{member_view, member_views}
+use Rattle.psdl_names.specs.Standings.{Standing, all_there, sight}
+use Rattle.psdl_types.specs.TypeNodes.{Extends}
 use Rattle.psdl_check.specs.TypedMembers.{type_by, typed_view, typed_views, is_there, AreThere}
-use Rattle.psdl_check.proofs.Entering.{map_more}
-use Rattle.psdl_check.proofs.Measuring.{there-append}
+use Rattle.psdl_names.proofs.Entering.{map_more}
+use Rattle.psdl_types.proofs.Measuring.{there-append}
 
 abbrev pub laid_out : StateMember → PlainType → PlainMember
 laid_out m t = record { name = m.name.name; type = t; readonly = m.readonly }

@@ -5,13 +5,13 @@ use Rattle.std.specs.Option.{option_to_list}
 use Rattle.std.proofs.lemmas.List.{append-nil, map-append, take_all}
 use Rattle.std.proofs.lemmas.List.Folds.{list_any_more}
 use Rattle.type_layout.specs.declared.key.KeyNo.{KeyNo}
-use Rattle.psdl_check.specs.declared.listed.Listed.{Listed as ListedNode}
-use Rattle.psdl_check.specs.Declarations.{Declaration}
-use Rattle.psdl_check.specs.Descent.{Listed, has, ancestry, same_listed, home_keys}
+use Rattle.psdl_conditions.specs.declared.listed.Listed.{Listed as ListedNode}
+use Rattle.psdl_names.specs.Declarations.{Declaration}
+use Rattle.psdl_names.specs.Descent.{Listed, has, ancestry, same_listed, home_keys}
 use Rattle.psdl_check.specs.KeyNumbers.{key_no_of}
-use Rattle.psdl_check.specs.Listings.{listed_view}
-use Rattle.psdl_check.specs.Schemas.{Introduced, all_introduced, key_number, key_numbers}
-use Rattle.psdl_check.proofs.Entering.{map_more}
+use Rattle.psdl_conditions.specs.Listings.{listed_view}
+use Rattle.psdl_conditions.specs.Schemas.{Introduced, all_introduced, key_number, key_numbers}
+use Rattle.psdl_names.proofs.Entering.{map_more}
 use Rattle.psdl_check.proofs.Finding.{in_line}
 
 or_cond : (a b : Bool) → cond b true a ≡ a || b

@@ -2,11 +2,11 @@
 use Rattle.std.proofs.Common.{◌≡◌, ℕ, List, [], ◌∷◌, length, map, refl, ap}
 use Rattle.std.specs.List.{range_with_len}
 use Rattle.type_layout.specs.declared.home.HomeNo.{HomeNo}
-use Rattle.psdl_check.specs.Declarations.{Declaration}
+use Rattle.psdl_names.specs.Declarations.{Declaration}
 use Rattle.psdl_check.specs.HomeNos.{home_nos}
-use Rattle.psdl_check.specs.Limits.{home_number}
-use Rattle.psdl_check.specs.Numbering.{home_numbers}
-use Rattle.psdl_check.specs.Schemas.{home_no}
+use Rattle.psdl_types.specs.Limits.{home_number}
+use Rattle.psdl_conditions.specs.Numbering.{home_numbers}
+use Rattle.psdl_conditions.specs.Schemas.{home_no}
 
 abbrev pub no_of : ℕ → HomeNo
 no_of n = record { 0 = n }

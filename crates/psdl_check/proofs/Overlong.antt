@@ -4,19 +4,20 @@ use Rattle.std.specs.List.{find, range_with_len, slice_get}
 use Rattle.std.specs.Option.{option_map, option_and_then}
 use Rattle.std.proofs.lemmas.List.{take_all, append-nil, append_assoc, length-map, map-append}
 use Rattle.std.proofs.lemmas.Option.{slice_get-map, slice_get_read}
-use Rattle.psdl_check.proofs.Inherited.{homes_below}
-use Rattle.psdl_check.proofs.Named.{has_at}
+use Rattle.psdl_conditions.proofs.Inherited.{homes_below}
+use Rattle.psdl_conditions.proofs.Named.{has_at}
 use Rattle.type_layout.specs.declared.schema.Home.{Home}
 use Rattle.type_layout.specs.declared.schema.Schema.{Schema}
 use Rattle.type_layout.specs.Schemas.{nth}
 use Rattle.type_layout.specs.ShapeText.{home_lines, lines_from}
-use Rattle.psdl_check.specs.Declarations.{Declaration}
-use Rattle.psdl_check.specs.Descent.{concrete_homes}
-use Rattle.psdl_check.specs.Faults.{most_shape, passing}
+use Rattle.psdl_names.specs.Declarations.{Declaration}
+use Rattle.psdl_names.specs.Descent.{concrete_homes}
+use Rattle.psdl_conditions.specs.Faults.{passing}
+use Rattle.psdl_types.specs.Limits.{most_shape}
 use Rattle.psdl_check.specs.Making.{lines_at, lines_before}
-use Rattle.psdl_check.specs.Schemas.{home_of, schema}
-use Rattle.psdl_check.specs.Standings.{standings}
-use Rattle.psdl_check.specs.TextLengths.{cut}
+use Rattle.psdl_conditions.specs.Schemas.{home_of, schema}
+use Rattle.psdl_names.specs.Standings.{standings}
+use Rattle.psdl_types.specs.TextLengths.{cut}
 
 take_next : {A : Type 0} (xs : List A) (i : ℕ) (x : A) → slice_get xs i ≡ Some x → take (suc i) xs ≡ take i xs ++ x ∷ []
 take_next [] i x is = absurd (cc)

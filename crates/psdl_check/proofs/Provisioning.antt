@@ -7,13 +7,13 @@ use Rattle.std.proofs.lemmas.List.FromFn.{get_or-map-range_with_len, length-map-
 use Rattle.type_layout.specs.declared.home.HomeNo.{HomeNo}
 use Rattle.type_layout.specs.declared.schema.Provided.{Provided}
 use Rattle.psdl_tree.specs.Trees.{Provision}
-use Rattle.psdl_check.specs.Declarations.{Declaration}
-use Rattle.psdl_check.specs.Descent.{has, ancestry, concrete_homes, provider}
+use Rattle.psdl_names.specs.Declarations.{Declaration}
+use Rattle.psdl_names.specs.Descent.{has, ancestry, concrete_homes, provider}
 use Rattle.psdl_check.specs.HomeNos.{home_nos}
-use Rattle.psdl_check.specs.Lookup.{at, defined}
-use Rattle.psdl_check.specs.Schemas.{home_no, scoped_name, provided_home}
-use Rattle.psdl_check.proofs.Inherited.{homes_below}
-use Rattle.psdl_check.proofs.Repeats.{has_here, has_later}
+use Rattle.psdl_names.specs.Lookup.{at, defined}
+use Rattle.psdl_conditions.specs.Schemas.{home_no, scoped_name, provided_home}
+use Rattle.psdl_conditions.proofs.Inherited.{homes_below}
+use Rattle.psdl_conditions.proofs.Repeats.{has_here, has_later}
 
 -- ---- the home that provides another
 

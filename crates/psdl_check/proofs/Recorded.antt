@@ -11,19 +11,19 @@ use Rattle.type_layout.specs.Schemas.{given}
 use Rattle.type_layout.specs.Types.{PlainType, PlainMember}
 use Rattle.psdl_check.specs.declared.key_table.IntroducedKey.{IntroducedKey}
 use Rattle.psdl_check.specs.declared.laid_homes.LaidHome.{LaidHome}
-use Rattle.psdl_check.specs.Declarations.{Declaration}
-use Rattle.psdl_check.specs.Descent.{Listed, has, base_home, concrete_homes, home_keys, same_listed}
+use Rattle.psdl_names.specs.Declarations.{Declaration}
+use Rattle.psdl_names.specs.Descent.{Listed, has, base_home, concrete_homes, home_keys, same_listed}
 use Rattle.psdl_check.specs.HomeNos.{home_nos}
 use Rattle.psdl_check.specs.Introductions.{introduced_views, introduced_by}
 use Rattle.psdl_check.specs.KeyRecords.{IsLaidOut, key_with}
 use Rattle.psdl_check.specs.KeyTables.{introduced_view}
-use Rattle.psdl_check.specs.Schemas.{Introduced, home_no, introduced, all_introduced, key_of, referents}
-use Rattle.psdl_check.specs.Standings.{standings}
-use Rattle.psdl_check.specs.TypeNodes.{Extends}
+use Rattle.psdl_conditions.specs.Schemas.{Introduced, home_no, introduced, all_introduced, key_of, referents}
+use Rattle.psdl_names.specs.Standings.{standings}
+use Rattle.psdl_types.specs.TypeNodes.{Extends}
 use Rattle.psdl_check.specs.TypedMembers.{typed_views, layout_of_home}
-use Rattle.psdl_check.proofs.Entering.{map_more}
-use Rattle.psdl_check.proofs.Inherited.{homes_below}
-use Rattle.psdl_check.proofs.Repeats.{has_here, has_later}
+use Rattle.psdl_names.proofs.Entering.{map_more}
+use Rattle.psdl_conditions.proofs.Inherited.{homes_below}
+use Rattle.psdl_conditions.proofs.Repeats.{has_here, has_later}
 
 -- ---- homes that introduce keys are declared
 

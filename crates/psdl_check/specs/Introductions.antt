@@ -2,9 +2,9 @@
 use Rattle.std.specs.Prelude.{ℕ, List, map, filter, not}
 use Rattle.std.specs.List.{list_any}
 use Rattle.psdl_check.specs.declared.key_table.IntroducedKey.{IntroducedKey}
-use Rattle.psdl_check.specs.Descent.{Listed, same_listed}
-use Rattle.psdl_check.specs.Listings.{listed_view}
-use Rattle.psdl_check.specs.Schemas.{Introduced}
+use Rattle.psdl_names.specs.Descent.{Listed, same_listed}
+use Rattle.psdl_conditions.specs.Listings.{listed_view}
+use Rattle.psdl_conditions.specs.Schemas.{Introduced}
 
 abbrev pub introduced_views : List IntroducedKey → List Introduced
 introduced_views keys = map (λ k. record { home = k.home; listed = listed_view k.listed }) keys

@@ -4,10 +4,10 @@ use Rattle.std.specs.List.{position_from}
 use Rattle.std.specs.Map.{lookup}
 use Rattle.std.proofs.Common.{get_or}
 use Rattle.psdl_check.specs.declared.key_chains.KeyChains.{KeyChains}
-use Rattle.psdl_check.specs.declared.listed.Listed.{Listed as ListedNode}
-use Rattle.psdl_check.specs.Descent.{Listed, same_listed}
-use Rattle.psdl_check.specs.Listings.{listed_view}
-use Rattle.psdl_check.specs.Schemas.{Introduced}
+use Rattle.psdl_conditions.specs.declared.listed.Listed.{Listed as ListedNode}
+use Rattle.psdl_names.specs.Descent.{Listed, same_listed}
+use Rattle.psdl_conditions.specs.Listings.{listed_view}
+use Rattle.psdl_conditions.specs.Schemas.{Introduced}
 
 -- the number that is entered for a name and list
 abbrev pub first_of : List (ListedNode × ℕ) → Listed → Option ℕ

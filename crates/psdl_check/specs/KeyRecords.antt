@@ -4,9 +4,9 @@ use Rattle.type_layout.specs.declared.home.HomeNo.{HomeNo}
 use Rattle.type_layout.specs.declared.key.Key.{Key}
 use Rattle.type_layout.specs.Types.{PlainType, PlainMember}
 use Rattle.psdl_check.specs.declared.laid_homes.LaidHome.{LaidHome}
-use Rattle.psdl_check.specs.Declarations.{Declaration}
-use Rattle.psdl_check.specs.Schemas.{Introduced, indexes}
-use Rattle.psdl_check.specs.Standings.{standings}
+use Rattle.psdl_names.specs.Declarations.{Declaration}
+use Rattle.psdl_conditions.specs.Schemas.{Introduced, indexes}
+use Rattle.psdl_names.specs.Standings.{standings}
 use Rattle.psdl_check.specs.TypedMembers.{typed_views, layout_of_home}
 
 -- the layout is that of the home

@@ -2,8 +2,8 @@
 use Rattle.std.specs.Prelude.{List, map}
 use Rattle.psdl_check.specs.declared.key_table.IntroducedKey.{IntroducedKey}
 use Rattle.psdl_check.specs.declared.key_table.KeyTable.{KeyTable}
-use Rattle.psdl_check.specs.Listings.{listed_view}
-use Rattle.psdl_check.specs.Schemas.{Introduced}
+use Rattle.psdl_conditions.specs.Listings.{listed_view}
+use Rattle.psdl_conditions.specs.Schemas.{Introduced}
 
 abbrev pub introduced_view : IntroducedKey → Introduced
 introduced_view k = record { home = k.home; listed = listed_view k.listed }

@@ -7,22 +7,22 @@ use Rattle.type_layout.specs.declared.schema.Home.{Home}
 use Rattle.type_layout.specs.declared.schema.Schema.{Schema}
 use Rattle.type_layout.specs.ShapeText.{home_lines, lines_from}
 use Rattle.type_layout.specs.Types.{PlainType}
-use Rattle.psdl_check.specs.declared.fault.CheckKind.TheVariants.{Limit}
+use Rattle.psdl_names.specs.declared.fault.CheckKind.TheVariants.{Limit}
 use Rattle.psdl_check.specs.declared.home_parts.HomeParts.{HomeParts}
 use Rattle.psdl_check.specs.declared.making.Made.{Made}
 use Rattle.psdl_check.specs.declared.making.Made.TheVariants as made
 use Rattle.psdl_check.specs.declared.making.Parts.{Parts}
-use Rattle.psdl_check.specs.Declarations.{Declaration}
-use Rattle.psdl_check.specs.Descent.{base_home}
-use Rattle.psdl_check.specs.Fault.{fault}
-use Rattle.psdl_check.specs.Faults.{long_shape}
+use Rattle.psdl_names.specs.Declarations.{Declaration}
+use Rattle.psdl_names.specs.Descent.{base_home}
+use Rattle.psdl_names.specs.Fault.{fault}
+use Rattle.psdl_conditions.specs.Faults.{long_shape}
 use Rattle.psdl_check.specs.HomeNos.{home_nos}
 use Rattle.psdl_check.specs.KeyTables.{introduced_in}
-use Rattle.psdl_check.specs.Lookup.{at}
+use Rattle.psdl_names.specs.Lookup.{at}
 use Rattle.psdl_check.specs.Referring.{lists_in, AreReferents}
-use Rattle.psdl_check.specs.Schemas.{home_no, referents, scoped_name, home_layout, all_introduced, key_numbers, key_of, home_of, schema}
-use Rattle.psdl_check.specs.Standings.{standings}
-use Rattle.psdl_check.specs.TextLengths.{cut}
+use Rattle.psdl_conditions.specs.Schemas.{home_no, referents, scoped_name, home_layout, all_introduced, key_numbers, key_of, home_of, schema}
+use Rattle.psdl_names.specs.Standings.{standings}
+use Rattle.psdl_types.specs.TextLengths.{cut}
 use Rattle.psdl_check.specs.TypedMembers.{typed_views, AreThere}
 
 -- what is known of all homes and keys

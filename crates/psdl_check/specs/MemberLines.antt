@@ -4,8 +4,8 @@ use Rattle.type_layout.specs.declared.home.HomeNo.{HomeNo}
 use Rattle.type_layout.specs.Types.{PlainType}
 use Rattle.type_layout.specs.ShapeText.{member_line}
 use Rattle.psdl_check.specs.declared.typed_members.TypedMember.{TypedMember}
-use Rattle.psdl_check.specs.LineLengths.{line_length}
-use Rattle.psdl_check.specs.TextLengths.{cut}
+use Rattle.psdl_types.specs.LineLengths.{line_length}
+use Rattle.psdl_types.specs.TextLengths.{cut}
 use Rattle.psdl_check.specs.TypedMembers.{typed_view}
 
 -- with the lines of members behind what stands in front, cut at each

@@ -3,8 +3,8 @@ use Rattle.std.specs.Prelude.{◌≡◌, ◌<◌, ℕ, List, [], length, map}
 use Rattle.std.proofs.Common.{get_or}
 use Rattle.std.specs.declared.vec.Vec.{Vec}
 use Rattle.type_layout.specs.declared.home.HomeNo.{HomeNo}
-use Rattle.psdl_check.specs.Declarations.{Declaration}
-use Rattle.psdl_check.specs.Schemas.{referents}
+use Rattle.psdl_names.specs.Declarations.{Declaration}
+use Rattle.psdl_conditions.specs.Schemas.{referents}
 
 abbrev pub lists_in : {Z : Type 0} → List (Vec HomeNo Z) → List (List HomeNo)
 lists_in lists = map (λ v. v.items) lists

@@ -8,11 +8,11 @@ use Rattle.type_layout.specs.Types.{PlainType, RefTo, PlainMember}
 use Rattle.psdl_check.specs.declared.typed_members.MemberType.{MemberType}
 use Rattle.psdl_check.specs.declared.typed_members.MemberType.TheVariants as kinds
 use Rattle.psdl_check.specs.declared.typed_members.TypedMember.{TypedMember}
-use Rattle.psdl_check.specs.Declarations.{Declaration}
-use Rattle.psdl_check.specs.Descent.{type_of_home}
-use Rattle.psdl_check.specs.Layouts.{layout}
-use Rattle.psdl_check.specs.Standings.{Standing}
-use Rattle.psdl_check.specs.TypeNodes.{type_at}
+use Rattle.psdl_names.specs.Declarations.{Declaration}
+use Rattle.psdl_names.specs.Descent.{type_of_home}
+use Rattle.psdl_types.specs.Layouts.{layout}
+use Rattle.psdl_names.specs.Standings.{Standing}
+use Rattle.psdl_types.specs.TypeNodes.{type_at}
 
 -- the type of a member; `homes` lists the homes that a reference to a type may have
 abbrev pub type_by : List PlainType → (ℕ → List HomeNo) → MemberType → PlainType

@@ -2,9 +2,9 @@
 use Rattle.std.specs.Prelude.{◌≡◌, List, Some, None}
 use Rattle.psdl_check.specs.declared.checks.Verdict.{Verdict}
 use Rattle.psdl_check.specs.declared.checks.Verdict.TheVariants as verdicts
-use Rattle.psdl_check.specs.Declarations.{Declaration}
-use Rattle.psdl_check.specs.Faults.{first_fault}
-use Rattle.psdl_check.specs.Schemas.{schema}
+use Rattle.psdl_names.specs.Declarations.{Declaration}
+use Rattle.psdl_conditions.specs.Faults.{first_fault}
+use Rattle.psdl_conditions.specs.Schemas.{schema}
 
 -- the schema where there is no fault, else the first fault
 abbrev pub IsVerdict : List Declaration → Verdict → Type 0

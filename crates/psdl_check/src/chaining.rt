@@ -1,14 +1,14 @@
 // Keys are entered by name and list from the last to the first.
 ghost use Rattle.std.specs.Prelude.{◌≡◌, ◌+◌, ◌<◌, ℕ, length, IfOk, OnOk};
-ghost use Rattle.psdl_check.specs.Descent.{Listed as ListedView};
+ghost use Rattle.psdl_names.specs.Descent.{Listed as ListedView};
 ghost use Rattle.psdl_check.specs.Introductions.{introduced_views};
 ghost use Rattle.psdl_check.specs.KeyChains.{IsChained, AreNext, first_of, number_from};
-ghost use Rattle.psdl_check.specs.Listings.{listed_view};
+ghost use Rattle.psdl_conditions.specs.Listings.{listed_view};
 
 use crate::key_chains::{KeyChains, put_first};
 use crate::key_table::IntroducedKey;
-use crate::listed::Listed;
 use indexmap::IndexMap;
+use psdl_conditions::listed::Listed;
 use pss_base::NoMemory;
 use std::alloc::Global;
 

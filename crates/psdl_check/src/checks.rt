@@ -1,25 +1,28 @@
 // The checks of a text, and its schema.
 ghost use Rattle.std.specs.Prelude.{◌≡◌, ◌⊎◌, None, Some, map, IfOk, IfErr};
 ghost use Rattle.psdl_tree.specs.Views.{tree_view};
-ghost use Rattle.psdl_check.specs.declared.fault.CheckKind.TheVariants as kinds;
-ghost use Rattle.psdl_check.specs.Declarations.{all_declarations};
-ghost use Rattle.psdl_check.specs.Directories.{all_of};
-ghost use Rattle.psdl_check.specs.Faults.{faults, first_fault};
-ghost use Rattle.psdl_check.specs.Fault.{least};
-ghost use Rattle.psdl_check.specs.Prepared.{AreTables};
-ghost use Rattle.psdl_check.specs.Lookup.{lower};
-ghost use Rattle.psdl_check.specs.Schemas as schemas;
-ghost use Rattle.psdl_check.specs.Turns.{AreInTurn};
+ghost use Rattle.psdl_names.specs.declared.fault.CheckKind.TheVariants as kinds;
+ghost use Rattle.psdl_names.specs.Declarations.{all_declarations};
+ghost use Rattle.psdl_names.specs.Directories.{all_of};
+ghost use Rattle.psdl_conditions.specs.Faults.{faults, first_fault};
+ghost use Rattle.psdl_names.specs.Fault.{least};
+ghost use Rattle.psdl_conditions.specs.Lineage.{graph_of};
+ghost use Rattle.psdl_conditions.specs.Owning.{owners};
+ghost use Rattle.psdl_conditions.specs.Prepared.{AreTables};
+ghost use Rattle.psdl_names.specs.Lookup.{lower};
+ghost use Rattle.psdl_conditions.specs.Schemas as schemas;
+ghost use Rattle.psdl_types.specs.Turns.{AreInTurn};
 ghost use Rattle.psdl_check.specs.Verdicts.{IsVerdict};
 
-use crate::declaration::Declaration;
-use crate::directory::Directory;
-use crate::fault::{CheckFault, CheckKind};
-use crate::first_fault::first_fault;
-use crate::flat::flatten;
 use crate::making::{Made, make_schema};
-use crate::spelling::Spelling;
-use crate::tables::{Tables, heritage_of};
+use psdl_conditions::first_fault::first_fault;
+use psdl_conditions::heritage::Heritage;
+use psdl_conditions::tables::{Tables, heritage_of};
+use psdl_names::declaration::Declaration;
+use psdl_names::directory::Directory;
+use psdl_names::fault::{CheckFault, CheckKind};
+use psdl_names::flat::flatten;
+use psdl_names::spelling::Spelling;
 use psdl_tree::Tree;
 use pss_base::{NoMemory, Place};
 use std::alloc::Global;
@@ -45,13 +48,20 @@ fn lowered_names(alloc: Global, declarations: &[Declaration<'_>]) -> Result<Vec<
 }
 
 // The schema of a text that has no fault but in its shape.
-fn schema_of(alloc: Global, directory: &Directory<'_>, tables: &Tables) -> Result<Verdict, NoMemory>
+fn schema_of(
+    alloc: Global,
+    directory: &Directory<'_>,
+    tables: &Tables,
+    heritage: &mut Heritage,
+) -> Result<Verdict, NoMemory>
     requires turn { AreInTurn (all_of directory.now) }
     requires tables { AreTables (all_of directory.now) tables.now }
+    requires graph { heritage.old.graph ≡ graph_of (all_of directory.now) }
+    requires own { heritage.old.own ≡ owners (all_of directory.now) }
     requires sound { least (faults (all_of directory.now)) ≡ None }
     ensures { IfOk result (λ v. IsVerdict (all_of directory.now) v) }
 {
-    let made = make_schema(alloc, directory, tables)?;
+    let made = make_schema(alloc, directory, tables, heritage)?;
     match made {
         Made::Whole(schema) => Ok(Verdict::Sound(schema)),
         Made::TooLong(home) => Ok(Verdict::Refused(CheckFault {
@@ -70,7 +80,7 @@ fn judge_declarations(alloc: Global, directory: &Directory<'_>) -> Result<Verdic
     let first = first_fault(alloc, directory, &tables, &mut heritage)?;
     match first {
         Some(fault) => Ok(Verdict::Refused(fault)),
-        None => schema_of(alloc, directory, &tables),
+        None => schema_of(alloc, directory, &tables, &mut heritage),
     }
 }
 

@@ -2,19 +2,20 @@
 ghost use Rattle.std.specs.Prelude.{◌≡◌, ◌<◌, ℕ, List, length, map, IfOk};
 ghost use Rattle.type_layout.specs.declared.home.HomeNo.{HomeNo};
 ghost use Rattle.type_layout.specs.Types.{PlainType};
-ghost use Rattle.psdl_check.specs.Descent as descent;
-ghost use Rattle.psdl_check.specs.Directories.{all_of};
-ghost use Rattle.psdl_check.specs.Lineage.{graph_of};
-ghost use Rattle.psdl_check.specs.Listings.{listed_view};
-ghost use Rattle.psdl_check.specs.Schemas.{factory_of};
+ghost use Rattle.psdl_names.specs.Descent as descent;
+ghost use Rattle.psdl_names.specs.Directories.{all_of};
+ghost use Rattle.psdl_conditions.specs.Lineage.{graph_of};
+ghost use Rattle.psdl_conditions.specs.Owning.{owners};
+ghost use Rattle.psdl_conditions.specs.Listings.{listed_view};
+ghost use Rattle.psdl_conditions.specs.Schemas.{factory_of};
 ghost use Rattle.psdl_check.specs.TypedMembers.{typed_views};
 
-use crate::copied::copied;
-use crate::directory::Directory;
-use crate::heritage::Heritage;
 use crate::home_layouts::{HomeLayout, indexes};
-use crate::home_lists::home_factories;
-use crate::listed::Listed;
+use psdl_conditions::heritage::Heritage;
+use psdl_conditions::home_lists::factories_of_home;
+use psdl_conditions::listed::Listed;
+use psdl_names::directory::Directory;
+use psdl_types::copied::copied;
 use pss_base::NoMemory;
 use std::alloc::Global;
 use type_layout::{Factories, Factory};
@@ -58,10 +59,10 @@ pub(crate) fn factory_list(
 ) -> Result<Factories, NoMemory>
     requires home { home < length (all_of directory.now) }
     requires graph { heritage.old.graph ≡ graph_of (all_of directory.now) }
+    requires own { heritage.old.own ≡ owners (all_of directory.now) }
     ensures same { heritage.new ≡ heritage.old }
     ensures factories { IfOk result (λ list. (types : List PlainType) (homes : ℕ → List HomeNo) → list ≡ map (factory_of (typed_views types homes layout.now.members.items)) (descent.home_factories (all_of directory.now) home)) }
 {
-    let ancestry = heritage.ancestry(alloc, home)?;
-    let listed = home_factories(alloc, directory, &ancestry)?;
+    let listed = factories_of_home(alloc, directory, heritage, home)?;
     factories_of(alloc, layout, listed.as_slice())
 }

@@ -4,29 +4,30 @@ ghost use Rattle.std.specs.Option.{option_to_list};
 ghost use Rattle.type_layout.specs.declared.home.HomeNo.{HomeNo};
 ghost use Rattle.type_layout.specs.Schemas.{given};
 ghost use Rattle.type_layout.specs.Types.{PlainType};
-ghost use Rattle.psdl_check.specs.Directories.{all_of};
-ghost use Rattle.psdl_check.specs.Held.{members_held};
-ghost use Rattle.psdl_check.specs.Layouts.{layout, layout_member};
+ghost use Rattle.psdl_names.specs.Directories.{all_of};
+ghost use Rattle.psdl_conditions.specs.Held.{members_held};
+ghost use Rattle.psdl_types.specs.Layouts.{layout, layout_member};
 ghost use Rattle.psdl_check.specs.LayoutNames.{names_held, typed_names};
-ghost use Rattle.psdl_check.specs.Lineage.{graph_of};
-ghost use Rattle.psdl_check.specs.Measures.{AreWithin};
-ghost use Rattle.psdl_check.specs.Membership.{member_views};
-ghost use Rattle.psdl_check.specs.Placing.{place_called};
-ghost use Rattle.psdl_check.specs.Schemas.{indexes};
-ghost use Rattle.psdl_check.specs.Standings.{all_there, standings};
-ghost use Rattle.psdl_check.specs.Tellings.{tell};
-ghost use Rattle.psdl_check.specs.TypeNodes.{Extends};
-ghost use Rattle.psdl_check.specs.TypeTables.{IsTypeTable};
+ghost use Rattle.psdl_conditions.specs.Lineage.{graph_of};
+ghost use Rattle.psdl_conditions.specs.Owning.{owners};
+ghost use Rattle.psdl_types.specs.Measures.{AreWithin};
+ghost use Rattle.psdl_conditions.specs.Membership.{member_views};
+ghost use Rattle.psdl_conditions.specs.Placing.{place_called};
+ghost use Rattle.psdl_conditions.specs.Schemas.{indexes};
+ghost use Rattle.psdl_names.specs.Standings.{all_there, standings};
+ghost use Rattle.psdl_names.specs.Tellings.{tell};
+ghost use Rattle.psdl_types.specs.TypeNodes.{Extends};
+ghost use Rattle.psdl_types.specs.TypeTables.{IsTypeTable};
 ghost use Rattle.psdl_check.specs.TypedMembers.{typed_views, AreThere, layout_of_home};
 
-use crate::conformity::type_of_home;
-use crate::directory::Directory;
-use crate::heritage::Heritage;
-use crate::member_table::MemberTable;
-use crate::members::{Member, members_of};
-use crate::told::Told;
-use crate::type_table::TypeTable;
 use crate::typed_members::{TypedMember, typed_members};
+use psdl_conditions::conformity::type_of_home;
+use psdl_conditions::heritage::Heritage;
+use psdl_conditions::member_table::MemberTable;
+use psdl_conditions::members::{Member, members};
+use psdl_names::directory::Directory;
+use psdl_names::told::Told;
+use psdl_types::type_table::TypeTable;
 use pss_base::NoMemory;
 use std::alloc::Global;
 use type_layout::Indexes;
@@ -92,14 +93,14 @@ fn layout_of_type<'a>(
     requires told { told.now ≡ map tell (standings (all_of directory.now)) }
     requires types { IsTypeTable (all_of directory.now) types.old }
     requires graph { heritage.old.graph ≡ graph_of (all_of directory.now) }
+    requires own { heritage.old.own ≡ owners (all_of directory.now) }
     ensures same { heritage.new ≡ heritage.old }
     ensures types { IsTypeTable (all_of directory.now) types.new }
     ensures kept { Extends types.old.types types.new.types }
     ensures there { IfOk result (λ l. AreThere (length types.new.types) (length (all_of directory.now)) l.members.items) }
     ensures members { IfOk result (λ l. (homes : ℕ → List HomeNo) → typed_views types.new.types homes l.members.items ≡ given (layout (all_of directory.now) (standings (all_of directory.now)) homes number) [] (λ ms. ms)) }
 {
-    let ancestry = heritage.ancestry(alloc, number)?;
-    let members = members_of(alloc, directory, &ancestry)?;
+    let members = members(alloc, directory, heritage, number)?;
     layout_of_members(alloc, directory, told, types, members)
 }
 
@@ -116,6 +117,7 @@ pub(crate) fn home_layout<'a>(
     requires told { told.now ≡ map tell (standings (all_of directory.now)) }
     requires types { IsTypeTable (all_of directory.now) types.old }
     requires graph { heritage.old.graph ≡ graph_of (all_of directory.now) }
+    requires own { heritage.old.own ≡ owners (all_of directory.now) }
     ensures same { heritage.new ≡ heritage.old }
     ensures types { IsTypeTable (all_of directory.now) types.new }
     ensures kept { Extends types.old.types types.new.types }

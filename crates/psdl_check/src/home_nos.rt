@@ -1,10 +1,10 @@
 // The numbers that homes have in a schema.
 ghost use Rattle.std.specs.Prelude.{◌≡◌, ◌++◌, ◌∷◌, [], IfOk, OnOk};
-ghost use Rattle.psdl_check.specs.Directories.{all_of};
+ghost use Rattle.psdl_names.specs.Directories.{all_of};
 ghost use Rattle.psdl_check.specs.HomeNos as nos;
 
-use crate::directory::Directory;
-use crate::home_numbers::home_numbers;
+use psdl_conditions::home_numbers::home_numbers;
+use psdl_names::directory::Directory;
 use pss_base::NoMemory;
 use std::alloc::Global;
 use type_layout::HomeNo;

@@ -3,34 +3,35 @@ ghost use Rattle.std.specs.Prelude.{◌≡◌, ◌<◌, ◌+◌, length, map, op
 ghost use Rattle.std.specs.List.{flat_map};
 ghost use Rattle.type_layout.specs.Schemas.{given};
 ghost use Rattle.type_layout.specs.ShapeText.{home_lines, key_line, base_number};
-ghost use Rattle.psdl_check.specs.Descent as descent;
-ghost use Rattle.psdl_check.specs.Directories.{all_of};
+ghost use Rattle.psdl_names.specs.Descent as descent;
+ghost use Rattle.psdl_names.specs.Directories.{all_of};
 ghost use Rattle.psdl_check.specs.HomeNos as nos;
-ghost use Rattle.psdl_check.specs.Lineage.{graph_of};
+ghost use Rattle.psdl_conditions.specs.Lineage.{graph_of};
+ghost use Rattle.psdl_conditions.specs.Owning.{owners};
 ghost use Rattle.psdl_check.specs.Making.{AreParts, AreHomeParts, home_by, keyed, lines_after};
 ghost use Rattle.psdl_check.specs.Referring.{lists_in, homes_in};
-ghost use Rattle.psdl_check.specs.Schemas as schemas;
-ghost use Rattle.psdl_check.specs.Standings.{standings};
-ghost use Rattle.psdl_check.specs.Tellings.{tell};
-ghost use Rattle.psdl_check.specs.TextLengths.{cut};
-ghost use Rattle.psdl_check.specs.TypeNodes.{Extends};
-ghost use Rattle.psdl_check.specs.TypeTables.{IsTypeTable};
+ghost use Rattle.psdl_conditions.specs.Schemas as schemas;
+ghost use Rattle.psdl_names.specs.Standings.{standings};
+ghost use Rattle.psdl_names.specs.Tellings.{tell};
+ghost use Rattle.psdl_types.specs.TextLengths.{cut};
+ghost use Rattle.psdl_types.specs.TypeNodes.{Extends};
+ghost use Rattle.psdl_types.specs.TypeTables.{IsTypeTable};
 ghost use Rattle.psdl_check.specs.TypedMembers.{AreThere};
 
-use crate::bases::base_home;
-use crate::directory::Directory;
 use crate::factory_records::factory_list;
-use crate::heritage::Heritage;
 use crate::home_layouts::{HomeLayout, home_layout};
 use crate::key_nos::key_nos;
 use crate::layout_members::{member_list, with_members};
 use crate::line_lengths::{home_line_length, key_line_length};
 use crate::making::Parts;
 use crate::scoped_names::scoped_name;
-use crate::text_length::TextLength;
-use crate::told::Told;
-use crate::type_table::TypeTable;
-use crate::types::Types;
+use psdl_conditions::heritage::Heritage;
+use psdl_names::bases::base_home;
+use psdl_names::directory::Directory;
+use psdl_names::told::Told;
+use psdl_types::text_length::TextLength;
+use psdl_types::type_table::TypeTable;
+use psdl_types::types::Types;
 use pss_base::{Bytes, NoMemory};
 use std::alloc::Global;
 use type_layout::{Home, HomeNo, KeyList, KeyNo, KeyNos, Layout};
@@ -81,6 +82,7 @@ pub(crate) fn home_parts<'a>(
     requires told { told.now ≡ map tell (standings (all_of directory.now)) }
     requires types { IsTypeTable (all_of directory.now) types.old }
     requires graph { heritage.old.graph ≡ graph_of (all_of directory.now) }
+    requires own { heritage.old.own ≡ owners (all_of directory.now) }
     requires parts { AreParts (all_of directory.now) parts.now }
     ensures same { heritage.new ≡ heritage.old }
     ensures types { IsTypeTable (all_of directory.now) types.new }
@@ -163,6 +165,7 @@ pub(crate) fn home_record(
 ) -> Result<Home, NoMemory>
     requires home { home < length (all_of directory.now) }
     requires graph { heritage.old.graph ≡ graph_of (all_of directory.now) }
+    requires own { heritage.old.own ≡ owners (all_of directory.now) }
     requires parts { AreParts (all_of directory.now) parts.now }
     requires made { AreHomeParts (all_of directory.now) types.now home made }
     ensures same { heritage.new ≡ heritage.old }

@@ -1,22 +1,23 @@
 // The keys that homes introduce.
 ghost use Rattle.std.specs.Prelude.{◌≡◌, ◌<◌, ◌++◌, ◌∷◌, [], length, map, IfOk, OnOk};
 ghost use Rattle.type_layout.specs.Schemas.{given};
-ghost use Rattle.psdl_check.specs.Descent as descent;
-ghost use Rattle.psdl_check.specs.Directories.{all_of};
+ghost use Rattle.psdl_names.specs.Descent as descent;
+ghost use Rattle.psdl_names.specs.Directories.{all_of};
 ghost use Rattle.psdl_check.specs.Introductions.{introduced_views, new_keys};
 ghost use Rattle.psdl_check.specs.KeyTables.{introduced_in};
-ghost use Rattle.psdl_check.specs.Lineage.{graph_of};
-ghost use Rattle.psdl_check.specs.Listings.{listed_view};
-ghost use Rattle.psdl_check.specs.Schemas as schemas;
+ghost use Rattle.psdl_conditions.specs.Lineage.{graph_of};
+ghost use Rattle.psdl_conditions.specs.Owning.{owners};
+ghost use Rattle.psdl_conditions.specs.Listings.{listed_view};
+ghost use Rattle.psdl_conditions.specs.Schemas as schemas;
 
-use crate::bases::base_home;
 use crate::chaining::key_chains;
-use crate::directory::Directory;
-use crate::heritage::Heritage;
-use crate::home_lists::home_keys;
 use crate::key_table::{IntroducedKey, KeyTable};
-use crate::listed::Listed;
 use indexmap::IndexSet;
+use psdl_conditions::heritage::Heritage;
+use psdl_conditions::home_lists::keys_of_home;
+use psdl_conditions::listed::Listed;
+use psdl_names::bases::base_home;
+use psdl_names::directory::Directory;
 use pss_base::NoMemory;
 use std::alloc::Global;
 
@@ -50,22 +51,6 @@ fn add_all_new<'a>(
     Ok(())
 }
 
-fn keys_of_home<'a>(
-    alloc: Global,
-    directory: &Directory<'a>,
-    heritage: &mut Heritage,
-    home: usize,
-) -> Result<IndexSet<Listed<'a>>, NoMemory>
-    requires home { home < length (all_of directory.now) }
-    requires graph { heritage.old.graph ≡ graph_of (all_of directory.now) }
-    ensures same { heritage.new ≡ heritage.old }
-    ensures keys { IfOk result (λ s. map listed_view s.keys ≡ descent.home_keys (all_of directory.now) home) }
-{
-    let ancestry = heritage.ancestry(alloc, home)?;
-    let keys = home_keys(alloc, directory, &ancestry)?;
-    Ok(keys)
-}
-
 // The keys that a home has from its base.
 fn keys_of_base<'a>(
     alloc: Global,
@@ -75,6 +60,7 @@ fn keys_of_base<'a>(
 ) -> Result<IndexSet<Listed<'a>>, NoMemory>
     requires home { home < length (all_of directory.now) }
     requires graph { heritage.old.graph ≡ graph_of (all_of directory.now) }
+    requires own { heritage.old.own ≡ owners (all_of directory.now) }
     ensures same { heritage.new ≡ heritage.old }
     ensures keys { IfOk result (λ s. map listed_view s.keys ≡ given (descent.base_home (all_of directory.now) home) [] (descent.home_keys (all_of directory.now))) }
 {
@@ -98,6 +84,7 @@ fn add_introduced<'a>(
 ) -> Result<(), NoMemory>
     requires home { home < length (all_of directory.now) }
     requires graph { heritage.old.graph ≡ graph_of (all_of directory.now) }
+    requires own { heritage.old.own ≡ owners (all_of directory.now) }
     ensures same { heritage.new ≡ heritage.old }
     ensures keys { OnOk result (introduced_views found.new.items ≡ introduced_views found.old.items ++ schemas.introduced (all_of directory.now) home) }
 {
@@ -115,6 +102,7 @@ fn introduced_keys<'a>(
 ) -> Result<Vec<IntroducedKey<'a>>, NoMemory>
     requires homes { homes.now ≡ descent.concrete_homes (all_of directory.now) }
     requires graph { heritage.old.graph ≡ graph_of (all_of directory.now) }
+    requires own { heritage.old.own ≡ owners (all_of directory.now) }
     ensures same { heritage.new ≡ heritage.old }
     ensures keys { IfOk result (λ v. introduced_views v.items ≡ schemas.all_introduced (all_of directory.now)) }
 {
@@ -134,6 +122,7 @@ pub(crate) fn key_table<'a>(
 ) -> Result<KeyTable<'a>, NoMemory>
     requires homes { homes.now ≡ descent.concrete_homes (all_of directory.now) }
     requires graph { heritage.old.graph ≡ graph_of (all_of directory.now) }
+    requires own { heritage.old.own ≡ owners (all_of directory.now) }
     ensures same { heritage.new ≡ heritage.old }
     ensures keys { IfOk result (λ t. introduced_in t ≡ schemas.all_introduced (all_of directory.now)) }
 {

@@ -1,11 +1,11 @@
 // The numbers of keys by name and list.
 ghost use Rattle.std.specs.Prelude.{◌≡◌, Some, None, IfOk, OnOk, if◌then◌else◌};
-ghost use Rattle.psdl_check.specs.Descent.{Listed as ListedView, same_listed};
+ghost use Rattle.psdl_names.specs.Descent.{Listed as ListedView, same_listed};
 ghost use Rattle.psdl_check.specs.KeyChains.{first_of};
-ghost use Rattle.psdl_check.specs.Listings.{listed_view};
+ghost use Rattle.psdl_conditions.specs.Listings.{listed_view};
 
-use crate::listed::Listed;
 use indexmap::IndexMap;
+use psdl_conditions::listed::Listed;
 use pss_base::NoMemory;
 use std::alloc::Global;
 

@@ -3,21 +3,22 @@ ghost use Rattle.std.specs.Prelude.{◌≡◌, ◌<◌, ◌++◌, ◌&&◌, ℕ,
 ghost use Rattle.std.specs.List.{position_from, flat_map};
 ghost use Rattle.std.specs.Option.{option_to_list};
 ghost use Rattle.indexmap.specs.IndexSet.{contains};
-ghost use Rattle.psdl_check.specs.Descent.{has, same_listed};
-ghost use Rattle.psdl_check.specs.Directories.{all_of};
+ghost use Rattle.psdl_names.specs.Descent.{has, same_listed};
+ghost use Rattle.psdl_names.specs.Directories.{all_of};
 ghost use Rattle.psdl_check.specs.KeyTables.{introduced_in};
-ghost use Rattle.psdl_check.specs.Lineage.{graph_of};
-ghost use Rattle.psdl_check.specs.Listings.{listed_view};
+ghost use Rattle.psdl_conditions.specs.Lineage.{graph_of};
+ghost use Rattle.psdl_conditions.specs.Owning.{owners};
+ghost use Rattle.psdl_conditions.specs.Listings.{listed_view};
 ghost use Rattle.psdl_check.specs.KeyNumbers.{key_no_of};
-ghost use Rattle.psdl_check.specs.Schemas as schemas;
+ghost use Rattle.psdl_conditions.specs.Schemas as schemas;
 
-use crate::directory::Directory;
-use crate::heritage::Heritage;
-use crate::home_lists::home_keys;
 use crate::key_chains::first_of;
 use crate::key_table::KeyTable;
-use crate::listed::Listed;
 use indexmap::IndexSet;
+use psdl_conditions::heritage::Heritage;
+use psdl_conditions::home_lists::keys_of_home;
+use psdl_conditions::listed::Listed;
+use psdl_names::directory::Directory;
 use pss_base::NoMemory;
 use std::alloc::Global;
 use type_layout::{KeyNo, KeyNos};
@@ -89,11 +90,15 @@ pub(crate) fn key_nos(
     requires home { home < length (all_of directory.now) }
     requires keys { introduced_in keys.now ≡ schemas.all_introduced (all_of directory.now) }
     requires graph { heritage.old.graph ≡ graph_of (all_of directory.now) }
+    requires own { heritage.old.own ≡ owners (all_of directory.now) }
     ensures same { heritage.new ≡ heritage.old }
     ensures numbers { IfOk result (λ v. v ≡ schemas.key_numbers (all_of directory.now) home) }
 {
+    let own = keys_of_home(alloc, directory, heritage, home)?;
+    if own.is_empty() {
+        return Ok(KeyNos::new(alloc));
+    }
     let ancestry = heritage.ancestry(alloc, home)?;
-    let own = home_keys(alloc, directory, &ancestry)?;
     let line = line_of(alloc, &ancestry)?;
     let numbers = numbers_of(alloc, keys, &line, own.as_slice())?;
     Ok(numbers)

@@ -2,25 +2,26 @@
 ghost use Rattle.std.specs.Prelude.{◌≡◌, ◌<◌, List, ℕ, length, map, IfOk, IfSome};
 ghost use Rattle.type_layout.specs.Types.{PlainType};
 ghost use Rattle.type_layout.specs.declared.home.HomeNo.{HomeNo as HomeNumber};
-ghost use Rattle.psdl_check.specs.Directories.{all_of};
+ghost use Rattle.psdl_names.specs.Directories.{all_of};
 ghost use Rattle.psdl_check.specs.HomeNos as nos;
 ghost use Rattle.psdl_check.specs.KeyRecords.{IsLaidOut, key_with};
 ghost use Rattle.psdl_check.specs.KeyTables.{introduced_in, introduced_view};
-ghost use Rattle.psdl_check.specs.Lineage.{graph_of};
-ghost use Rattle.psdl_check.specs.Schemas as schemas;
-ghost use Rattle.psdl_check.specs.Standings.{standings};
-ghost use Rattle.psdl_check.specs.Tellings.{tell};
-ghost use Rattle.psdl_check.specs.TypeNodes.{Extends};
-ghost use Rattle.psdl_check.specs.TypeTables.{IsTypeTable};
+ghost use Rattle.psdl_conditions.specs.Lineage.{graph_of};
+ghost use Rattle.psdl_conditions.specs.Owning.{owners};
+ghost use Rattle.psdl_conditions.specs.Schemas as schemas;
+ghost use Rattle.psdl_names.specs.Standings.{standings};
+ghost use Rattle.psdl_names.specs.Tellings.{tell};
+ghost use Rattle.psdl_types.specs.TypeNodes.{Extends};
+ghost use Rattle.psdl_types.specs.TypeTables.{IsTypeTable};
 ghost use Rattle.psdl_check.specs.TypedMembers.{typed_views};
 
-use crate::directory::Directory;
-use crate::heritage::Heritage;
 use crate::home_layouts::{HomeLayout, home_layout, indexes};
 use crate::key_table::{IntroducedKey, KeyTable};
 use crate::laid_homes::LaidHome;
-use crate::told::Told;
-use crate::type_table::TypeTable;
+use psdl_conditions::heritage::Heritage;
+use psdl_names::directory::Directory;
+use psdl_names::told::Told;
+use psdl_types::type_table::TypeTable;
 use pss_base::{Bytes, NoMemory};
 use std::alloc::Global;
 use type_layout::{HomeNo, Key, KeyList};
@@ -39,6 +40,7 @@ fn laid_home<'a>(
     requires told { told.now ≡ map tell (standings (all_of directory.now)) }
     requires types { IsTypeTable (all_of directory.now) types.old }
     requires graph { heritage.old.graph ≡ graph_of (all_of directory.now) }
+    requires own { heritage.old.own ≡ owners (all_of directory.now) }
     requires last { IfSome last (IsLaidOut (all_of directory.now) types.old.types) }
     ensures same { heritage.new ≡ heritage.old }
     ensures types { IsTypeTable (all_of directory.now) types.new }
@@ -86,6 +88,7 @@ pub(crate) fn key_list<'a>(
     requires told { told.now ≡ map tell (standings (all_of directory.now)) }
     requires types { IsTypeTable (all_of directory.now) types.old }
     requires graph { heritage.old.graph ≡ graph_of (all_of directory.now) }
+    requires own { heritage.old.own ≡ owners (all_of directory.now) }
     requires numbers { numbers.now ≡ nos.home_nos (all_of directory.now) }
     requires keys { introduced_in keys.now ≡ schemas.all_introduced (all_of directory.now) }
     ensures same { heritage.new ≡ heritage.old }

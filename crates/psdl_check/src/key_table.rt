@@ -4,7 +4,7 @@ ghost use Rattle.psdl_check.specs.KeyChains.{IsChained};
 
 pub(crate) use crate::introduced_keys::key_table;
 use crate::key_chains::KeyChains;
-use crate::listed::Listed;
+use psdl_conditions::listed::Listed;
 
 /// A key, and the home that introduces it.
 #[derive(Drop)]

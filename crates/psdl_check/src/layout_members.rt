@@ -3,16 +3,16 @@ ghost use Rattle.std.specs.Prelude.{◌≡◌, ◌<◌, ◌+◌, ◌++◌, ◌�
 ghost use Rattle.std.specs.List.{flat_map};
 ghost use Rattle.type_layout.specs.ShapeText.{member_line};
 ghost use Rattle.type_layout.specs.Views.{plain_type};
-ghost use Rattle.psdl_check.specs.LineLengths.{line_length};
+ghost use Rattle.psdl_types.specs.LineLengths.{line_length};
 ghost use Rattle.psdl_check.specs.MemberLines.{members_behind};
 ghost use Rattle.psdl_check.specs.Referring.{lists_in, homes_in};
-ghost use Rattle.psdl_check.specs.TextLengths.{cut, text_length};
+ghost use Rattle.psdl_types.specs.TextLengths.{cut, text_length};
 ghost use Rattle.psdl_check.specs.TypedMembers.{type_by, typed_view, typed_views, is_there, AreThere};
 
 use crate::line_lengths::{member_line_length, reference_length};
-use crate::text_length::TextLength;
 use crate::typed_members::{MemberType, TypedMember};
-use crate::types::Types;
+use psdl_types::text_length::TextLength;
+use psdl_types::types::Types;
 use pss_base::NoMemory;
 use std::alloc::Global;
 use type_layout::{HomeNo, HomeNos, Member, Members, Ty};

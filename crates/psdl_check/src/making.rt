@@ -2,31 +2,33 @@
 ghost use Rattle.std.specs.Prelude.{◌≡◌, ◌<◌, ◌+◌, ◌^◌, ◌++◌, ◌∷◌, [], false, length, map, nat_lt, IfOk, IfNone, OnOk};
 ghost use Rattle.std.specs.Option.{option_and_then};
 ghost use Rattle.type_layout.specs.Schemas.{nth};
-ghost use Rattle.psdl_check.specs.Descent as descent;
-ghost use Rattle.psdl_check.specs.Directories.{all_of};
-ghost use Rattle.psdl_check.specs.Faults.{most_shape, passing};
-ghost use Rattle.psdl_check.specs.Lineage.{graph_of};
+ghost use Rattle.psdl_names.specs.Descent as descent;
+ghost use Rattle.psdl_names.specs.Directories.{all_of};
+ghost use Rattle.psdl_conditions.specs.Faults.{passing};
+ghost use Rattle.psdl_types.specs.Limits.{most_shape};
+ghost use Rattle.psdl_conditions.specs.Lineage.{graph_of};
+ghost use Rattle.psdl_conditions.specs.Owning.{owners};
 ghost use Rattle.psdl_check.specs.Making.{AreParts, IsMade, lines_at};
-ghost use Rattle.psdl_check.specs.Prepared.{AreTables};
-ghost use Rattle.psdl_check.specs.Schemas.{home_of, schema};
-ghost use Rattle.psdl_check.specs.Standings.{standings};
-ghost use Rattle.psdl_check.specs.Tellings.{tell};
-ghost use Rattle.psdl_check.specs.TextLengths.{cut};
-ghost use Rattle.psdl_check.specs.Turns.{AreInTurn};
-ghost use Rattle.psdl_check.specs.TypeTables.{IsTypeTable};
+ghost use Rattle.psdl_conditions.specs.Prepared.{AreTables};
+ghost use Rattle.psdl_conditions.specs.Schemas.{home_of, schema};
+ghost use Rattle.psdl_names.specs.Standings.{standings};
+ghost use Rattle.psdl_names.specs.Tellings.{tell};
+ghost use Rattle.psdl_types.specs.TextLengths.{cut};
+ghost use Rattle.psdl_types.specs.Turns.{AreInTurn};
+ghost use Rattle.psdl_types.specs.TypeTables.{IsTypeTable};
 
-use crate::directory::Directory;
-use crate::heritage::Heritage;
 use crate::home_nos::home_nos;
 use crate::home_parts::{home_parts, home_record, with_home};
 use crate::key_records::key_list;
 use crate::key_table::{KeyTable, key_table};
 use crate::provided_homes::provided_homes;
 use crate::referents::referents;
-use crate::tables::{Tables, heritage_of};
-use crate::text_length::TextLength;
-use crate::told::Told;
-use crate::type_table::{TypeTable, type_table};
+use psdl_conditions::heritage::Heritage;
+use psdl_conditions::tables::Tables;
+use psdl_names::directory::Directory;
+use psdl_names::told::Told;
+use psdl_types::text_length::TextLength;
+use psdl_types::type_table::{TypeTable, type_table};
 use pss_base::NoMemory;
 use std::alloc::Global;
 use type_layout::{HomeList, HomeNo, KeyList, Schema};
@@ -57,6 +59,7 @@ fn parts_of<'a>(
     requires tables { AreTables (all_of directory.now) tables.now }
     requires types { IsTypeTable (all_of directory.now) types.old }
     requires graph { heritage.old.graph ≡ graph_of (all_of directory.now) }
+    requires own { heritage.old.own ≡ owners (all_of directory.now) }
     ensures same { heritage.new ≡ heritage.old }
     ensures types { IsTypeTable (all_of directory.now) types.new }
     ensures parts { IfOk result (λ p. AreParts (all_of directory.now) p) }
@@ -108,6 +111,7 @@ fn add_home<'a>(
     requires told { told.now ≡ map tell (standings (all_of directory.now)) }
     requires types { IsTypeTable (all_of directory.now) types.old }
     requires graph { heritage.old.graph ≡ graph_of (all_of directory.now) }
+    requires own { heritage.old.own ≡ owners (all_of directory.now) }
     requires parts { AreParts (all_of directory.now) parts.now }
     ensures same { heritage.new ≡ heritage.old }
     ensures types { IsTypeTable (all_of directory.now) types.new }
@@ -137,6 +141,7 @@ fn add_homes<'a>(
     requires tables { AreTables (all_of directory.now) tables.now }
     requires types { IsTypeTable (all_of directory.now) types.old }
     requires graph { heritage.old.graph ≡ graph_of (all_of directory.now) }
+    requires own { heritage.old.own ≡ owners (all_of directory.now) }
     requires parts { AreParts (all_of directory.now) parts.now }
     requires list { list.old ≡ [] }
     ensures passing { IfOk result (λ r. r ≡ option_and_then (nth (descent.concrete_homes (all_of directory.now))) (passing (schema (all_of directory.now)))) }
@@ -170,23 +175,19 @@ pub(crate) fn make_schema(
     alloc: Global,
     directory: &Directory<'_>,
     tables: &Tables,
+    heritage: &mut Heritage,
 ) -> Result<Made, NoMemory>
     requires turn { AreInTurn (all_of directory.now) }
     requires tables { AreTables (all_of directory.now) tables.now }
+    requires graph { heritage.old.graph ≡ graph_of (all_of directory.now) }
+    requires own { heritage.old.own ≡ owners (all_of directory.now) }
     ensures { IfOk result (λ made. IsMade (all_of directory.now) made) }
 {
-    let mut heritage = heritage_of(alloc, directory)?;
     let mut types = type_table(alloc, directory, &tables.told)?;
-    let parts = parts_of(alloc, directory, tables, &mut types, &mut heritage)?;
+    let parts = parts_of(alloc, directory, tables, &mut types, heritage)?;
     let mut homes = HomeList::new(alloc);
     let passes = add_homes(
-        alloc,
-        directory,
-        tables,
-        &mut types,
-        &mut heritage,
-        &parts,
-        &mut homes,
+        alloc, directory, tables, &mut types, heritage, &parts, &mut homes,
     )?;
     match passes {
         Some(home) => Ok(Made::TooLong(home)),

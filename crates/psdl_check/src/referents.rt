@@ -1,15 +1,15 @@
 // The homes that references may have.
 ghost use Rattle.std.specs.Prelude.{◌≡◌, ◌<◌, ◌+◌, ◌==◌, [], ℕ, true, length, IfOk, OnOk};
 ghost use Rattle.psdl_check.specs.Conforming.{has_type, IsPutLast};
-ghost use Rattle.psdl_check.specs.Descent as descent;
-ghost use Rattle.psdl_check.specs.Descent.{has, without_repeats};
-ghost use Rattle.psdl_check.specs.Directories.{all_of};
-ghost use Rattle.psdl_check.specs.Lineage.{graph_of};
+ghost use Rattle.psdl_names.specs.Descent as descent;
+ghost use Rattle.psdl_names.specs.Descent.{has, without_repeats};
+ghost use Rattle.psdl_names.specs.Directories.{all_of};
+ghost use Rattle.psdl_conditions.specs.Lineage.{graph_of};
 ghost use Rattle.psdl_check.specs.Referring.{homes_in, lists_in, AreReferents};
 
-use crate::conformity::type_of_home;
-use crate::directory::Directory;
-use crate::heritage::Heritage;
+use psdl_conditions::conformity::type_of_home;
+use psdl_conditions::heritage::Heritage;
+use psdl_names::directory::Directory;
 use pss_base::NoMemory;
 use std::alloc::Global;
 use type_layout::HomeNo;

@@ -1,10 +1,10 @@
 // The names of homes and catalogs with those of the modules round them.
 ghost use Rattle.std.specs.Prelude.{◌≡◌, ◌<◌, [], length, map, IfOk};
-ghost use Rattle.psdl_check.specs.Directories.{all_of};
-ghost use Rattle.psdl_check.specs.Lookup.{at};
-ghost use Rattle.psdl_check.specs.Schemas as schemas;
+ghost use Rattle.psdl_names.specs.Directories.{all_of};
+ghost use Rattle.psdl_names.specs.Lookup.{at};
+ghost use Rattle.psdl_conditions.specs.Schemas as schemas;
 
-use crate::directory::Directory;
+use psdl_names::directory::Directory;
 use pss_base::{Bytes, NoMemory};
 use std::alloc::Global;
 

@@ -8,15 +8,15 @@ use Rattle.psdl_tree.specs.Trees.{Name}
 use Rattle.type_layout.specs.declared.home.HomeNo.{HomeNo}
 use Rattle.type_layout.specs.declared.schema.Home.{Home}
 use Rattle.type_layout.specs.Schemas.{given, base_of, descends_within, descends}
-use Rattle.psdl_check.specs.Declarations.{What, IsModule, IsConstant, IsAlias, IsStruct, IsEnumeration, IsEnumerator, IsAbstractType, IsConcreteType, IsAbstractHome, IsConcreteHome, IsCatalog, Declaration}
-use Rattle.psdl_check.specs.Descent.{ancestry, base_home, concrete_homes, Listed, same_listed, listed_key, home_keys}
-use Rattle.psdl_check.specs.Faults.{first_fault}
-use Rattle.psdl_check.specs.Limits.{home_number}
-use Rattle.psdl_check.specs.Lookup.{at, defined}
-use Rattle.psdl_check.specs.Parts.{is_storage_type, is_home, is_abstract_home, is_concrete_home, bases, implemented, parents, keys}
-use Rattle.psdl_check.specs.Schemas.{home_no, schema}
+use Rattle.psdl_names.specs.Declarations.{What, IsModule, IsConstant, IsAlias, IsStruct, IsEnumeration, IsEnumerator, IsAbstractType, IsConcreteType, IsAbstractHome, IsConcreteHome, IsCatalog, Declaration}
+use Rattle.psdl_names.specs.Descent.{ancestry, base_home, concrete_homes, Listed, same_listed, listed_key, home_keys}
+use Rattle.psdl_conditions.specs.Faults.{first_fault}
+use Rattle.psdl_types.specs.Limits.{home_number}
+use Rattle.psdl_names.specs.Lookup.{at, defined}
+use Rattle.psdl_names.specs.Parts.{is_storage_type, is_home, is_abstract_home, is_concrete_home, bases, implemented, parents, keys}
+use Rattle.psdl_conditions.specs.Schemas.{home_no, schema}
 use Rattle.psdl_check.proofs.Chained.{listed_is}
-use Rattle.psdl_check.proofs.Kept.{has_range}
+use Rattle.psdl_conditions.proofs.Kept.{has_range}
 use Rattle.psdl_sound.proofs.Among.{Among, at_among, among_front, among_parts, among_flat, among_from, among_passing, among_fresh, among_once}
 use Rattle.psdl_sound.proofs.Ancestors.{parents_of, parent_told, parent_from, parent_passes, parent_in_front, from_parent, from_whom, abstract_homes, same_some}
 use Rattle.psdl_sound.proofs.Catalogs.{housed, home_at_number}

@@ -9,18 +9,18 @@ use Rattle.psdl_tree.specs.declared.names.NamePart.{NamePart}
 use Rattle.psdl_tree.specs.Trees.{Name}
 use Rattle.type_layout.specs.Schemas.{given}
 use Rattle.type_layout.specs.Sound.{IsLower}
-use Rattle.psdl_check.specs.declared.fault.CheckKind.TheVariants.{Incomplete, Cycle}
-use Rattle.psdl_check.specs.Declarations.{Path, Declaration}
-use Rattle.psdl_check.specs.Descent.{base_home}
-use Rattle.psdl_check.specs.Fault.{fault_if}
-use Rattle.psdl_check.specs.Faults.{first_fault}
-use Rattle.psdl_check.specs.Forward.{above, is_defined_by, of_forward, never_defined, is_itself, of_itself, in_struct}
-use Rattle.psdl_check.specs.Limits.{home_number}
-use Rattle.psdl_check.specs.Lookup.{as_is, at, nothing, below, first, first_of, first_inside, outwards, inwards, beginning, meaning, named, origin, place_of, is_named}
-use Rattle.psdl_check.specs.Parts.{is_module, is_concrete_home, bases, implemented}
-use Rattle.psdl_check.specs.Schemas.{home_no}
+use Rattle.psdl_names.specs.declared.fault.CheckKind.TheVariants.{Incomplete, Cycle}
+use Rattle.psdl_names.specs.Declarations.{Path, Declaration}
+use Rattle.psdl_names.specs.Descent.{base_home}
+use Rattle.psdl_names.specs.Fault.{fault_if}
+use Rattle.psdl_conditions.specs.Faults.{first_fault}
+use Rattle.psdl_names.specs.Forward.{above, is_defined_by, of_forward, never_defined, is_itself, of_itself, in_struct}
+use Rattle.psdl_types.specs.Limits.{home_number}
+use Rattle.psdl_names.specs.Lookup.{as_is, at, nothing, below, first, first_of, first_inside, outwards, inwards, beginning, meaning, named, origin, place_of, is_named}
+use Rattle.psdl_names.specs.Parts.{is_module, is_concrete_home, bases, implemented}
+use Rattle.psdl_conditions.specs.Schemas.{home_no}
 use Rattle.psdl_sound.proofs.Faultless.{HasNone, both_empty, does_not_hold, none_at, none_given, no_fault_at}
-use Rattle.psdl_check.proofs.Foremost.{first_passes}
+use Rattle.psdl_names.proofs.Foremost.{first_passes}
 use Rattle.psdl_sound.proofs.Housing.{IsHome}
 use Rattle.psdl_sound.proofs.Meanings.{position_within, named_parts, IsDefinition, definition_is, IsOneOf, base_is}
 use Rattle.psdl_sound.proofs.Rising.{number_is, lower_number}

@@ -9,10 +9,10 @@ use Rattle.psdl_tokens.specs.declared.token.Keyword.TheVariants as keywords
 use Rattle.psdl_tree.specs.Trees.{Expression, PlainType, IntegerPlain, CharPlain, BooleanPlain, OctetPlain, StringPlain, NamePlain, TypeSpec, PlainSpec, Sequence, StateType, PlainState, Reference, Declarator, Field, State, Parameter, Parameters, OperationResult, Void, StateResult, Operation, AbstractTypeMember, StateMember, OperationMember, AbstractHomeMember, KeyMember, FactoryMember, HomeOperation}
 use Rattle.psdl_syntax.specs.Seen.{Seen}
 use Rattle.psdl_syntax.specs.Grammar as grammar
-use Rattle.psdl_check.specs.Declarations.{all_declarators}
-use Rattle.psdl_check.specs.Expressions.{operands}
-use Rattle.psdl_check.specs.Parts.{state_of, type_operation, home_operation, all_parameters}
-use Rattle.psdl_check.specs.Uses.{Bound, bounds_of, most_items, plain_bounds, spec_bounds, state_bounds, declarator_bounds, field_bounds, result_bounds, operation_bounds}
+use Rattle.psdl_names.specs.Declarations.{all_declarators}
+use Rattle.psdl_names.specs.Expressions.{operands}
+use Rattle.psdl_names.specs.Parts.{state_of, type_operation, home_operation, all_parameters}
+use Rattle.psdl_names.specs.Uses.{Bound, bounds_of, most_items, plain_bounds, spec_bounds, state_bounds, declarator_bounds, field_bounds, result_bounds, operation_bounds}
 use Rattle.psdl_sound.specs.SmallLiterals.{is_small}
 use Rattle.psdl_sound.proofs.Worded.{AreFit}
 use Rattle.psdl_sound.proofs.Naming.{split, begun}

@@ -12,15 +12,15 @@ use Rattle.psdl_tree.specs.Trees.{Name, Expression, PlainType as PlainTree, Inte
 use Rattle.type_layout.specs.Schemas.{given}
 use Rattle.type_layout.specs.Sound.{HasField}
 use Rattle.type_layout.specs.Types.{PlainType, Str, Seq, Arr, Struct, PlainField, fields_of}
-use Rattle.psdl_check.specs.declared.fault.CheckKind.TheVariants.{ConstRange, ConstZero}
-use Rattle.psdl_check.specs.Declarations.{Path, Declaration, all_declarators}
-use Rattle.psdl_check.specs.Expressions.{expression_place}
-use Rattle.psdl_check.specs.Fault.{fault, fault_if}
-use Rattle.psdl_check.specs.Parts.{all_fields}
-use Rattle.psdl_check.specs.Ranges.{is_out, of_expression, from_one, of_bound}
-use Rattle.psdl_check.specs.Standings.{Standing, type_of, natural, sight, all_there, assessed_by, size_by, integer_type, type_by_sign, plain_by, spec_by, arrays_by, field_by, fields_by, struct_by}
-use Rattle.psdl_check.specs.Uses.{bounds_of, most_elements, spec_bounds, declarator_bounds, field_bounds}
-use Rattle.psdl_check.specs.Values.{Assessed, is_within}
+use Rattle.psdl_names.specs.declared.fault.CheckKind.TheVariants.{ConstRange, ConstZero}
+use Rattle.psdl_names.specs.Declarations.{Path, Declaration, all_declarators}
+use Rattle.psdl_names.specs.Expressions.{expression_place}
+use Rattle.psdl_names.specs.Fault.{fault, fault_if}
+use Rattle.psdl_names.specs.Parts.{all_fields}
+use Rattle.psdl_types.specs.Ranges.{is_out, of_expression, from_one, of_bound}
+use Rattle.psdl_names.specs.Standings.{Standing, type_of, natural, sight, all_there, assessed_by, size_by, integer_type, type_by_sign, plain_by, spec_by, arrays_by, field_by, fields_by, struct_by}
+use Rattle.psdl_names.specs.Uses.{bounds_of, most_elements, spec_bounds, declarator_bounds, field_bounds}
+use Rattle.psdl_names.specs.Values.{Assessed, is_within}
 use Rattle.psdl_sound.proofs.Faultless.{both_empty, does_not_hold}
 use Rattle.psdl_sound.proofs.Fine.{IsFine, AreFine, sequence_fine, array_fine, no_fields_fine, field_fine, struct_fine}
 use Rattle.psdl_sound.proofs.Layered.{each_there}

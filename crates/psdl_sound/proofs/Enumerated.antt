@@ -8,10 +8,10 @@ use Rattle.std.proofs.lemmas.Option.{slice_get-map, slice_get_within, get_or_fro
 use Rattle.psdl_tree.specs.declared.names.Identifier.{Identifier}
 use Rattle.psdl_tree.specs.Trees.{Identifiers, TypeSpec, Declarator, Definition, ModuleDefinition, ConstantDefinition, TypeDefinitionDefinition, StructDefinition, EnumerationDefinition, AbstractTypeDefinition, StorageTypeDefinition, AbstractHomeDefinition, StorageHomeDefinition, CatalogDefinition, Definitions, NoDefinition, AndDefinition}
 use Rattle.type_layout.specs.Sound.{are_distinct}
-use Rattle.psdl_check.specs.Declarations.{Path, What, IsEnumeration, IsEnumerator, Declaration, declared, all_identifiers, all_declarators, aliases, declared_by, declarations, all_declarations}
-use Rattle.psdl_check.specs.Faults.{first_fault}
-use Rattle.psdl_check.specs.Lookup.{at, nothing}
-use Rattle.psdl_check.specs.Parts.{is_module, is_forward}
+use Rattle.psdl_names.specs.Declarations.{Path, What, IsEnumeration, IsEnumerator, Declaration, declared, all_identifiers, all_declarators, aliases, declared_by, declarations, all_declarations}
+use Rattle.psdl_conditions.specs.Faults.{first_fault}
+use Rattle.psdl_names.specs.Lookup.{at, nothing}
+use Rattle.psdl_names.specs.Parts.{is_module, is_forward}
 use Rattle.psdl_sound.proofs.Sole.{declared_once, names_distinct}
 
 -- ---- enumerators in their places

@@ -2,22 +2,22 @@
 use Rattle.std.proofs.Common.{◌≡◌, ℕ, zero, suc, ◌+◌, ◌<◌, List, [], ◌∷◌, ◌++◌, length, Bool, true, false, Option, Some, None, refl, sym, ap, ◌∙◌, arith}
 use Rattle.std.specs.List.{flat_map, slice_get}
 use Rattle.type_layout.specs.Schemas.{given}
-use Rattle.psdl_check.specs.declared.fault.CheckFault.{CheckFault}
-use Rattle.psdl_check.specs.declared.fault.CheckKind.{CheckKind}
+use Rattle.psdl_names.specs.declared.fault.CheckFault.{CheckFault}
+use Rattle.psdl_names.specs.declared.fault.CheckKind.{CheckKind}
 use Rattle.pss_base.specs.declared.place.Place.{Place}
-use Rattle.psdl_check.specs.Declarations.{Declaration}
-use Rattle.psdl_check.specs.Families.{not_implemented, home_type, family_type, not_provided}
-use Rattle.psdl_check.specs.Fault.{fault_if, each_from}
-use Rattle.psdl_check.specs.Faults.{faults_at, faults, long_shape, or_else, all_faults, first_fault}
-use Rattle.psdl_check.specs.Forward.{incomplete, cycle}
-use Rattle.psdl_check.specs.Limits.{long_type, deep_type, many_homes}
-use Rattle.psdl_check.specs.Lookup.{at}
-use Rattle.psdl_check.specs.Members.{member_clash, key_members, key_types, factory_members}
-use Rattle.psdl_check.specs.Naming.{of_names, of_strings}
-use Rattle.psdl_check.specs.Ranges.{of_values}
-use Rattle.psdl_check.specs.Scoping.{redefined, redefined_inside}
-use Rattle.psdl_check.specs.Standings.{standings}
-use Rattle.psdl_check.proofs.Least.{nothing_least}
+use Rattle.psdl_names.specs.Declarations.{Declaration}
+use Rattle.psdl_conditions.specs.Families.{not_implemented, home_type, family_type, not_provided}
+use Rattle.psdl_names.specs.Fault.{fault_if, each_from}
+use Rattle.psdl_conditions.specs.Faults.{faults_at, faults, long_shape, or_else, all_faults, first_fault}
+use Rattle.psdl_names.specs.Forward.{incomplete, cycle}
+use Rattle.psdl_types.specs.Limits.{long_type, deep_type, many_homes}
+use Rattle.psdl_names.specs.Lookup.{at}
+use Rattle.psdl_conditions.specs.Members.{member_clash, key_members, key_types, factory_members}
+use Rattle.psdl_names.specs.Naming.{of_names, of_strings}
+use Rattle.psdl_types.specs.Ranges.{of_values}
+use Rattle.psdl_names.specs.Scoping.{redefined, redefined_inside}
+use Rattle.psdl_names.specs.Standings.{standings}
+use Rattle.psdl_names.proofs.Least.{nothing_least}
 
 -- ---- lists that are empty
 

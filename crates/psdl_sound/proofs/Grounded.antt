@@ -3,20 +3,20 @@ use Rattle.std.proofs.Common.{◌≡◌, ℕ, zero, suc, ◌+◌, ◌<◌, ◌�
 use mathlib.Core.Path.{fun_ext}
 use Rattle.std.specs.List.{list_all}
 use Rattle.std.specs.Option.{option_and_then}
-use Rattle.psdl_check.specs.Values.{is_within}
+use Rattle.psdl_names.specs.Values.{is_within}
 use Rattle.psdl_tree.specs.Trees.{Name, Expression, TypeSpec, Definitions, Definition, ModuleDefinition, ConstantDefinition, TypeDefinitionDefinition, StructDefinition, EnumerationDefinition, AbstractTypeDefinition, StorageTypeDefinition, AbstractHomeDefinition, StorageHomeDefinition, CatalogDefinition, NoDefinition, AndDefinition}
 use Rattle.type_layout.specs.Schemas.{given}
 use Rattle.type_layout.specs.Types.{PlainType}
-use Rattle.psdl_check.specs.Declarations.{Path, What, IsModule, IsConstant, IsAlias, IsStruct, IsEnumeration, IsEnumerator, IsAbstractType, IsConcreteType, IsAbstractHome, IsConcreteHome, IsCatalog, Declaration, declared_by, declarations, all_declarations}
-use Rattle.psdl_check.specs.Expressions.{operands}
-use Rattle.psdl_check.specs.Lookup.{as_is, at, meaning}
-use Rattle.psdl_check.specs.Naming.{of_use, of_texts}
-use Rattle.psdl_check.specs.Parts.{is_type}
-use Rattle.psdl_check.specs.Ranges.{from_one, of_bound}
-use Rattle.psdl_check.specs.Standings.{Nothing, natural, type_of, number_of, standing, standings, sight, size_by, as_type}
-use Rattle.psdl_check.specs.Turns.{before_of, spec_of, Follows, AreInTurn}
-use Rattle.psdl_check.specs.Uses.{Use, is_number, Bound, in_expression}
-use Rattle.psdl_check.proofs.Turning.{meaning_less}
+use Rattle.psdl_names.specs.Declarations.{Path, What, IsModule, IsConstant, IsAlias, IsStruct, IsEnumeration, IsEnumerator, IsAbstractType, IsConcreteType, IsAbstractHome, IsConcreteHome, IsCatalog, Declaration, declared_by, declarations, all_declarations}
+use Rattle.psdl_names.specs.Expressions.{operands}
+use Rattle.psdl_names.specs.Lookup.{as_is, at, meaning}
+use Rattle.psdl_names.specs.Naming.{of_use, of_texts}
+use Rattle.psdl_names.specs.Parts.{is_type}
+use Rattle.psdl_types.specs.Ranges.{from_one, of_bound}
+use Rattle.psdl_names.specs.Standings.{Nothing, natural, type_of, number_of, standing, standings, sight, size_by, as_type}
+use Rattle.psdl_types.specs.Turns.{before_of, spec_of, Follows, AreInTurn}
+use Rattle.psdl_names.specs.Uses.{Use, is_number, Bound, in_expression}
+use Rattle.psdl_types.proofs.Turning.{meaning_less}
 use Rattle.psdl_sound.specs.SmallLiterals.{is_small}
 use Rattle.psdl_sound.proofs.Among.{Among}
 use Rattle.psdl_sound.proofs.Fronts.{front, front_same}

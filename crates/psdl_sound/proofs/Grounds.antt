@@ -6,22 +6,22 @@ use Rattle.std.proofs.lemmas.Bool.{cases_lt, and_parts, eq-eqb}
 use Rattle.psdl_tree.specs.Trees.{Name, Expression, NamePlain, TypeSpec, Constant, Struct as StructTree, Definitions}
 use Rattle.type_layout.specs.Schemas.{given}
 use Rattle.type_layout.specs.Types.{PlainType, Short, Long, LongLong, UShort, ULong, ULongLong, Char, Boolean, Octet, Str, Seq, Arr, Struct, Enum, RefTo}
-use Rattle.psdl_check.specs.declared.fault.CheckKind.TheVariants.{Cycle}
-use Rattle.psdl_check.specs.Declarations.{Path, What, IsModule, IsConstant, IsAlias, IsStruct, IsEnumeration, IsEnumerator, IsAbstractType, IsConcreteType, IsAbstractHome, IsConcreteHome, IsCatalog, Declaration, all_declarations}
-use Rattle.psdl_check.specs.Expressions.{operands}
-use Rattle.psdl_check.specs.Faults.{first_fault}
-use Rattle.psdl_check.specs.Forward.{above, is_itself, of_itself, in_struct}
-use Rattle.psdl_check.specs.Lookup.{as_is, at, meaning, origin, place_of}
-use Rattle.psdl_check.specs.Naming.{of_use, of_texts, of_text_value, of_strings_in}
-use Rattle.psdl_check.specs.Parts.{is_type}
-use Rattle.psdl_check.specs.Ranges.{of_expression, of_bound, of_constant_value, of_constant, of_values_in}
-use Rattle.psdl_check.specs.Standings.{Standing, Nothing, StandsForNumber, Range, range, within, type_of, number_of, standing, standings, sight, size_by, assessed_by, as_type, constant_type_by, number_by, constant_by, spec_by, arrays_by, struct_by, standing_of}
-use Rattle.psdl_check.specs.Turns.{before_of, spec_of, AreInTurn}
-use Rattle.psdl_check.specs.Uses.{Use, use_of, base_need, is_number, is_text, Bound, in_expression, in_expressions, in_constant_type, in_plain, in_spec, bounds_of, most_elements, spec_bounds, uses, bounds}
-use Rattle.psdl_check.specs.Values.{is_within}
-use Rattle.psdl_check.proofs.Earlier.{standing_is}
+use Rattle.psdl_names.specs.declared.fault.CheckKind.TheVariants.{Cycle}
+use Rattle.psdl_names.specs.Declarations.{Path, What, IsModule, IsConstant, IsAlias, IsStruct, IsEnumeration, IsEnumerator, IsAbstractType, IsConcreteType, IsAbstractHome, IsConcreteHome, IsCatalog, Declaration, all_declarations}
+use Rattle.psdl_names.specs.Expressions.{operands}
+use Rattle.psdl_conditions.specs.Faults.{first_fault}
+use Rattle.psdl_names.specs.Forward.{above, is_itself, of_itself, in_struct}
+use Rattle.psdl_names.specs.Lookup.{as_is, at, meaning, origin, place_of}
+use Rattle.psdl_names.specs.Naming.{of_use, of_texts, of_text_value, of_strings_in}
+use Rattle.psdl_names.specs.Parts.{is_type}
+use Rattle.psdl_types.specs.Ranges.{of_expression, of_bound, of_constant_value, of_constant, of_values_in}
+use Rattle.psdl_names.specs.Standings.{Standing, Nothing, StandsForNumber, Range, range, within, type_of, number_of, standing, standings, sight, size_by, assessed_by, as_type, constant_type_by, number_by, constant_by, spec_by, arrays_by, struct_by, standing_of}
+use Rattle.psdl_types.specs.Turns.{before_of, spec_of, AreInTurn}
+use Rattle.psdl_names.specs.Uses.{Use, use_of, base_need, is_number, is_text, Bound, in_expression, in_expressions, in_constant_type, in_plain, in_spec, bounds_of, most_elements, spec_bounds, uses, bounds}
+use Rattle.psdl_names.specs.Values.{is_within}
+use Rattle.psdl_types.proofs.Earlier.{standing_is}
 use Rattle.psdl_check.proofs.InTurn.{are_in_turn}
-use Rattle.psdl_check.proofs.Turning.{meaning_less}
+use Rattle.psdl_types.proofs.Turning.{meaning_less}
 use Rattle.psdl_sound.specs.SmallLiterals.{is_small}
 use Rattle.psdl_sound.proofs.Unnumbered.{expressions_at, AreSmallAt}
 use Rattle.psdl_sound.proofs.Among.{Among, among_front, among_behind, among_image, each_of_all}

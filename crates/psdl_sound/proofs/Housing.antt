@@ -10,19 +10,19 @@ use Rattle.type_layout.specs.declared.home.HomeNo.{HomeNo}
 use Rattle.type_layout.specs.declared.schema.Home.{Home}
 use Rattle.type_layout.specs.Schemas.{given, nth}
 use Rattle.type_layout.specs.Sound.{EachHome}
-use Rattle.psdl_check.specs.declared.fault.CheckKind.TheVariants.{Limit}
-use Rattle.psdl_check.specs.Declarations.{Declaration}
-use Rattle.psdl_check.specs.Descent.{concrete_homes}
-use Rattle.psdl_check.specs.Faults.{first_fault}
-use Rattle.psdl_check.specs.Limits.{home_number, most_homes}
-use Rattle.psdl_check.specs.Lookup.{at}
-use Rattle.psdl_check.specs.Parts.{is_concrete_home}
-use Rattle.psdl_check.specs.Schemas.{home_of, schema}
-use Rattle.psdl_check.specs.Standings.{standings}
+use Rattle.psdl_names.specs.declared.fault.CheckKind.TheVariants.{Limit}
+use Rattle.psdl_names.specs.Declarations.{Declaration}
+use Rattle.psdl_names.specs.Descent.{concrete_homes}
+use Rattle.psdl_conditions.specs.Faults.{first_fault}
+use Rattle.psdl_types.specs.Limits.{home_number, most_homes}
+use Rattle.psdl_names.specs.Lookup.{at}
+use Rattle.psdl_names.specs.Parts.{is_concrete_home}
+use Rattle.psdl_conditions.specs.Schemas.{home_of, schema}
+use Rattle.psdl_names.specs.Standings.{standings}
 use Rattle.psdl_sound.proofs.Faultless.{does_not_hold, no_fault_at}
-use Rattle.psdl_check.proofs.Inherited.{homes_below}
-use Rattle.psdl_check.proofs.Named.{has_at}
-use Rattle.psdl_check.proofs.Slots.{numbered_at}
+use Rattle.psdl_conditions.proofs.Inherited.{homes_below}
+use Rattle.psdl_conditions.proofs.Named.{has_at}
+use Rattle.psdl_conditions.proofs.Slots.{numbered_at}
 
 -- a declaration is the concrete home at a place among the homes
 pub record IsHome (all : List Declaration) (k n : ℕ) : Type 0 where

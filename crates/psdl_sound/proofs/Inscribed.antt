@@ -10,13 +10,13 @@ use Rattle.psdl_tree.specs.declared.names.Identifier.{Identifier}
 use Rattle.psdl_tree.specs.Trees.{TypeSpec, Declarator, Definition, ModuleDefinition, ConstantDefinition, TypeDefinitionDefinition, StructDefinition, EnumerationDefinition, AbstractTypeDefinition, StorageTypeDefinition, AbstractHomeDefinition, StorageHomeDefinition, CatalogDefinition, Definitions, NoDefinition, AndDefinition}
 use Rattle.type_layout.specs.declared.schema.Home.{Home}
 use Rattle.type_layout.specs.Sound.{are_distinct, is_name}
-use Rattle.psdl_check.specs.Declarations.{Path, What, IsModule, IsConstant, IsAlias, IsStruct, IsEnumeration, IsEnumerator, IsAbstractType, IsConcreteType, IsAbstractHome, IsConcreteHome, IsCatalog, Declaration, declared, all_identifiers, all_declarators, aliases, declared_by, declarations, all_declarations}
-use Rattle.psdl_check.specs.Descent.{concrete_homes}
-use Rattle.psdl_check.specs.Faults.{first_fault}
-use Rattle.psdl_check.specs.Lookup.{at}
-use Rattle.psdl_check.specs.Parts.{is_module, is_forward, is_concrete_home}
-use Rattle.psdl_check.specs.Schemas.{scoped_name, home_of, schema}
-use Rattle.psdl_check.specs.Standings.{standings}
+use Rattle.psdl_names.specs.Declarations.{Path, What, IsModule, IsConstant, IsAlias, IsStruct, IsEnumeration, IsEnumerator, IsAbstractType, IsConcreteType, IsAbstractHome, IsConcreteHome, IsCatalog, Declaration, declared, all_identifiers, all_declarators, aliases, declared_by, declarations, all_declarations}
+use Rattle.psdl_names.specs.Descent.{concrete_homes}
+use Rattle.psdl_conditions.specs.Faults.{first_fault}
+use Rattle.psdl_names.specs.Lookup.{at}
+use Rattle.psdl_names.specs.Parts.{is_module, is_forward, is_concrete_home}
+use Rattle.psdl_conditions.specs.Schemas.{scoped_name, home_of, schema}
+use Rattle.psdl_names.specs.Standings.{standings}
 use Rattle.psdl_check.specs.TextNames.{listed_enumerators, has_names, AreNames}
 use Rattle.psdl_sound.proofs.Housing.{IsHome, is_home, homes_of}
 use Rattle.psdl_sound.proofs.Rising.{in_front}

@@ -6,15 +6,15 @@ use Rattle.std.proofs.lemmas.Bool.{eqb-true, eq-eqb, and_from}
 use Rattle.type_layout.specs.declared.home.HomeNo.{HomeNo}
 use Rattle.type_layout.specs.declared.key.KeyNo.{KeyNo}
 use Rattle.type_layout.specs.Schemas.{given, descends, has_key}
-use Rattle.psdl_check.specs.Declarations.{Declaration}
-use Rattle.psdl_check.specs.Descent.{has, ancestry, base_home, concrete_homes, Listed, same_listed, home_keys}
-use Rattle.psdl_check.specs.Faults.{first_fault}
-use Rattle.psdl_check.specs.Lookup.{at}
-use Rattle.psdl_check.specs.Parts.{is_concrete_home}
-use Rattle.psdl_check.specs.Schemas.{Introduced, introduced, all_introduced, key_number, key_numbers, home_no, home_of, schema}
-use Rattle.psdl_check.specs.Standings.{standings}
+use Rattle.psdl_names.specs.Declarations.{Declaration}
+use Rattle.psdl_names.specs.Descent.{has, ancestry, base_home, concrete_homes, Listed, same_listed, home_keys}
+use Rattle.psdl_conditions.specs.Faults.{first_fault}
+use Rattle.psdl_names.specs.Lookup.{at}
+use Rattle.psdl_names.specs.Parts.{is_concrete_home}
+use Rattle.psdl_conditions.specs.Schemas.{Introduced, introduced, all_introduced, key_number, key_numbers, home_no, home_of, schema}
+use Rattle.psdl_names.specs.Standings.{standings}
 use Rattle.psdl_check.proofs.Chained.{listed_itself}
-use Rattle.psdl_check.proofs.Placed.{any_by_place}
+use Rattle.psdl_conditions.proofs.Placed.{any_by_place}
 use Rattle.psdl_sound.proofs.Among.{Among, at_among, among_flat, among_image, among_map, among_any, any_among, Differ, differ_flat, differ_map, differ_chosen, one_place}
 use Rattle.psdl_sound.proofs.Ancestors.{from_itself}
 use Rattle.psdl_sound.proofs.Baselines.{Line, at_end, by_home, IsConcrete, home_concrete, base_parent, line_of, line_ancestry, line_keys, one_line, line_descends, descends_is_line}

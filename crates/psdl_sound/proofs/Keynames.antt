@@ -14,17 +14,17 @@ use Rattle.type_layout.specs.declared.schema.Factory.{Factory}
 use Rattle.type_layout.specs.Schemas.{given, key_at}
 use Rattle.type_layout.specs.Sound.{EachKey, are_distinct, key_name}
 use Rattle.type_layout.specs.Types.{PlainMember}
-use Rattle.psdl_check.specs.declared.fault.CheckKind.TheVariants.{MemberClash}
-use Rattle.psdl_check.specs.Declarations.{What, IsModule, IsConstant, IsAlias, IsStruct, IsEnumeration, IsEnumerator, IsAbstractType, IsConcreteType, IsAbstractHome, IsConcreteHome, IsCatalog, Declaration}
-use Rattle.psdl_check.specs.Descent.{has, ancestry, concrete_homes, base_home, Listed, same_listed, listed_key, listed_factory, home_keys, home_factories}
-use Rattle.psdl_check.specs.Faults.{first_fault}
-use Rattle.psdl_check.specs.Lookup.{lower, at}
-use Rattle.psdl_check.specs.Members.{lists_clash, has_clash}
-use Rattle.psdl_check.specs.Parts.{is_forward, is_storage_type, is_home, is_concrete_home, keys, factories}
-use Rattle.psdl_check.specs.Schemas.{Introduced, introduced, all_introduced, key_number, key_numbers, key_of, factory_of, home_layout, schema}
-use Rattle.psdl_check.specs.Standings.{standings}
+use Rattle.psdl_names.specs.declared.fault.CheckKind.TheVariants.{MemberClash}
+use Rattle.psdl_names.specs.Declarations.{What, IsModule, IsConstant, IsAlias, IsStruct, IsEnumeration, IsEnumerator, IsAbstractType, IsConcreteType, IsAbstractHome, IsConcreteHome, IsCatalog, Declaration}
+use Rattle.psdl_names.specs.Descent.{has, ancestry, concrete_homes, base_home, Listed, same_listed, listed_key, listed_factory, home_keys, home_factories}
+use Rattle.psdl_conditions.specs.Faults.{first_fault}
+use Rattle.psdl_names.specs.Lookup.{lower, at}
+use Rattle.psdl_conditions.specs.Members.{lists_clash, has_clash}
+use Rattle.psdl_names.specs.Parts.{is_forward, is_storage_type, is_home, is_concrete_home, keys, factories}
+use Rattle.psdl_conditions.specs.Schemas.{Introduced, introduced, all_introduced, key_number, key_numbers, key_of, factory_of, home_layout, schema}
+use Rattle.psdl_names.specs.Standings.{standings}
 use Rattle.psdl_check.proofs.Chained.{listed_is, listed_itself}
-use Rattle.psdl_check.proofs.Foremost.{first_passes}
+use Rattle.psdl_names.proofs.Foremost.{first_passes}
 use Rattle.psdl_sound.proofs.Among.{Among, at_among, among_from, among_map, among_chosen, among_some, all_among, Differ, differ_flat, differ_map, differ_option, distinct_told, pair_unlike, once_differ}
 use Rattle.psdl_sound.proofs.Faultless.{does_not_hold, no_fault_at}
 use Rattle.psdl_sound.proofs.Housing.{IsHome}

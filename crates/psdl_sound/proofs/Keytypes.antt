@@ -13,18 +13,18 @@ use Rattle.type_layout.specs.Keys.{may_be_keyed}
 use Rattle.type_layout.specs.Schemas.{given, members_at, has_key}
 use Rattle.type_layout.specs.Sound.{IsKeyMember}
 use Rattle.type_layout.specs.Types.{PlainType, PlainMember, RefTo, Char}
-use Rattle.psdl_check.specs.declared.fault.CheckFault.{CheckFault}
-use Rattle.psdl_check.specs.declared.fault.CheckKind.TheVariants.{KeyMember, KeyType}
-use Rattle.psdl_check.specs.Declarations.{Declaration}
-use Rattle.psdl_check.specs.Descent.{StateMember, ancestry, members_in, members, type_of_home, names_of, Listed}
-use Rattle.psdl_check.specs.Fault.{fault_if}
-use Rattle.psdl_check.specs.Faults.{first_fault}
-use Rattle.psdl_check.specs.Layouts.{state_type_by, member_type, layout_member, layout}
-use Rattle.psdl_check.specs.Lookup.{lower, at, defined}
-use Rattle.psdl_check.specs.Members.{members_clash, is_called, same_name, listed_wrong, is_compound, keyed_wrong}
-use Rattle.psdl_check.specs.Parts.{keys, key_list, states}
-use Rattle.psdl_check.specs.Schemas.{Introduced, indexes, referents, home_layout, home_no, home_of, schema}
-use Rattle.psdl_check.specs.Standings.{Standing, standings, sight, plain_by, all_there}
+use Rattle.psdl_names.specs.declared.fault.CheckFault.{CheckFault}
+use Rattle.psdl_names.specs.declared.fault.CheckKind.TheVariants.{KeyMember, KeyType}
+use Rattle.psdl_names.specs.Declarations.{Declaration}
+use Rattle.psdl_names.specs.Descent.{StateMember, ancestry, members_in, members, type_of_home, names_of, Listed}
+use Rattle.psdl_names.specs.Fault.{fault_if}
+use Rattle.psdl_conditions.specs.Faults.{first_fault}
+use Rattle.psdl_types.specs.Layouts.{state_type_by, member_type, layout_member, layout}
+use Rattle.psdl_names.specs.Lookup.{lower, at, defined}
+use Rattle.psdl_conditions.specs.Members.{members_clash, is_called, same_name, listed_wrong, is_compound, keyed_wrong}
+use Rattle.psdl_names.specs.Parts.{keys, key_list, states}
+use Rattle.psdl_conditions.specs.Schemas.{Introduced, indexes, referents, home_layout, home_no, home_of, schema}
+use Rattle.psdl_names.specs.Standings.{Standing, standings, sight, plain_by, all_there}
 use Rattle.psdl_sound.proofs.Among.{Among, at_among, among_from, among_flat, among_map, among_found, pair_unlike}
 use Rattle.psdl_sound.proofs.Ancestors.{from_itself, same_some}
 use Rattle.psdl_sound.proofs.Baselines.{Line, IsConcrete, home_concrete, line_concrete, line_ancestry}

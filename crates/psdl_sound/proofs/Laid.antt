@@ -10,13 +10,14 @@ use Rattle.type_layout.specs.declared.schema.Schema.{Schema}
 use Rattle.type_layout.specs.ShapeText.{type_text, member_line, home_line, key_line, home_lines, lines_from}
 use Rattle.type_layout.specs.Sound.{EachMember, IsSoundLayout, StaysWithin}
 use Rattle.type_layout.specs.Types.{PlainType, RefTo, PlainMember}
-use Rattle.psdl_check.specs.Declarations.{Declaration, all_declarations}
-use Rattle.psdl_check.specs.Descent.{StateMember, members, concrete_homes}
-use Rattle.psdl_check.specs.Faults.{first_fault, most_shape}
-use Rattle.psdl_check.specs.Layouts.{state_type_by, member_type, layout_member}
-use Rattle.psdl_check.specs.Lookup.{at, defined}
-use Rattle.psdl_check.specs.Schemas.{home_layout, home_of, referents, schema}
-use Rattle.psdl_check.specs.Standings.{sight, standings}
+use Rattle.psdl_names.specs.Declarations.{Declaration, all_declarations}
+use Rattle.psdl_names.specs.Descent.{StateMember, members, concrete_homes}
+use Rattle.psdl_conditions.specs.Faults.{first_fault}
+use Rattle.psdl_types.specs.Limits.{most_shape}
+use Rattle.psdl_types.specs.Layouts.{state_type_by, member_type, layout_member}
+use Rattle.psdl_names.specs.Lookup.{at, defined}
+use Rattle.psdl_conditions.specs.Schemas.{home_layout, home_of, referents, schema}
+use Rattle.psdl_names.specs.Standings.{sight, standings}
 use Rattle.psdl_check.specs.TextNames.{AreNames}
 use Rattle.psdl_sound.proofs.Composed.{plain_fine}
 use Rattle.psdl_sound.proofs.Fine.{IsFine, reference_fine}

@@ -10,23 +10,23 @@ use Rattle.psdl_tree.specs.declared.names.Identifier.{Identifier}
 use Rattle.psdl_tree.specs.Trees.{Name, State, StateType, PlainState, Reference, Definitions}
 use Rattle.type_layout.specs.Schemas.{given}
 use Rattle.type_layout.specs.Types.{PlainType, PlainMember, RefTo}
-use Rattle.psdl_check.specs.declared.fault.CheckKind.TheVariants.{Incomplete}
-use Rattle.psdl_check.specs.Declarations.{Path, What, IsModule, IsConstant, IsAlias, IsStruct, IsEnumeration, IsEnumerator, IsAbstractType, IsConcreteType, IsAbstractHome, IsConcreteHome, IsCatalog, Declaration, all_declarations}
-use Rattle.psdl_check.specs.Descent.{StateMember, ancestry, members_in, members, type_of_home}
-use Rattle.psdl_check.specs.Expressions.{operands}
-use Rattle.psdl_check.specs.Faults.{first_fault}
-use Rattle.psdl_check.specs.Forward.{above, of_forward, never_defined}
-use Rattle.psdl_check.specs.Layouts.{state_type_by, member_type, layout_member, layout}
-use Rattle.psdl_check.specs.Lookup.{as_is, at, nothing, same_path, is_named, meaning, defines, definition, defined}
-use Rattle.psdl_check.specs.Naming.{of_use, of_texts, of_strings_in}
-use Rattle.psdl_check.specs.Parts.{kind, same_kind, is_forward, states, state_names, operations}
-use Rattle.psdl_check.specs.Ranges.{of_bound, of_values_in}
-use Rattle.psdl_check.specs.Schemas.{referents}
-use Rattle.psdl_check.specs.Standings.{Nothing, all_there, type_of, standing, standings, sight}
-use Rattle.psdl_check.specs.Uses.{Use, Bound, in_state_type, in_operation, in_store, state_bounds, operation_bounds, uses, bounds}
-use Rattle.psdl_check.proofs.Agreeing.{same_path-Decides}
-use Rattle.psdl_check.proofs.Placed.{any_by_place}
-use Rattle.psdl_check.proofs.Turning.{meaning_less}
+use Rattle.psdl_names.specs.declared.fault.CheckKind.TheVariants.{Incomplete}
+use Rattle.psdl_names.specs.Declarations.{Path, What, IsModule, IsConstant, IsAlias, IsStruct, IsEnumeration, IsEnumerator, IsAbstractType, IsConcreteType, IsAbstractHome, IsConcreteHome, IsCatalog, Declaration, all_declarations}
+use Rattle.psdl_names.specs.Descent.{StateMember, ancestry, members_in, members, type_of_home}
+use Rattle.psdl_names.specs.Expressions.{operands}
+use Rattle.psdl_conditions.specs.Faults.{first_fault}
+use Rattle.psdl_names.specs.Forward.{above, of_forward, never_defined}
+use Rattle.psdl_types.specs.Layouts.{state_type_by, member_type, layout_member, layout}
+use Rattle.psdl_names.specs.Lookup.{as_is, at, nothing, same_path, is_named, meaning, defines, definition, defined}
+use Rattle.psdl_names.specs.Naming.{of_use, of_texts, of_strings_in}
+use Rattle.psdl_names.specs.Parts.{kind, same_kind, is_forward, states, state_names, operations}
+use Rattle.psdl_types.specs.Ranges.{of_bound, of_values_in}
+use Rattle.psdl_conditions.specs.Schemas.{referents}
+use Rattle.psdl_names.specs.Standings.{Nothing, all_there, type_of, standing, standings, sight}
+use Rattle.psdl_names.specs.Uses.{Use, Bound, in_state_type, in_operation, in_store, state_bounds, operation_bounds, uses, bounds}
+use Rattle.psdl_names.proofs.Agreeing.{same_path-Decides}
+use Rattle.psdl_conditions.proofs.Placed.{any_by_place}
+use Rattle.psdl_types.proofs.Turning.{meaning_less}
 use Rattle.psdl_sound.specs.SmallLiterals.{is_small}
 use Rattle.psdl_sound.proofs.Unnumbered.{expressions_at, AreSmallAt}
 use Rattle.psdl_sound.proofs.Among.{Among, among_front, among_behind, among_flat, among_from, among_image, among_map, each_of_all}

@@ -10,17 +10,17 @@ use Rattle.type_layout.specs.Schemas.{given}
 use Rattle.type_layout.specs.Sound.{are_distinct}
 use Rattle.type_layout.specs.Types.{PlainType, PlainMember}
 use Rattle.type_layout.specs.declared.home.HomeNo.{HomeNo}
-use Rattle.psdl_check.specs.declared.fault.CheckKind.TheVariants.{Limit, MemberClash}
-use Rattle.psdl_check.specs.Declarations.{Declaration}
-use Rattle.psdl_check.specs.Descent.{StateMember, members, type_of_home}
-use Rattle.psdl_check.specs.Faults.{first_fault}
-use Rattle.psdl_check.specs.Layouts.{member_type, layout_member, layout}
-use Rattle.psdl_check.specs.Limits.{most_members, has_long_default}
-use Rattle.psdl_check.specs.Lookup.{lower, at}
-use Rattle.psdl_check.specs.Members.{members_clash, has_clash}
-use Rattle.psdl_check.specs.Parts.{is_forward, is_storage_type, is_concrete_type}
-use Rattle.psdl_check.specs.Schemas.{home_layout, referents}
-use Rattle.psdl_check.specs.Standings.{Standing, standings, all_there}
+use Rattle.psdl_names.specs.declared.fault.CheckKind.TheVariants.{Limit, MemberClash}
+use Rattle.psdl_names.specs.Declarations.{Declaration}
+use Rattle.psdl_names.specs.Descent.{StateMember, members, type_of_home}
+use Rattle.psdl_conditions.specs.Faults.{first_fault}
+use Rattle.psdl_types.specs.Layouts.{member_type, layout_member, layout}
+use Rattle.psdl_types.specs.Limits.{most_members, has_long_default}
+use Rattle.psdl_names.specs.Lookup.{lower, at}
+use Rattle.psdl_conditions.specs.Members.{members_clash, has_clash}
+use Rattle.psdl_names.specs.Parts.{is_forward, is_storage_type, is_concrete_type}
+use Rattle.psdl_conditions.specs.Schemas.{home_layout, referents}
+use Rattle.psdl_names.specs.Standings.{Standing, standings, all_there}
 use Rattle.psdl_sound.proofs.Faultless.{HasNone, does_not_hold, no_fault_at}
 use Rattle.psdl_sound.proofs.Meanings.{IsDefinition, definition_is, IsTypeOf, type_is}
 

@@ -13,21 +13,21 @@ use Rattle.type_layout.specs.declared.schema.Home.{Home}
 use Rattle.type_layout.specs.Schemas.{given, members_at}
 use Rattle.type_layout.specs.Sound.{AreMembers}
 use Rattle.type_layout.specs.Types.{PlainMember, Char}
-use Rattle.psdl_check.specs.declared.fault.CheckFault.{CheckFault}
-use Rattle.psdl_check.specs.declared.fault.CheckKind.{CheckKind}
-use Rattle.psdl_check.specs.declared.fault.CheckKind.TheVariants.{KeyMember, FactoryMember}
-use Rattle.psdl_check.specs.Declarations.{What, IsModule, IsConstant, IsAlias, IsStruct, IsEnumeration, IsEnumerator, IsAbstractType, IsConcreteType, IsAbstractHome, IsConcreteHome, IsCatalog, Declaration}
-use Rattle.psdl_check.specs.Descent.{StateMember, has, ancestry, members, type_of_home, names_of, Listed, same_listed, listed_key, listed_factory, home_keys, home_factories}
-use Rattle.psdl_check.specs.Faults.{first_fault}
-use Rattle.psdl_check.specs.Lineage.{ancestry_in, graph_of}
-use Rattle.psdl_check.specs.Lookup.{at}
-use Rattle.psdl_check.specs.Members.{is_called, same_name, listed_wrong}
-use Rattle.psdl_check.specs.Parts.{keys, factories, managed, key_list, factory_list}
-use Rattle.psdl_check.specs.Schemas.{Introduced, indexes, factory_of, home_layout, home_no, schema}
-use Rattle.psdl_check.specs.Standings.{standings}
-use Rattle.psdl_check.proofs.Ancestry.{ancestry_is, is_graph, length-graph_of}
-use Rattle.psdl_check.proofs.Foremost.{first_passes}
-use Rattle.psdl_check.proofs.Kept.{ancestry_below}
+use Rattle.psdl_names.specs.declared.fault.CheckFault.{CheckFault}
+use Rattle.psdl_names.specs.declared.fault.CheckKind.{CheckKind}
+use Rattle.psdl_names.specs.declared.fault.CheckKind.TheVariants.{KeyMember, FactoryMember}
+use Rattle.psdl_names.specs.Declarations.{What, IsModule, IsConstant, IsAlias, IsStruct, IsEnumeration, IsEnumerator, IsAbstractType, IsConcreteType, IsAbstractHome, IsConcreteHome, IsCatalog, Declaration}
+use Rattle.psdl_names.specs.Descent.{StateMember, has, ancestry, members, type_of_home, names_of, Listed, same_listed, listed_key, listed_factory, home_keys, home_factories}
+use Rattle.psdl_conditions.specs.Faults.{first_fault}
+use Rattle.psdl_conditions.specs.Lineage.{ancestry_in, graph_of}
+use Rattle.psdl_names.specs.Lookup.{at}
+use Rattle.psdl_conditions.specs.Members.{is_called, same_name, listed_wrong}
+use Rattle.psdl_names.specs.Parts.{keys, factories, managed, key_list, factory_list}
+use Rattle.psdl_conditions.specs.Schemas.{Introduced, indexes, factory_of, home_layout, home_no, schema}
+use Rattle.psdl_names.specs.Standings.{standings}
+use Rattle.psdl_conditions.proofs.Ancestry.{ancestry_is, is_graph, length-graph_of}
+use Rattle.psdl_names.proofs.Foremost.{first_passes}
+use Rattle.psdl_conditions.proofs.Kept.{ancestry_below}
 use Rattle.psdl_sound.proofs.Among.{Among, at_among, among_from, among_map, among_some, any_among, among_any, all_among, among_fresh, Differ, differ_flat, differ_option, distinct_told}
 use Rattle.psdl_sound.proofs.Catalogs.{housed, home_at_number}
 use Rattle.psdl_sound.proofs.Faultless.{both_empty, does_not_hold, none_given, no_fault_at}

@@ -3,7 +3,7 @@ use Rattle.std.proofs.Common.{List, ℕ, subst, refl}
 use Rattle.psdl_tree.specs.Trees.{Definitions}
 use Rattle.psdl_syntax.specs.Syntax.{IsTextOf}
 use Rattle.psdl_syntax.specs.Grammar.{definitions}
-use Rattle.psdl_check.specs.Declarations.{all_declarations}
+use Rattle.psdl_names.specs.Declarations.{all_declarations}
 use Rattle.psdl_sound.specs.TextLaws.{TextsHaveNames, TextsAreSmall, TextsAreSound}
 use Rattle.psdl_sound.proofs.Worded.{AreFit, words_fit}
 use Rattle.psdl_sound.proofs.Naming.{tree_named}

@@ -11,7 +11,7 @@ use Rattle.psdl_tree.specs.Trees.{Identifiers, TypeSpec, Declarator, Constant, T
 use Rattle.psdl_syntax.specs.Seen.{Seen}
 use Rattle.psdl_syntax.specs.Grammar as grammar
 use Rattle.type_layout.specs.Sound.{is_name}
-use Rattle.psdl_check.specs.Declarations.{Path, What, IsModule, IsConstant, IsAlias, IsStruct, IsEnumeration, IsEnumerator, IsAbstractType, IsConcreteType, IsAbstractHome, IsConcreteHome, IsCatalog, Declaration, declared, all_identifiers, all_declarators, aliases, declared_by, declarations, all_declarations}
+use Rattle.psdl_names.specs.Declarations.{Path, What, IsModule, IsConstant, IsAlias, IsStruct, IsEnumeration, IsEnumerator, IsAbstractType, IsConcreteType, IsAbstractHome, IsConcreteHome, IsCatalog, Declaration, declared, all_identifiers, all_declarators, aliases, declared_by, declarations, all_declarations}
 use Rattle.psdl_check.specs.TextNames.{listed_enumerators, has_names, AreNames}
 use Rattle.psdl_sound.proofs.Worded.{is_fit_seen, AreFit}
 

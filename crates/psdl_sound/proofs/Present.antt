@@ -5,10 +5,10 @@ use Rattle.std.specs.Option.{option_map, option_and_then}
 use Rattle.psdl_tree.specs.Trees.{Name, Expression, PlainType as PlainTree, IntegerPlain, CharPlain, BooleanPlain, OctetPlain, StringPlain, NamePlain, TypeSpec, PlainSpec, Sequence, Declarator, Field as FieldTree, Struct as StructTree}
 use Rattle.type_layout.specs.Schemas.{given}
 use Rattle.type_layout.specs.Types.{PlainType, Str, Seq, Arr, Struct, fields_of}
-use Rattle.psdl_check.specs.Declarations.{all_declarators}
-use Rattle.psdl_check.specs.Parts.{all_fields}
-use Rattle.psdl_check.specs.Standings.{Standing, type_of, size_by, all_there, plain_by, spec_by, arrays_by, field_by, fields_by, struct_by}
-use Rattle.psdl_check.specs.Uses.{Use, Bound, in_expression, in_expressions, in_plain, in_spec, in_declarator, in_field, bounds_of, most_items, most_elements, plain_bounds, spec_bounds, declarator_bounds, field_bounds}
+use Rattle.psdl_names.specs.Declarations.{all_declarators}
+use Rattle.psdl_names.specs.Parts.{all_fields}
+use Rattle.psdl_names.specs.Standings.{Standing, type_of, size_by, all_there, plain_by, spec_by, arrays_by, field_by, fields_by, struct_by}
+use Rattle.psdl_names.specs.Uses.{Use, Bound, in_expression, in_expressions, in_plain, in_spec, in_declarator, in_field, bounds_of, most_items, most_elements, plain_bounds, spec_bounds, declarator_bounds, field_bounds}
 use Rattle.psdl_sound.proofs.Among.{Among, among_front, among_behind, among_flat, among_from, among_map}
 
 -- ---- lists

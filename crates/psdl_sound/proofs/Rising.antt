@@ -5,15 +5,15 @@ use Rattle.std.specs.List.{range_with_len, list_all}
 use Rattle.std.proofs.lemmas.Bool.{cases_order, and_from, le-leb}
 use Rattle.type_layout.specs.declared.home.HomeNo.{HomeNo}
 use Rattle.type_layout.specs.Sound.{Rise}
-use Rattle.psdl_check.specs.Declarations.{Declaration}
-use Rattle.psdl_check.specs.Descent.{concrete_homes}
-use Rattle.psdl_check.specs.Limits.{home_number}
-use Rattle.psdl_check.specs.Lookup.{at}
-use Rattle.psdl_check.specs.Numbering.{homes_in_front}
-use Rattle.psdl_check.specs.Parts.{is_concrete_home}
-use Rattle.psdl_check.specs.Schemas.{home_no, referents}
+use Rattle.psdl_names.specs.Declarations.{Declaration}
+use Rattle.psdl_names.specs.Descent.{concrete_homes}
+use Rattle.psdl_types.specs.Limits.{home_number}
+use Rattle.psdl_names.specs.Lookup.{at}
+use Rattle.psdl_conditions.specs.Numbering.{homes_in_front}
+use Rattle.psdl_names.specs.Parts.{is_concrete_home}
+use Rattle.psdl_conditions.specs.Schemas.{home_no, referents}
 use Rattle.psdl_sound.proofs.Housing.{IsHome}
-use Rattle.psdl_check.proofs.Slots.{numbered, in_front_more}
+use Rattle.psdl_conditions.proofs.Slots.{numbered, in_front_more}
 
 abbrev is_one : List Declaration → ℕ → Bool
 is_one all n = is_concrete_home (at all n).what

@@ -8,14 +8,15 @@ use Rattle.std.proofs.lemmas.Option.{slice_get-get_or}
 use Rattle.type_layout.specs.declared.schema.Home.{Home}
 use Rattle.type_layout.specs.Schemas.{given, nth}
 use Rattle.type_layout.specs.ShapeText.{lines_from, shape_text}
-use Rattle.psdl_check.specs.declared.fault.CheckFault.{CheckFault}
-use Rattle.psdl_check.specs.declared.fault.CheckKind.TheVariants.{Limit}
-use Rattle.psdl_check.specs.Declarations.{Declaration}
-use Rattle.psdl_check.specs.Descent.{concrete_homes}
-use Rattle.psdl_check.specs.Fault.{fault}
-use Rattle.psdl_check.specs.Faults.{first_fault, most_shape, passing, long_shape}
-use Rattle.psdl_check.specs.Lookup.{at}
-use Rattle.psdl_check.specs.Schemas.{schema}
+use Rattle.psdl_names.specs.declared.fault.CheckFault.{CheckFault}
+use Rattle.psdl_names.specs.declared.fault.CheckKind.TheVariants.{Limit}
+use Rattle.psdl_names.specs.Declarations.{Declaration}
+use Rattle.psdl_names.specs.Descent.{concrete_homes}
+use Rattle.psdl_names.specs.Fault.{fault}
+use Rattle.psdl_conditions.specs.Faults.{first_fault, passing, long_shape}
+use Rattle.psdl_types.specs.Limits.{most_shape}
+use Rattle.psdl_names.specs.Lookup.{at}
+use Rattle.psdl_conditions.specs.Schemas.{schema}
 use Rattle.psdl_sound.proofs.Faultless.{no_long_shape}
 use Rattle.psdl_sound.proofs.Housing.{homes_count}
 

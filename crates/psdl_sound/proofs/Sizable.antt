@@ -5,17 +5,17 @@ use Rattle.std.proofs.lemmas.Bool.{or_parts, not-false}
 use Rattle.psdl_tree.specs.declared.expressions.TextLiteral.{TextLiteral}
 use Rattle.psdl_tree.specs.Trees.{Name, Primary, NameOperand, IntegerOperand, TextOperand, Group, Signed, OneUnary, OneProduct, OneSum, OneShift, OneAnd, OneXor, Expression}
 use Rattle.type_layout.specs.Schemas.{given}
-use Rattle.psdl_check.specs.declared.fault.CheckFault.{CheckFault}
-use Rattle.psdl_check.specs.declared.fault.CheckKind.TheVariants.{Unknown, WrongCase, WrongKind, ConstRange, ConstZero}
-use Rattle.psdl_check.specs.Declarations.{Path, IsModule, Declaration}
-use Rattle.psdl_check.specs.Expressions.{operands, named_by, text_of, expression_place}
-use Rattle.psdl_check.specs.Fault.{fault, fault_if}
-use Rattle.psdl_check.specs.Lookup.{as_is, lower, at, meaning, place_of}
-use Rattle.psdl_check.specs.Naming.{of_use, of_texts}
-use Rattle.psdl_check.specs.Ranges.{is_out, of_expression}
-use Rattle.psdl_check.specs.Standings.{Nothing, number_of, standing, standings, sight, Range, assessed_by}
-use Rattle.psdl_check.specs.Uses.{Use, use_of, base_need, meets, is_number, in_expression}
-use Rattle.psdl_check.specs.Values.{Assessed, ranged, is_within}
+use Rattle.psdl_names.specs.declared.fault.CheckFault.{CheckFault}
+use Rattle.psdl_names.specs.declared.fault.CheckKind.TheVariants.{Unknown, WrongCase, WrongKind, ConstRange, ConstZero}
+use Rattle.psdl_names.specs.Declarations.{Path, IsModule, Declaration}
+use Rattle.psdl_names.specs.Expressions.{operands, named_by, text_of, expression_place}
+use Rattle.psdl_names.specs.Fault.{fault, fault_if}
+use Rattle.psdl_names.specs.Lookup.{as_is, lower, at, meaning, place_of}
+use Rattle.psdl_names.specs.Naming.{of_use, of_texts}
+use Rattle.psdl_types.specs.Ranges.{is_out, of_expression}
+use Rattle.psdl_names.specs.Standings.{Nothing, number_of, standing, standings, sight, Range, assessed_by}
+use Rattle.psdl_names.specs.Uses.{Use, use_of, base_need, meets, is_number, in_expression}
+use Rattle.psdl_names.specs.Values.{Assessed, ranged, is_within}
 use Rattle.psdl_sound.specs.SmallLiterals.{is_small}
 use Rattle.psdl_sound.proofs.Among.{Among, among_flat, among_image, each_of_all}
 use Rattle.psdl_sound.proofs.Faultless.{both_empty, does_not_hold}

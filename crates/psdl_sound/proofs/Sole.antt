@@ -7,13 +7,13 @@ use Rattle.std.proofs.lemmas.List.{length-take-le, get_or-take}
 use Rattle.std.proofs.lemmas.List.Folds.{list_any_at}
 use Rattle.std.proofs.lemmas.Slice.Eq.{bytes_eq-Decides}
 use Rattle.type_layout.specs.Sound.{are_distinct}
-use Rattle.psdl_check.specs.declared.fault.CheckKind.TheVariants.{Redefined}
-use Rattle.psdl_check.specs.Declarations.{Declaration}
-use Rattle.psdl_check.specs.Faults.{first_fault}
-use Rattle.psdl_check.specs.Lookup.{lower, at, nothing, same_path, is_named}
-use Rattle.psdl_check.specs.Parts.{is_module, is_forward, same_kind}
-use Rattle.psdl_check.specs.Scoping.{is_again, takes_name_of}
-use Rattle.psdl_check.proofs.Agreeing.{same_path-Decides}
+use Rattle.psdl_names.specs.declared.fault.CheckKind.TheVariants.{Redefined}
+use Rattle.psdl_names.specs.Declarations.{Declaration}
+use Rattle.psdl_conditions.specs.Faults.{first_fault}
+use Rattle.psdl_names.specs.Lookup.{lower, at, nothing, same_path, is_named}
+use Rattle.psdl_names.specs.Parts.{is_module, is_forward, same_kind}
+use Rattle.psdl_names.specs.Scoping.{is_again, takes_name_of}
+use Rattle.psdl_names.proofs.Agreeing.{same_path-Decides}
 use Rattle.psdl_sound.proofs.Faultless.{does_not_hold, no_fault_at}
 
 -- ---- names of a scope

@@ -1,9 +1,9 @@
 -- The homes and layouts of the schema of a text without a fault are sound.
 use Rattle.std.proofs.Common.{◌≡◌, List, None}
 use Rattle.psdl_tree.specs.Trees.{Definitions}
-use Rattle.psdl_check.specs.Declarations.{Declaration, all_declarations}
-use Rattle.psdl_check.specs.Faults.{first_fault}
-use Rattle.psdl_check.specs.Schemas.{schema}
+use Rattle.psdl_names.specs.Declarations.{Declaration, all_declarations}
+use Rattle.psdl_conditions.specs.Faults.{first_fault}
+use Rattle.psdl_conditions.specs.Schemas.{schema}
 use Rattle.psdl_sound.specs.SoundHomes.{HasSoundHomes}
 use Rattle.psdl_check.specs.TextNames.{AreNames}
 use Rattle.psdl_sound.proofs.Basing.{base_lower}

@@ -5,8 +5,8 @@ use Rattle.std.specs.List.{list_all}
 use Rattle.std.proofs.lemmas.Bool.{and_parts, and_from}
 use Rattle.std.proofs.lemmas.List.{reverse-append, reverse-reverse, same_from_push}
 use Rattle.type_layout.specs.Sound.{is_letter, is_word_byte, is_name}
-use Rattle.psdl_check.specs.Declarations.{Path}
-use Rattle.psdl_check.specs.Schemas.{scoped}
+use Rattle.psdl_names.specs.Declarations.{Path}
+use Rattle.psdl_conditions.specs.Schemas.{scoped}
 
 -- ---- words
 

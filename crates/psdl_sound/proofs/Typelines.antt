@@ -6,15 +6,15 @@ use Rattle.std.proofs.lemmas.Bool.{or_parts, not-false, false_from_ne_true}
 use Rattle.std.proofs.lemmas.List.{append-nil}
 use Rattle.psdl_tree.specs.Trees.{Name}
 use Rattle.type_layout.specs.Schemas.{given}
-use Rattle.psdl_check.specs.declared.fault.CheckKind.TheVariants.{NotImplemented, HomeType}
-use Rattle.psdl_check.specs.Declarations.{What, IsModule, IsConstant, IsAlias, IsStruct, IsEnumeration, IsEnumerator, IsAbstractType, IsConcreteType, IsAbstractHome, IsConcreteHome, IsCatalog, Declaration}
-use Rattle.psdl_check.specs.Descent.{same_sort, ancestry, conforms, type_of_home}
-use Rattle.psdl_check.specs.Families.{type_of_named, of_types, of_implemented, differs_from_base, is_other_kind, has_wrong_type}
-use Rattle.psdl_check.specs.Fault.{fault_if}
-use Rattle.psdl_check.specs.Faults.{first_fault}
-use Rattle.psdl_check.specs.Lookup.{at, named, defined, place_of}
-use Rattle.psdl_check.specs.Parts.{is_forward, is_storage_type, is_abstract_type, is_concrete_type, is_home, is_concrete_home, all_names, bases, implemented, managed, parents}
-use Rattle.psdl_check.proofs.Repeats.{once, fresh, once-append, once_absorbs}
+use Rattle.psdl_names.specs.declared.fault.CheckKind.TheVariants.{NotImplemented, HomeType}
+use Rattle.psdl_names.specs.Declarations.{What, IsModule, IsConstant, IsAlias, IsStruct, IsEnumeration, IsEnumerator, IsAbstractType, IsConcreteType, IsAbstractHome, IsConcreteHome, IsCatalog, Declaration}
+use Rattle.psdl_names.specs.Descent.{same_sort, ancestry, conforms, type_of_home}
+use Rattle.psdl_conditions.specs.Families.{type_of_named, of_types, of_implemented, differs_from_base, is_other_kind, has_wrong_type}
+use Rattle.psdl_names.specs.Fault.{fault_if}
+use Rattle.psdl_conditions.specs.Faults.{first_fault}
+use Rattle.psdl_names.specs.Lookup.{at, named, defined, place_of}
+use Rattle.psdl_names.specs.Parts.{is_forward, is_storage_type, is_abstract_type, is_concrete_type, is_home, is_concrete_home, all_names, bases, implemented, managed, parents}
+use Rattle.psdl_conditions.proofs.Repeats.{once, fresh, once-append, once_absorbs}
 use Rattle.psdl_sound.proofs.Among.{Among, among_parts, any_among}
 use Rattle.psdl_sound.proofs.Ancestors.{parents_of, parent_told, parent_passes, parent_in_front, ancestry_joined, from_itself, from_parent, from_whom, abstract_types, same_some}
 use Rattle.psdl_sound.proofs.Baselines.{IsConcrete}

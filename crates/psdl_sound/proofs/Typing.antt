@@ -8,15 +8,15 @@ use Rattle.psdl_tree.specs.Trees.{Name, Expression, TypeSpec, Definitions, Ident
 use Rattle.type_layout.specs.Schemas.{given}
 use Rattle.type_layout.specs.Sound.{is_name}
 use Rattle.type_layout.specs.Types.{PlainType, Enum}
-use Rattle.psdl_check.specs.Declarations.{Path, What, IsModule, IsConstant, IsAlias, IsStruct, IsEnumeration, IsEnumerator, IsAbstractType, IsConcreteType, IsAbstractHome, IsConcreteHome, IsCatalog, Declaration, all_identifiers, all_declarations}
-use Rattle.psdl_check.specs.Faults.{first_fault}
-use Rattle.psdl_check.specs.Lookup.{as_is, at, meaning}
-use Rattle.psdl_check.specs.Ranges.{of_bound, of_values_in}
-use Rattle.psdl_check.specs.Standings.{Standing, Nothing, StandsForNumber, Range, type_of, number_of, standing, sight, range, within, assessed_by, size_by, spec_by, arrays_by, struct_by, as_type, constant_type_by, number_by, standing_of, standings}
+use Rattle.psdl_names.specs.Declarations.{Path, What, IsModule, IsConstant, IsAlias, IsStruct, IsEnumeration, IsEnumerator, IsAbstractType, IsConcreteType, IsAbstractHome, IsConcreteHome, IsCatalog, Declaration, all_identifiers, all_declarations}
+use Rattle.psdl_conditions.specs.Faults.{first_fault}
+use Rattle.psdl_names.specs.Lookup.{as_is, at, meaning}
+use Rattle.psdl_types.specs.Ranges.{of_bound, of_values_in}
+use Rattle.psdl_names.specs.Standings.{Standing, Nothing, StandsForNumber, Range, type_of, number_of, standing, sight, range, within, assessed_by, size_by, spec_by, arrays_by, struct_by, as_type, constant_type_by, number_by, standing_of, standings}
 use Rattle.psdl_check.specs.TextNames.{listed_enumerators, has_names, AreNames}
-use Rattle.psdl_check.specs.Uses.{bounds_of, most_elements, spec_bounds}
+use Rattle.psdl_names.specs.Uses.{bounds_of, most_elements, spec_bounds}
 use Rattle.psdl_sound.proofs.Composed.{AreFineNames, AreSized, array_fine_of, spec_fine, sized_from, struct_type_fine}
-use Rattle.psdl_check.proofs.Earlier.{standing_is}
+use Rattle.psdl_types.proofs.Earlier.{standing_is}
 use Rattle.psdl_sound.proofs.Enumerated.{enumerators_distinct}
 use Rattle.psdl_sound.proofs.Faultless.{both_empty, no_fault_at}
 use Rattle.psdl_sound.proofs.Fine.{IsFine, enumeration_fine}

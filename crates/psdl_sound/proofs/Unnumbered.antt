@@ -4,11 +4,11 @@ use Rattle.std.specs.List.{flat_map, list_all}
 use Rattle.std.specs.Option.{option_to_list}
 use Rattle.std.proofs.lemmas.List.{map-append}
 use Rattle.psdl_tree.specs.Trees.{Expression, PlainType as PlainTree, IntegerPlain, CharPlain, BooleanPlain, OctetPlain, StringPlain, NamePlain, TypeSpec, PlainSpec, Sequence, StateType, PlainState, Reference, Field, State, Parameter, OperationResult, Void, StateResult, Operation}
-use Rattle.psdl_check.specs.Declarations.{What, IsModule, IsConstant, IsAlias, IsStruct, IsEnumeration, IsEnumerator, IsAbstractType, IsConcreteType, IsAbstractHome, IsConcreteHome, IsCatalog, Declaration, all_declarators}
-use Rattle.psdl_check.specs.Expressions.{operands}
-use Rattle.psdl_check.specs.Lookup.{at}
-use Rattle.psdl_check.specs.Parts.{all_fields, all_parameters, states, operations}
-use Rattle.psdl_check.specs.Uses.{Bound, bounds_of, most_items, most_elements, plain_bounds, spec_bounds, state_bounds, declarator_bounds, field_bounds, result_bounds, operation_bounds, bounds}
+use Rattle.psdl_names.specs.Declarations.{What, IsModule, IsConstant, IsAlias, IsStruct, IsEnumeration, IsEnumerator, IsAbstractType, IsConcreteType, IsAbstractHome, IsConcreteHome, IsCatalog, Declaration, all_declarators}
+use Rattle.psdl_names.specs.Expressions.{operands}
+use Rattle.psdl_names.specs.Lookup.{at}
+use Rattle.psdl_names.specs.Parts.{all_fields, all_parameters, states, operations}
+use Rattle.psdl_names.specs.Uses.{Bound, bounds_of, most_items, most_elements, plain_bounds, spec_bounds, state_bounds, declarator_bounds, field_bounds, result_bounds, operation_bounds, bounds}
 use Rattle.psdl_sound.specs.SmallLiterals.{is_small, expressions_of, has_small, AreSmall}
 use Rattle.psdl_sound.proofs.Inscribed.{each_passes}
 

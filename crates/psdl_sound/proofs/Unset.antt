@@ -10,19 +10,19 @@ use Rattle.type_layout.specs.Schemas.{given}
 use Rattle.type_layout.specs.Spelling.{spelling, spellings, record_spelling}
 use Rattle.type_layout.specs.Types.{PlainType, PlainMember, RefTo, values_of}
 use Rattle.type_layout.specs.Values.{layout_fields}
-use Rattle.psdl_check.specs.declared.fault.CheckFault.{CheckFault}
-use Rattle.psdl_check.specs.declared.fault.CheckKind.TheVariants.{HomeType}
-use Rattle.psdl_check.specs.Declarations.{What, IsModule, IsConstant, IsAlias, IsStruct, IsEnumeration, IsEnumerator, IsAbstractType, IsConcreteType, IsAbstractHome, IsConcreteHome, IsCatalog, Declaration}
-use Rattle.psdl_check.specs.Descent.{StateMember, members}
-use Rattle.psdl_check.specs.Families.{is_other_kind, has_wrong_type, of_types, differs_from_base}
-use Rattle.psdl_check.specs.Fault.{fault_if}
-use Rattle.psdl_check.specs.Faults.{first_fault}
-use Rattle.psdl_check.specs.Layouts.{state_type_by, layout_member, layout}
-use Rattle.psdl_check.specs.Limits.{most_octets, has_long_default}
-use Rattle.psdl_check.specs.Lookup.{at, named, defined, place_of}
-use Rattle.psdl_check.specs.Parts.{kind, bases, is_abstract_type, is_concrete_type, is_storage_type, is_concrete_home}
-use Rattle.psdl_check.specs.Schemas.{home_layout, referents}
-use Rattle.psdl_check.specs.Standings.{Standing, standings, sight, all_there}
+use Rattle.psdl_names.specs.declared.fault.CheckFault.{CheckFault}
+use Rattle.psdl_names.specs.declared.fault.CheckKind.TheVariants.{HomeType}
+use Rattle.psdl_names.specs.Declarations.{What, IsModule, IsConstant, IsAlias, IsStruct, IsEnumeration, IsEnumerator, IsAbstractType, IsConcreteType, IsAbstractHome, IsConcreteHome, IsCatalog, Declaration}
+use Rattle.psdl_names.specs.Descent.{StateMember, members}
+use Rattle.psdl_conditions.specs.Families.{is_other_kind, has_wrong_type, of_types, differs_from_base}
+use Rattle.psdl_names.specs.Fault.{fault_if}
+use Rattle.psdl_conditions.specs.Faults.{first_fault}
+use Rattle.psdl_types.specs.Layouts.{state_type_by, layout_member, layout}
+use Rattle.psdl_types.specs.Limits.{most_octets, has_long_default}
+use Rattle.psdl_names.specs.Lookup.{at, named, defined, place_of}
+use Rattle.psdl_names.specs.Parts.{kind, bases, is_abstract_type, is_concrete_type, is_storage_type, is_concrete_home}
+use Rattle.psdl_conditions.specs.Schemas.{home_layout, referents}
+use Rattle.psdl_names.specs.Standings.{Standing, standings, sight, all_there}
 use Rattle.psdl_sound.proofs.Faultless.{both_empty, does_not_hold, no_fault_at}
 use Rattle.psdl_sound.proofs.Housing.{IsHome}
 use Rattle.psdl_sound.proofs.Layered.{each_there, each_layout, whole_type, no_long}

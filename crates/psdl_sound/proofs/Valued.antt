@@ -12,8 +12,8 @@ use Rattle.psdl_tree.specs.declared.expressions.ProductOperator.TheVariants as p
 use Rattle.psdl_tree.specs.declared.expressions.UnarySign.{UnarySign}
 use Rattle.psdl_tree.specs.Trees.{Name, Primary, NameOperand, IntegerOperand, TextOperand, Group, Unary, Signed, Product, OneUnary, Multiplied, Sum, OneProduct, Added, Shift, OneSum, Shifted, And, OneShift, Anded, Xor, OneAnd, Xored, Expression, OneXor, Ored}
 use Rattle.type_layout.specs.Schemas.{given}
-use Rattle.psdl_check.specs.Expressions.{in_primary, in_unary, in_product, in_sum, in_shift, in_and, in_xor, operands}
-use Rattle.psdl_check.specs.Values.{Assessed, ranged, is_wide, is_zero, shift_of, made_by, is_shift, value_by, leaves_range, shifts_too_far, zero_divisor, operated, sign_leaves, signed_by, signed, shift_operator, sum_operator, product_operator, primary, unary, product, product_onto, sum, sum_onto, shift, shift_onto, and, and_onto, xor, xor_onto, assessed, or_onto}
+use Rattle.psdl_names.specs.Expressions.{in_primary, in_unary, in_product, in_sum, in_shift, in_and, in_xor, operands}
+use Rattle.psdl_names.specs.Values.{Assessed, ranged, is_wide, is_zero, shift_of, made_by, is_shift, value_by, leaves_range, shifts_too_far, zero_divisor, operated, sign_leaves, signed_by, signed, shift_operator, sum_operator, product_operator, primary, unary, product, product_onto, sum, sum_onto, shift, shift_onto, and, and_onto, xor, xor_onto, assessed, or_onto}
 use Rattle.psdl_sound.proofs.Among.{Among, among_front, among_behind}
 use Rattle.psdl_sound.proofs.Faultless.{both_empty}
 

@@ -3,8 +3,8 @@ use Rattle.std.specs.Prelude.{ℕ, List, [], ◌∷◌, ◌++◌, codes, decimal
 use Rattle.pss_base.specs.declared.place.Place.{Place}
 use Rattle.psdl_syntax.specs.declared.syntax_fault.SyntaxKind.{SyntaxKind}
 use Rattle.psdl_syntax.specs.declared.syntax_fault.SyntaxKind.TheVariants as kinds
-use Rattle.psdl_check.specs.declared.fault.CheckKind.{CheckKind}
-use Rattle.psdl_check.specs.declared.fault.CheckKind.TheVariants as checks
+use Rattle.psdl_names.specs.declared.fault.CheckKind.{CheckKind}
+use Rattle.psdl_names.specs.declared.fault.CheckKind.TheVariants as checks
 use Rattle.pss_daemon.specs.declared.schema_fault.SchemaFault.{SchemaFault}
 use Rattle.pss_daemon.specs.declared.schema_fault.SchemaFault.TheVariants.{Syntax, Check}
 

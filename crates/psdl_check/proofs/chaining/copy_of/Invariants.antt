@@ -1,5 +1,5 @@
 use Rattle.std.proofs.Common.{◌≡◌, take}
-use Rattle.psdl_check.specs.Listings.{names_in}
+use Rattle.psdl_conditions.specs.Listings.{names_in}
 use Rattle.psdl_check.proofs.chaining.copy_of.Given as goal
 
 abbrev pub invariant-loop-member : goal.invariant-loop-member

@@ -1,6 +1,6 @@
 use Rattle.std.proofs.Common.{sym, ap, ◌∙◌}
 use Rattle.psdl_check.specs.declared.key_table.IntroducedKey.{IntroducedKey}
-use Rattle.psdl_check.specs.Listings.{listed_view}
+use Rattle.psdl_conditions.specs.Listings.{listed_view}
 use Rattle.psdl_check.specs.KeyChains.{first_of}
 use Rattle.psdl_check.proofs.Chained.{firsts_from, next_from}
 use Rattle.psdl_check.proofs.chaining.enter.Goals as goal

@@ -1,5 +1,5 @@
 use Rattle.std.proofs.Common.{◌≡◌, ◌≤◌, length}
-use Rattle.psdl_check.specs.Descent.{Listed}
+use Rattle.psdl_names.specs.Descent.{Listed}
 use Rattle.psdl_check.specs.Introductions.{introduced_views}
 use Rattle.psdl_check.specs.KeyChains.{first_of, number_from, AreNext}
 use Rattle.psdl_check.proofs.chaining.key_chains.Given as goal

@@ -1,8 +1,8 @@
 use Rattle.std.proofs.Common.{◌≡◌, ◌∙◌, List, IfOk, subst, sym}
 use Rattle.psdl_tree.specs.Views.{tree_view}
-use Rattle.psdl_check.specs.Declarations.{Declaration, all_declarations}
-use Rattle.psdl_check.specs.Directories.{all_of}
-use Rattle.psdl_check.specs.Turns.{AreInTurn}
+use Rattle.psdl_names.specs.Declarations.{Declaration, all_declarations}
+use Rattle.psdl_names.specs.Directories.{all_of}
+use Rattle.psdl_types.specs.Turns.{AreInTurn}
 use Rattle.psdl_check.specs.Verdicts.{IsVerdict}
 use Rattle.psdl_check.proofs.InTurn.{are_in_turn}
 use Rattle.psdl_check.proofs.checks.judge.Goals as goal

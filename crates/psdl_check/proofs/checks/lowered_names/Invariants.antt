@@ -1,5 +1,5 @@
 use Rattle.std.proofs.Common.{◌≡◌, map, take}
-use Rattle.psdl_check.specs.Lookup.{lower}
+use Rattle.psdl_names.specs.Lookup.{lower}
 use Rattle.psdl_check.proofs.checks.lowered_names.Given as goal
 
 abbrev pub invariant-loop-declaration : goal.invariant-loop-declaration

@@ -1,4 +1,4 @@
-use Rattle.psdl_check.specs.Directories.{all_of}
+use Rattle.psdl_names.specs.Directories.{all_of}
 use Rattle.psdl_check.proofs.Judging.{whole_is, too_long_is}
 use Rattle.psdl_check.proofs.checks.schema_of.Goals as goal
 

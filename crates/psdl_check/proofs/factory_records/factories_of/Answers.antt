@@ -1,8 +1,8 @@
 use Rattle.std.proofs.Common.{◌∙◌, List, map, ap, arith}
 use Rattle.std.proofs.lemmas.List.{take_all}
-use Rattle.psdl_check.specs.declared.listed.Listed.{Listed}
-use Rattle.psdl_check.specs.Listings.{listed_view}
-use Rattle.psdl_check.specs.Schemas.{factory_of}
+use Rattle.psdl_conditions.specs.declared.listed.Listed.{Listed}
+use Rattle.psdl_conditions.specs.Listings.{listed_view}
+use Rattle.psdl_conditions.specs.Schemas.{factory_of}
 use Rattle.psdl_check.specs.TypedMembers.{typed_views}
 use Rattle.psdl_check.proofs.Indexing.{one_made_more}
 use Rattle.psdl_check.proofs.factory_records.factories_of.Goals as goal

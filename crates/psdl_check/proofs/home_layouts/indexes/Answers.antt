@@ -2,8 +2,8 @@ use Rattle.std.proofs.Common.{◌∙◌, ℕ, List, Bor, map, sym, ap, arith}
 use Rattle.std.specs.List.{flat_map}
 use Rattle.std.specs.Option.{option_to_list}
 use Rattle.std.proofs.lemmas.List.{take_all}
-use Rattle.psdl_check.specs.Held.{members_held}
-use Rattle.psdl_check.specs.Placing.{place_called}
+use Rattle.psdl_conditions.specs.Held.{members_held}
+use Rattle.psdl_conditions.specs.Placing.{place_called}
 use Rattle.psdl_check.specs.TypedMembers.{typed_views}
 use Rattle.psdl_check.proofs.Indexing.{indexes_are, names_as_typed}
 use Rattle.psdl_check.proofs.home_layouts.indexes.Goals as goal

@@ -1,8 +1,8 @@
 use Rattle.std.proofs.Common.{◌≡◌, map, take}
 use Rattle.std.specs.List.{flat_map}
 use Rattle.std.specs.Option.{option_to_list}
-use Rattle.psdl_check.specs.Held.{members_held}
-use Rattle.psdl_check.specs.Placing.{place_called}
+use Rattle.psdl_conditions.specs.Held.{members_held}
+use Rattle.psdl_conditions.specs.Placing.{place_called}
 use Rattle.psdl_check.proofs.home_layouts.indexes.Given as goal
 
 abbrev pub invariant-loop-name : goal.invariant-loop-name

@@ -1,11 +1,11 @@
 use Rattle.std.proofs.Common.{◌≡◌, ◌∙◌, ℕ, List, [], Some, map, sym, ap}
 use Rattle.type_layout.specs.declared.home.HomeNo.{HomeNo}
-use Rattle.psdl_check.specs.declared.members.Member.{Member}
-use Rattle.psdl_check.specs.Descent.{StateMember}
-use Rattle.psdl_check.specs.Directories.{all_of}
-use Rattle.psdl_check.specs.Layouts.{layout_member}
-use Rattle.psdl_check.specs.Membership.{member_views}
-use Rattle.psdl_check.specs.Standings.{all_there, standings}
+use Rattle.psdl_conditions.specs.declared.members.Member.{Member}
+use Rattle.psdl_names.specs.Descent.{StateMember}
+use Rattle.psdl_names.specs.Directories.{all_of}
+use Rattle.psdl_types.specs.Layouts.{layout_member}
+use Rattle.psdl_conditions.specs.Membership.{member_views}
+use Rattle.psdl_names.specs.Standings.{all_there, standings}
 use Rattle.psdl_check.specs.TypedMembers.{typed_views}
 use Rattle.psdl_check.proofs.Indexing.{names_as_typed}
 use Rattle.psdl_check.proofs.Laying.{name_list, names_are}

@@ -1,5 +1,5 @@
 use Rattle.std.proofs.Common.{◌≡◌, ◌++◌, drop, map}
-use Rattle.psdl_check.specs.Directories.{all_of}
+use Rattle.psdl_names.specs.Directories.{all_of}
 use Rattle.psdl_check.specs.HomeNos.{home_nos}
 use Rattle.psdl_check.proofs.Nos.{no_of}
 use Rattle.psdl_check.proofs.home_nos.home_nos.Given as goal

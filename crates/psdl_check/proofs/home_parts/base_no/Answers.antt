@@ -1,7 +1,7 @@
 use Rattle.std.proofs.Common.{ap, ◌∙◌}
 use Rattle.std.specs.Option.{option_map}
-use Rattle.psdl_check.specs.Directories.{all_of}
-use Rattle.psdl_check.specs.Schemas.{home_no}
+use Rattle.psdl_names.specs.Directories.{all_of}
+use Rattle.psdl_conditions.specs.Schemas.{home_no}
 use Rattle.psdl_check.proofs.Assembling.{no_at}
 use Rattle.psdl_check.proofs.home_parts.base_no.Goals as goal
 

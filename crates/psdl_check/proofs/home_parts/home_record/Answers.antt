@@ -1,10 +1,10 @@
 use Rattle.std.proofs.Common.{◌≡◌, ◌∙◌, List, length, map, ap}
 use Rattle.type_layout.specs.Types.{PlainMember}
-use Rattle.psdl_check.specs.Descent.{home_factories}
-use Rattle.psdl_check.specs.Directories.{all_of}
+use Rattle.psdl_names.specs.Descent.{home_factories}
+use Rattle.psdl_names.specs.Directories.{all_of}
 use Rattle.psdl_check.specs.Referring.{lists_in, homes_in}
-use Rattle.psdl_check.specs.Schemas.{referents, home_layout, factory_of}
-use Rattle.psdl_check.specs.Standings.{standings}
+use Rattle.psdl_conditions.specs.Schemas.{referents, home_layout, factory_of}
+use Rattle.psdl_names.specs.Standings.{standings}
 use Rattle.psdl_check.specs.TypedMembers.{typed_views}
 use Rattle.psdl_check.proofs.Assembling.{views_agree, home_is}
 use Rattle.psdl_check.proofs.home_parts.home_record.Goals as goal

@@ -3,8 +3,8 @@ use Rattle.std.specs.List.{flat_map}
 use Rattle.type_layout.specs.ShapeText.{home_line, member_line, key_line}
 use Rattle.psdl_check.specs.Making.{home_by, keyed, lines_after}
 use Rattle.psdl_check.specs.Referring.{lists_in, homes_in}
-use Rattle.psdl_check.specs.LineLengths.{line_length}
-use Rattle.psdl_check.specs.TextLengths.{cut}
+use Rattle.psdl_types.specs.LineLengths.{line_length}
+use Rattle.psdl_types.specs.TextLengths.{cut}
 use Rattle.psdl_check.proofs.Assembling.{home_whole}
 use Rattle.psdl_check.proofs.Lining.{home_length}
 use Rattle.psdl_check.proofs.home_parts.with_home.Goals as goal

@@ -1,7 +1,7 @@
 use Rattle.std.proofs.Common.{◌≡◌, ◌+◌, drop}
 use Rattle.type_layout.specs.ShapeText.{key_line}
 use Rattle.psdl_check.specs.Making.{keyed, lines_after}
-use Rattle.psdl_check.specs.TextLengths.{cut}
+use Rattle.psdl_types.specs.TextLengths.{cut}
 use Rattle.psdl_check.proofs.home_parts.with_keys.Given as goal
 
 abbrev pub invariant-loop-number : goal.invariant-loop-number

@@ -1,7 +1,7 @@
 use Rattle.std.proofs.Common.{List, ap, ◌++◌, map}
-use Rattle.psdl_check.specs.declared.listed.Listed.{Listed as ListedNode}
+use Rattle.psdl_conditions.specs.declared.listed.Listed.{Listed as ListedNode}
 use Rattle.psdl_check.specs.Introductions.{introduced_views, new_keys}
-use Rattle.psdl_check.specs.Listings.{listed_view}
+use Rattle.psdl_conditions.specs.Listings.{listed_view}
 use Rattle.psdl_check.proofs.Introducing.{all_added, none_left}
 use Rattle.psdl_check.proofs.introduced_keys.add_all_new.Goals as goal
 

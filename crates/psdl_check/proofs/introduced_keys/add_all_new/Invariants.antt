@@ -1,6 +1,6 @@
 use Rattle.std.proofs.Common.{◌≡◌, ◌++◌, map}
 use Rattle.psdl_check.specs.Introductions.{introduced_views, new_keys}
-use Rattle.psdl_check.specs.Listings.{listed_view}
+use Rattle.psdl_conditions.specs.Listings.{listed_view}
 use Rattle.psdl_check.proofs.introduced_keys.add_all_new.Given as goal
 
 abbrev pub invariant-loop-listed : goal.invariant-loop-listed

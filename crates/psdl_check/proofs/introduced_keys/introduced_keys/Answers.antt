@@ -1,9 +1,9 @@
 use Rattle.std.proofs.Common.{◌∙◌, List, ℕ, get_or, sym, ap}
-use Rattle.psdl_check.specs.Descent.{has}
-use Rattle.psdl_check.specs.Directories.{all_of}
-use Rattle.psdl_check.specs.Schemas.{introduced}
-use Rattle.psdl_check.proofs.Gathering.{has_item}
-use Rattle.psdl_check.proofs.Inherited.{homes_below}
+use Rattle.psdl_names.specs.Descent.{has}
+use Rattle.psdl_names.specs.Directories.{all_of}
+use Rattle.psdl_conditions.specs.Schemas.{introduced}
+use Rattle.psdl_conditions.proofs.Gathering.{has_item}
+use Rattle.psdl_conditions.proofs.Inherited.{homes_below}
 use Rattle.psdl_check.proofs.Introducing.{next_home, all_done}
 use Rattle.psdl_check.specs.Introductions.{introduced_views}
 use Rattle.psdl_check.proofs.introduced_keys.introduced_keys.Goals as goal

@@ -1,8 +1,8 @@
 use Rattle.std.proofs.Common.{◌≡◌, take}
 use Rattle.std.specs.List.{flat_map}
-use Rattle.psdl_check.specs.Directories.{all_of}
+use Rattle.psdl_names.specs.Directories.{all_of}
 use Rattle.psdl_check.specs.Introductions.{introduced_views}
-use Rattle.psdl_check.specs.Schemas.{introduced}
+use Rattle.psdl_conditions.specs.Schemas.{introduced}
 use Rattle.psdl_check.proofs.introduced_keys.introduced_keys.Given as goal
 
 abbrev pub invariant-loop-home : goal.invariant-loop-home

@@ -1,5 +1,5 @@
 use Rattle.std.proofs.Common.{ℕ, List, ap, ◌∙◌}
-use Rattle.psdl_check.specs.declared.listed.Listed.{Listed as ListedNode}
+use Rattle.psdl_conditions.specs.declared.listed.Listed.{Listed as ListedNode}
 use Rattle.psdl_check.specs.KeyChains.{first_of}
 use Rattle.psdl_check.proofs.Chained.{entered, entry_is}
 use Rattle.psdl_check.proofs.key_chains.put_first.Goals as goal

@@ -1,9 +1,9 @@
 use Rattle.std.proofs.Common.{◌+◌, ◌<◌, ◌∙◌, ℕ, Bool, Option, None, nat_eq, length, sym, arith}
 use Rattle.std.specs.List.{position_from}
 use Rattle.indexmap.specs.IndexSet.{contains}
-use Rattle.psdl_check.specs.Descent.{Listed}
+use Rattle.psdl_names.specs.Descent.{Listed}
 use Rattle.psdl_check.specs.Introductions.{introduced_views}
-use Rattle.psdl_check.specs.Listings.{listed_view}
+use Rattle.psdl_conditions.specs.Listings.{listed_view}
 use Rattle.psdl_check.proofs.Finding.{OnWay, in_line, way_begins, found_here, found_later, from_any, fewer_left, there_anyhow, views_as_long}
 use Rattle.psdl_check.proofs.key_nos.first_in_line.Goals as goal
 

@@ -2,7 +2,7 @@ use Rattle.std.proofs.Common.{length, nat_eq}
 use Rattle.std.specs.List.{position_from}
 use Rattle.indexmap.specs.IndexSet.{contains}
 use Rattle.psdl_check.specs.Introductions.{introduced_views}
-use Rattle.psdl_check.specs.Listings.{listed_view}
+use Rattle.psdl_conditions.specs.Listings.{listed_view}
 use Rattle.psdl_check.proofs.Finding.{OnWay, in_line, left_from}
 use Rattle.psdl_check.proofs.key_nos.first_in_line.Given as goal
 

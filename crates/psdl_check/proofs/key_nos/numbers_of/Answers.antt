@@ -2,7 +2,7 @@ use Rattle.std.proofs.Common.{ℕ, List, nat_eq, ap, Option}
 use Rattle.std.specs.List.{position_from}
 use Rattle.std.specs.Option.{option_to_list}
 use Rattle.indexmap.specs.IndexSet.{contains}
-use Rattle.psdl_check.specs.Descent.{Listed}
+use Rattle.psdl_names.specs.Descent.{Listed}
 use Rattle.psdl_check.specs.Introductions.{introduced_views}
 use Rattle.psdl_check.proofs.Finding.{in_line}
 use Rattle.psdl_check.proofs.Lined.{numbers_more, numbers_done}

@@ -4,7 +4,7 @@ use Rattle.std.specs.Option.{option_to_list}
 use Rattle.indexmap.specs.IndexSet.{contains}
 use Rattle.psdl_check.specs.Introductions.{introduced_views}
 use Rattle.psdl_check.specs.KeyNumbers.{key_no_of}
-use Rattle.psdl_check.specs.Listings.{listed_view}
+use Rattle.psdl_conditions.specs.Listings.{listed_view}
 use Rattle.psdl_check.proofs.Finding.{in_line}
 use Rattle.psdl_check.proofs.key_nos.numbers_of.Given as goal
 

@@ -1,7 +1,7 @@
 use Rattle.std.proofs.Common.{◌≡◌, ◌∙◌, ◌<◌, List, length, get_or, ap, arith, rules}
-use Rattle.psdl_check.specs.Directories.{all_of}
-use Rattle.psdl_check.specs.Schemas.{key_of, referents}
-use Rattle.psdl_check.specs.Standings.{standings}
+use Rattle.psdl_names.specs.Directories.{all_of}
+use Rattle.psdl_conditions.specs.Schemas.{key_of, referents}
+use Rattle.psdl_names.specs.Standings.{standings}
 use Rattle.psdl_check.proofs.Recorded.{key_home_below, number_there, length-home_nos, key_is, keys_more, stay_further}
 use Rattle.psdl_check.specs.declared.key_table.IntroducedKey.{IntroducedKey}
 use Rattle.psdl_check.proofs.key_records.key_list.Goals as goal

@@ -1,12 +1,12 @@
 use Rattle.std.proofs.Common.{◌≡◌, map, take}
 use Rattle.std.specs.Option.{IfSome}
-use Rattle.psdl_check.specs.Directories.{all_of}
+use Rattle.psdl_names.specs.Directories.{all_of}
 use Rattle.psdl_check.specs.KeyRecords.{IsLaidOut}
 use Rattle.psdl_check.specs.KeyTables.{introduced_view}
-use Rattle.psdl_check.specs.Schemas.{key_of}
-use Rattle.psdl_check.specs.Standings.{standings}
-use Rattle.psdl_check.specs.TypeNodes.{Extends}
-use Rattle.psdl_check.specs.TypeTables.{IsTypeTable}
+use Rattle.psdl_conditions.specs.Schemas.{key_of}
+use Rattle.psdl_names.specs.Standings.{standings}
+use Rattle.psdl_types.specs.TypeNodes.{Extends}
+use Rattle.psdl_types.specs.TypeTables.{IsTypeTable}
 use Rattle.psdl_check.proofs.key_records.key_list.Given as goal
 
 abbrev pub invariant-loop-key : goal.invariant-loop-key

@@ -1,6 +1,6 @@
 use Rattle.std.proofs.Common.{◌∙◌, ◌++◌, ℕ, List, Bor, ap}
-use Rattle.psdl_check.specs.Listings.{names_in}
-use Rattle.psdl_check.specs.Schemas.{indexes}
+use Rattle.psdl_conditions.specs.Listings.{names_in}
+use Rattle.psdl_conditions.specs.Schemas.{indexes}
 use Rattle.psdl_check.specs.TypedMembers.{typed_views}
 use Rattle.psdl_check.proofs.Recorded.{made_alike}
 use Rattle.psdl_check.proofs.key_records.key_record.Goals as goal

@@ -1,7 +1,7 @@
 use Rattle.std.proofs.Common.{◌+◌, ◌∙◌, List, ℕ, length, ap}
-use Rattle.psdl_check.specs.Directories.{all_of}
+use Rattle.psdl_names.specs.Directories.{all_of}
 use Rattle.psdl_check.specs.Referring.{lists_in}
-use Rattle.psdl_check.specs.TextLengths.{cut}
+use Rattle.psdl_types.specs.TextLengths.{cut}
 use Rattle.psdl_check.proofs.Assembling.{home_lines_are}
 use Rattle.psdl_check.proofs.making.add_home.Goals as goal
 

@@ -1,10 +1,10 @@
 use Rattle.std.proofs.Common.{◌≡◌, ◌∙◌, ◌<◌, ◌+◌, List, ℕ, Some, false, true, length, sym, ap, arith}
 use Rattle.std.specs.List.{slice_get}
-use Rattle.psdl_check.specs.Descent.{concrete_homes}
-use Rattle.psdl_check.specs.Directories.{all_of}
-use Rattle.psdl_check.specs.Inheritance.{Inheritance}
+use Rattle.psdl_names.specs.Descent.{concrete_homes}
+use Rattle.psdl_names.specs.Directories.{all_of}
+use Rattle.psdl_conditions.specs.Inheritance.{Inheritance}
 use Rattle.psdl_check.specs.Making.{lines_at, lines_before}
-use Rattle.psdl_check.specs.TextLengths.{cut}
+use Rattle.psdl_types.specs.TextLengths.{cut}
 use Rattle.psdl_check.proofs.Overlong.{over_is, longer, fits_more, passed_here, never_passed, all_made, made_more, home_at, home_declared}
 use Rattle.psdl_check.proofs.making.add_homes.Goals as goal
 
@@ -26,6 +26,7 @@ loop-place-preserved c =
       within = omega (arith, lt, ap (λ (l : List ℕ). length l) c.requires.tables.homes);
       types = c.add_home.ensures.types;
       graph = ap (λ (i : Inheritance). i.graph) c.add_home.ensures.same ∙ c.loop-place.invariant.graph;
+      own = ap (λ (i : Inheritance). i.own) c.add_home.ensures.same ∙ c.loop-place.invariant.own;
       list = made_more all c.loop-place.place c.index-home.result.now c.loop-place.list c.add_home.new.list there c.loop-place.invariant.list (c.in_ok-length.ensures.list (sym c.is_over.ensures ∙ c.if-is_over.false));
       length = total;
       fits = fits_more all c.loop-place.place c.loop-place.invariant.fits (over_is all (c.loop-place.place + 1) c.in_ok-length.length.0 false total (sym c.if-is_over.false ∙ c.is_over.ensures));

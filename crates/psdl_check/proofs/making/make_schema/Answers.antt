@@ -1,7 +1,7 @@
 use Rattle.std.proofs.Common.{◌≡◌, Some, None}
-use Rattle.psdl_check.specs.Directories.{all_of}
-use Rattle.psdl_check.specs.Faults.{passing}
-use Rattle.psdl_check.specs.Schemas.{schema}
+use Rattle.psdl_names.specs.Directories.{all_of}
+use Rattle.psdl_conditions.specs.Faults.{passing}
+use Rattle.psdl_conditions.specs.Schemas.{schema}
 use Rattle.std.proofs.Common.{sym, ◌∙◌}
 use Rattle.psdl_check.proofs.Judging.{none_then, passing_declared, shape_is, schema_is}
 use Rattle.psdl_check.proofs.making.make_schema.Goals as goal

@@ -1,9 +1,9 @@
 use Rattle.std.proofs.Common.{◌≡◌, ◌++◌, drop, map}
 use Rattle.std.specs.List.{flat_map}
 use Rattle.psdl_tree.specs.Views.{provision_view}
-use Rattle.psdl_check.specs.Directories.{all_of}
-use Rattle.psdl_check.specs.Lookup.{at}
-use Rattle.psdl_check.specs.Schemas.{provided_home}
+use Rattle.psdl_names.specs.Directories.{all_of}
+use Rattle.psdl_names.specs.Lookup.{at}
+use Rattle.psdl_conditions.specs.Schemas.{provided_home}
 use Rattle.psdl_check.proofs.provided_homes.add_catalog.Given as goal
 
 abbrev pub invariant-loop-provision : goal.invariant-loop-provision

@@ -1,7 +1,7 @@
 use Rattle.std.proofs.Common.{◌<◌, List, length, ap, arith}
 use Rattle.psdl_tree.specs.Views.{provision_view}
 use Rattle.type_layout.specs.declared.home.HomeNo.{HomeNo}
-use Rattle.psdl_check.specs.Directories.{all_of}
+use Rattle.psdl_names.specs.Directories.{all_of}
 use Rattle.psdl_check.proofs.Provisioning.{length-home_nos, home_no_at, one_provided}
 use Rattle.psdl_check.proofs.provided_homes.add_provided.Goals as goal
 

@@ -1,7 +1,7 @@
 use Rattle.std.proofs.Common.{◌≡◌, ◌≤◌, ◌++◌, drop, length}
 use Rattle.std.specs.List.{flat_map, enumerate_from}
-use Rattle.psdl_check.specs.Directories.{all_of}
-use Rattle.psdl_check.specs.Schemas.{provided_homes}
+use Rattle.psdl_names.specs.Directories.{all_of}
+use Rattle.psdl_conditions.specs.Schemas.{provided_homes}
 use Rattle.psdl_check.proofs.provided_homes.provided_homes.Given as goal
 
 abbrev pub invariant-loop-number : goal.invariant-loop-number

@@ -1,5 +1,5 @@
 use Rattle.std.proofs.Common.{◌<◌, length}
-use Rattle.psdl_check.specs.Directories.{all_of}
+use Rattle.psdl_names.specs.Directories.{all_of}
 use Rattle.psdl_check.proofs.Provisioning.{provider_below}
 use Rattle.psdl_check.proofs.provided_homes.provider_of.Goals as goal
 

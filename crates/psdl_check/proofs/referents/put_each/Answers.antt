@@ -1,7 +1,7 @@
 use Rattle.std.proofs.Common.{◌∙◌, get_or, arith}
 use Rattle.psdl_check.specs.Referring.{homes_in, lists_in}
 use Rattle.psdl_check.proofs.Conformed.{one_number_more}
-use Rattle.psdl_check.proofs.Firsts.{there_at}
+use Rattle.psdl_conditions.proofs.Firsts.{there_at}
 use Rattle.psdl_check.proofs.referents.put_each.Goals as goal
 
 pub put_last-requires : goal.put_last-requires

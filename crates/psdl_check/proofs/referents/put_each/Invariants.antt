@@ -1,6 +1,6 @@
 use Rattle.std.proofs.Common.{◌≡◌, length, take}
 use Rattle.psdl_check.specs.Conforming.{IsPutLast}
-use Rattle.psdl_check.specs.Descent.{has}
+use Rattle.psdl_names.specs.Descent.{has}
 use Rattle.psdl_check.proofs.referents.put_each.Given as goal
 
 abbrev pub invariant-loop-number : goal.invariant-loop-number

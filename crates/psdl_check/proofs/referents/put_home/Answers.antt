@@ -1,13 +1,13 @@
 use Rattle.std.proofs.Common.{◌≡◌, ◌∙◌, ◌<◌, ◌++◌, ◌∷◌, [], ℕ, List, Bool, Option, Some, false, cond, length, ap, arith}
 use Rattle.type_layout.specs.Schemas.{given}
 use Rattle.psdl_check.specs.Conforming.{has_type}
-use Rattle.psdl_check.specs.Descent.{has, ancestry, conforms}
-use Rattle.psdl_check.specs.Directories.{all_of}
+use Rattle.psdl_names.specs.Descent.{has, ancestry, conforms}
+use Rattle.psdl_names.specs.Directories.{all_of}
 use Rattle.psdl_check.specs.Referring.{homes_in, lists_in}
 use Rattle.psdl_check.proofs.Conformed.{found_once_each}
-use Rattle.psdl_check.proofs.Descending.{found_is}
-use Rattle.psdl_check.proofs.Homing.{ancestors_below}
-use Rattle.psdl_check.proofs.Typed.{there_in, some_there}
+use Rattle.psdl_conditions.proofs.Descending.{found_is}
+use Rattle.psdl_conditions.proofs.Homing.{ancestors_below}
+use Rattle.psdl_conditions.proofs.Typed.{there_in, some_there}
 use Rattle.psdl_check.proofs.referents.put_home.Goals as goal
 
 pub ancestry-requires : goal.ancestry-requires

@@ -1,14 +1,14 @@
 use Rattle.std.proofs.Common.{◌≡◌, ◌∙◌, ◌+◌, ℕ, List, map, filter, get_or, ap, sym, arith}
 use Rattle.std.proofs.lemmas.List.{take_all}
 use Rattle.psdl_check.specs.Conforming.{has_type}
-use Rattle.psdl_check.specs.Descent.{has}
-use Rattle.psdl_check.specs.Directories.{all_of}
-use Rattle.psdl_check.specs.Inheritance.{Inheritance}
+use Rattle.psdl_names.specs.Descent.{has}
+use Rattle.psdl_names.specs.Directories.{all_of}
+use Rattle.psdl_conditions.specs.Inheritance.{Inheritance}
 use Rattle.psdl_check.specs.Referring.{homes_in, lists_in}
-use Rattle.psdl_check.specs.Schemas.{home_no}
+use Rattle.psdl_conditions.specs.Schemas.{home_no}
 use Rattle.psdl_check.proofs.Conformed.{length_of, number_is, one_home_more_in, all_referents}
-use Rattle.psdl_check.proofs.Firsts.{there_at}
-use Rattle.psdl_check.proofs.Inherited.{homes_below}
+use Rattle.psdl_conditions.proofs.Firsts.{there_at}
+use Rattle.psdl_conditions.proofs.Inherited.{homes_below}
 use Rattle.psdl_check.proofs.referents.referents.Goals as goal
 
 pub put_home-requires-clause-home : goal.put_home-requires-clause-home

@@ -1,8 +1,8 @@
 use Rattle.std.proofs.Common.{◌≡◌, ℕ, length, map, filter, take}
 use Rattle.psdl_check.specs.Conforming.{has_type}
-use Rattle.psdl_check.specs.Directories.{all_of}
+use Rattle.psdl_names.specs.Directories.{all_of}
 use Rattle.psdl_check.specs.Referring.{homes_in, lists_in}
-use Rattle.psdl_check.specs.Schemas.{home_no}
+use Rattle.psdl_conditions.specs.Schemas.{home_no}
 use Rattle.psdl_check.proofs.referents.referents.Given as goal
 
 abbrev pub invariant-loop-home : goal.invariant-loop-home

@@ -5,11 +5,11 @@ use Rattle.psdl_tree.specs.Trees.{StateType, PlainState, Reference}
 use Rattle.psdl_tree.specs.Views.{name_view, plain_type_view, state_type_view}
 use Rattle.type_layout.specs.declared.home.HomeNo.{HomeNo}
 use Rattle.psdl_check.specs.declared.typed_members.MemberType.{MemberType}
-use Rattle.psdl_check.specs.Directories.{all_of}
-use Rattle.psdl_check.specs.Layouts.{member_type, state_type_by}
-use Rattle.psdl_check.specs.Lookup.{at, defined}
-use Rattle.psdl_check.specs.Membership.{member_view}
-use Rattle.psdl_check.specs.Standings.{sight, standings}
+use Rattle.psdl_names.specs.Directories.{all_of}
+use Rattle.psdl_types.specs.Layouts.{member_type, state_type_by}
+use Rattle.psdl_names.specs.Lookup.{at, defined}
+use Rattle.psdl_conditions.specs.Membership.{member_view}
+use Rattle.psdl_names.specs.Standings.{sight, standings}
 use Rattle.psdl_check.specs.TypedMembers.{type_by}
 use Rattle.psdl_check.proofs.Laying.{reference_found}
 use Rattle.psdl_check.proofs.typed_members.type_of_member.Goals as goal

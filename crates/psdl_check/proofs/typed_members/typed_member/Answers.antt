@@ -1,6 +1,6 @@
 use Rattle.std.proofs.Common.{◌≡◌, Some, None}
-use Rattle.psdl_check.specs.Directories.{all_of}
-use Rattle.psdl_check.specs.Standings.{standings}
+use Rattle.psdl_names.specs.Directories.{all_of}
+use Rattle.psdl_names.specs.Standings.{standings}
 use Rattle.psdl_check.proofs.Laying.{typed_some, typed_none}
 use Rattle.psdl_check.proofs.typed_members.typed_member.Goals as goal
 

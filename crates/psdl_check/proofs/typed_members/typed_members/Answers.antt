@@ -2,12 +2,12 @@ use Rattle.std.proofs.Common.{◌≡◌, ◌∙◌, ◌++◌, ◌∷◌, [], Lis
 use Rattle.std.specs.Option.{IfSome}
 use Rattle.type_layout.specs.Types.{PlainMember}
 use Rattle.psdl_check.specs.declared.typed_members.TypedMember.{TypedMember}
-use Rattle.psdl_check.specs.Directories.{all_of}
-use Rattle.psdl_check.specs.Layouts.{layout_member}
-use Rattle.psdl_check.specs.Standings.{standings}
+use Rattle.psdl_names.specs.Directories.{all_of}
+use Rattle.psdl_types.specs.Layouts.{layout_member}
+use Rattle.psdl_names.specs.Standings.{standings}
 use Rattle.psdl_check.specs.TypedMembers.{typed_view, typed_views, is_there, AreThere}
 use Rattle.psdl_check.proofs.Laying.{extends_further, all_still, all_with, views_kept, one_laid_more, one_not_there}
-use Rattle.psdl_check.proofs.Recording.{within_at}
+use Rattle.psdl_conditions.proofs.Recording.{within_at}
 use Rattle.psdl_check.proofs.typed_members.typed_members.Goals as goal
 
 pub typed_member-requires-clause-home : goal.typed_member-requires-clause-home

@@ -1,11 +1,11 @@
 use Rattle.std.proofs.Common.{◌≡◌, ℕ, List, Some, length, map, take}
 use Rattle.type_layout.specs.declared.home.HomeNo.{HomeNo}
-use Rattle.psdl_check.specs.Directories.{all_of}
-use Rattle.psdl_check.specs.Layouts.{layout_member}
-use Rattle.psdl_check.specs.Membership.{member_views}
-use Rattle.psdl_check.specs.Standings.{standings, all_there}
-use Rattle.psdl_check.specs.TypeNodes.{Extends}
-use Rattle.psdl_check.specs.TypeTables.{IsTypeTable}
+use Rattle.psdl_names.specs.Directories.{all_of}
+use Rattle.psdl_types.specs.Layouts.{layout_member}
+use Rattle.psdl_conditions.specs.Membership.{member_views}
+use Rattle.psdl_names.specs.Standings.{standings, all_there}
+use Rattle.psdl_types.specs.TypeNodes.{Extends}
+use Rattle.psdl_types.specs.TypeTables.{IsTypeTable}
 use Rattle.psdl_check.specs.TypedMembers.{typed_views, AreThere}
 use Rattle.psdl_check.proofs.typed_members.typed_members.Given as goal
 

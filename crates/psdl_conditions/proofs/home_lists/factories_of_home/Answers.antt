@@ -1,0 +1,18 @@
+use Rattle.std.proofs.Common.{◌∙◌, List, ℕ, ap, arith, length}
+use Rattle.psdl_names.specs.Directories.{all_of}
+use Rattle.psdl_conditions.proofs.Ancestry.{length-graph_of}
+use Rattle.psdl_conditions.proofs.Owned.{owned_factories, owners_below}
+use Rattle.psdl_conditions.proofs.home_lists.factories_of_home.Goals as goal
+
+pub contributors-requires : goal.contributors-requires
+contributors-requires c =
+    omega (arith, c.requires.home, ap (λ (g : List (List ℕ)). length g) c.requires.graph, length-graph_of (all_of c.args.directory.now))
+
+pub factories_of-requires : goal.factories_of-requires
+factories_of-requires c n h =
+    owners_below (all_of c.args.directory.now) c.args.heritage.now.own c.args.heritage.now.graph c.in_ok-contributors.contributors.items c.args.home n c.requires.graph c.in_ok-contributors.ensures.contributors
+    c.requires.home (rw c.deref.ensures.value at h)
+
+pub returns-clause-factories : goal.returns-clause-factories
+returns-clause-factories c =
+    c.in_ok-factories.ensures ∙ rw c.deref.ensures.value (owned_factories (all_of c.args.directory.now) c.args.heritage.now.own c.args.heritage.now.graph c.in_ok-contributors.contributors.items c.args.home c.requires.graph c.requires.own c.in_ok-contributors.ensures.contributors)

@@ -1,0 +1,33 @@
+-- Those of what a definition descends from that have something of their own.
+use Rattle.std.specs.Prelude.{◌≡◌, ◌<◌, ℕ, List, Bool, true, false, map, filter, Option, Some, None, is_some, option_map, ◌==◌}
+use Rattle.std.proofs.Common.{get_or}
+use Rattle.std.specs.declared.vec.Vec.{Vec}
+use Rattle.psdl_names.specs.Descent.{has, without_repeats}
+use Rattle.psdl_conditions.specs.Lineage.{parents_in, ancestry_in}
+use Rattle.psdl_conditions.specs.Walking.{is_marked}
+
+abbrev pub is_own : List Bool → ℕ → Bool
+is_own own n = get_or own n false
+
+abbrev pub contributors_in : List (List ℕ) → List Bool → ℕ → List ℕ
+contributors_in graph own n = filter (is_own own) (ancestry_in graph n)
+
+abbrev pub lists_of : {A : Type 0} → List (Option (Vec ℕ A)) → List (Option (List ℕ))
+lists_of kept = map (λ o. option_map (λ v. v.items) o) kept
+
+abbrev pub list_at : List (Option (List ℕ)) → ℕ → Option (List ℕ)
+list_at lists n = get_or lists n None
+
+-- lists that are kept, each below lists that are kept
+pub record AreKept (graph : List (List ℕ)) (own : List Bool) (lists : List (Option (List ℕ))) : Type 0 where
+  pub list : (n : ℕ) (xs : List ℕ) → list_at lists n ≡ Some xs → xs ≡ contributors_in graph own n
+  pub low : (n p : ℕ) → is_some (list_at lists n) ≡ true → has (parents_in graph n) p ≡ true → (p < n) × (is_some (list_at lists p) ≡ true)
+
+-- what is marked is what was joined, each once
+pub record AreJoined (marks : List Bool) (numbers : List ℕ) : Type 0 where
+  pub distinct : without_repeats (λ a b. a == b) numbers ≡ numbers
+  pub marked : (n : ℕ) → is_marked marks n ≡ has numbers n
+
+-- all that a definition names is lower and kept
+abbrev pub NamesKept : List (List ℕ) → List (Option (List ℕ)) → ℕ → Type 0
+NamesKept graph lists n = (p : ℕ) → has (parents_in graph n) p ≡ true → (p < n) × (is_some (list_at lists p) ≡ true)

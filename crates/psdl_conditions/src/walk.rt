@@ -1,0 +1,140 @@
+// A walk over the definitions that others name, each behind those that it names.
+ghost use Rattle.std.specs.Prelude.{◌≡◌, ◌<◌, ◌≤◌, ◌∷◌, ◌++◌, [], true, length, drop, IfOk, OnOk, slice_set, if◌then◌else◌, ◌==◌};
+ghost use Rattle.psdl_conditions.specs.Walking.{IsWalk, Moved, is_marked};
+ghost use Rattle.psdl_names.specs.Descent.{without_repeats};
+ghost use Rattle.psdl_conditions.specs.Lineage.{ancestry_in, conforms_in};
+ghost use Rattle.psdl_conditions.specs.Walks.{steps_of, IsIdle};
+
+use crate::lineage::Lineage;
+use crate::marks::Marks;
+use pss_base::NoMemory;
+use std::alloc::Global;
+
+/// A definition on the way, and how many of those that it names were taken.
+#[derive(Clone, Copy)]
+pub(crate) struct Step {
+    pub number: usize,
+    pub next: usize,
+}
+
+/// The steps of the way, the outermost first, and what lies behind them all.
+#[derive(Drop)]
+pub(crate) struct Walk {
+    way: Vec<Step>,
+    found: Vec<usize>,
+}
+
+impl Walk {
+    pub(crate) fn new(alloc: Global) -> Walk
+        ensures way { result.way.items ≡ [] }
+        ensures found { result.found.items ≡ [] }
+    {
+        Walk {
+            way: Vec::new(alloc),
+            found: Vec::new(alloc),
+        }
+    }
+
+    // Steps on a definition, unless it is marked.
+    fn enter(&mut self, marks: &mut Marks, number: usize) -> Result<(), NoMemory>
+        requires { number < length marks.old }
+        ensures sized { length marks.new ≡ length marks.old }
+        ensures marks { OnOk result (marks.new ≡ (if is_marked marks.old number then marks.old else slice_set marks.old number true)) }
+        ensures way { OnOk result (self.new.way.items ≡ (if is_marked marks.old number then self.old.way.items else self.old.way.items ++ record { number = number; next = 0 } ∷ [])) }
+        ensures found { self.new.found.items ≡ self.old.found.items }
+    {
+        if !marks.has(number) {
+            marks.mark(number);
+            self.way.push(Step { number, next: 0 })?;
+        }
+        Ok(())
+    }
+
+    // Takes the next that is named at a step, or leaves that step.
+    fn go(&mut self, lineage: &Lineage, marks: &mut Marks, step: Step) -> Result<(), NoMemory>
+        requires { IsWalk lineage.now marks.old (step ∷ steps_of self.old) self.old.found.items }
+        ensures sized { length marks.new ≡ length marks.old }
+        ensures moved { OnOk result (Moved lineage.now marks.old (step ∷ steps_of self.old) self.old.found.items marks.new (steps_of self.new) self.new.found.items) }
+    {
+        match lineage.parent(step.number, step.next) {
+            None => {
+                self.found.push(step.number)?;
+                Ok(())
+            }
+            Some(parent) => {
+                self.way.push(Step {
+                    number: step.number,
+                    next: step.next + 1,
+                })?;
+                self.enter(marks, parent)?;
+                Ok(())
+            }
+        }
+    }
+
+    /// Walks from a definition, and finds what it descends from, in order, but what was found before.
+    pub(crate) fn run(
+        &mut self,
+        lineage: &Lineage,
+        marks: &mut Marks,
+        number: usize,
+    ) -> Result<(), NoMemory>
+        requires number { number < length lineage.now }
+        requires idle { IsIdle lineage.now marks.old self.old }
+        ensures sized { length marks.new ≡ length marks.old }
+        ensures idle { OnOk result (IsIdle lineage.now marks.new self.new) }
+        ensures found { OnOk result (self.new.found.items ≡ without_repeats (λ a b. a == b) (self.old.found.items ++ ancestry_in lineage.now number)) }
+    {
+        self.enter(marks, number)?;
+        while let Some(step) = self.way.pop() {
+            self.go(lineage, marks, step)?;
+        }
+        Ok(())
+    }
+
+    /// Walks from a definition until another is entered, and says whether it was.
+    pub(crate) fn run_to(
+        &mut self,
+        lineage: &Lineage,
+        marks: &mut Marks,
+        from: usize,
+        to: usize,
+    ) -> Result<bool, NoMemory>
+        requires from { from < length lineage.now }
+        requires to { to < length lineage.now }
+        requires idle { IsIdle lineage.now marks.old self.old }
+        requires fresh { self.old.found.items ≡ [] }
+        ensures sized { length marks.new ≡ length marks.old }
+        ensures descends { IfOk result (λ r. r ≡ conforms_in lineage.now from to) }
+    {
+        self.enter(marks, from)?;
+        while let Some(step) = self.way.pop() {
+            if marks.has(to) {
+                return Ok(true);
+            }
+            self.go(lineage, marks, step)?;
+        }
+        Ok(marks.has(to))
+    }
+
+    pub(crate) fn into_found(self) -> Vec<usize>
+        ensures { result.items ≡ self.found.items }
+    {
+        self.found
+    }
+
+    /// How many were found.
+    pub(crate) fn len(&self) -> usize
+        ensures { result ≡ length self.now.found.items }
+    {
+        self.found.len()
+    }
+
+    /// What was found but for the first so many.
+    pub(crate) fn found_since(&self, before: usize) -> &[usize]
+        requires { before ≤ length self.now.found.items }
+        ensures { result.now ≡ drop before self.now.found.items }
+    {
+        &self.found[before..]
+    }
+}

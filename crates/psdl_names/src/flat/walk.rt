@@ -1,0 +1,195 @@
+// The walk over a tree that finds its declarations.
+ghost use Rattle.std.specs.Prelude.{◌≡◌, ◌<◌, ◌++◌, ◌∷◌, [], length, map, IfOk, OnOk};
+ghost use Rattle.psdl_tree.specs.Trees.{ConstantDefinition, TypeDefinitionDefinition, StructDefinition, EnumerationDefinition, AbstractTypeDefinition, StorageTypeDefinition, AbstractHomeDefinition, StorageHomeDefinition, CatalogDefinition};
+ghost use Rattle.psdl_tree.specs.Views as views;
+ghost use Rattle.psdl_names.specs.Declarations.{IsEnumerator, declared, aliases, declared_by, declarations, all_declarations};
+ghost use Rattle.psdl_names.specs.Nodes.{what_view};
+ghost use Rattle.psdl_names.specs.Flattened.{all_in};
+ghost use Rattle.psdl_names.specs.Tables.{path_at, Grows};
+
+use crate::declaration::{Declaration, What};
+use crate::flat::Flat;
+use crate::scopes::Scopes;
+use psdl_tree::{
+    Declarator, Definition, Enumeration, Identifier, Module, Tree, TypeDefinition, TypeSpec,
+};
+use pss_base::NoMemory;
+use std::alloc::Global;
+
+fn add<'a>(
+    flat: &mut Flat<'a>,
+    scope: usize,
+    identifier: &'a Identifier,
+    what: What<'a>,
+) -> Result<(), NoMemory>
+    requires { scope < length flat.old.scopes }
+    ensures scopes { OnOk result (flat.new.scopes ≡ flat.old.scopes) }
+    ensures declarations { OnOk result (all_in flat.new ≡ all_in flat.old ++ declared (path_at flat.old.scopes scope) (what_view what.entry) identifier.now ∷ []) }
+{
+    flat.declarations.push(Declaration {
+        scope,
+        name: identifier.name.as_slice(),
+        place: identifier.place,
+        what,
+    })?;
+    Ok(())
+}
+
+fn add_enumerators<'a>(
+    flat: &mut Flat<'a>,
+    scope: usize,
+    names: &'a [Identifier],
+) -> Result<(), NoMemory>
+    requires { scope < length flat.old.scopes }
+    ensures scopes { OnOk result (flat.new.scopes ≡ flat.old.scopes) }
+    ensures declarations { OnOk result (all_in flat.new ≡ all_in flat.old ++ map (declared (path_at flat.old.scopes scope) IsEnumerator) names.now) }
+{
+    for name in names {
+        add(flat, scope, name, What::Enumerator)?;
+    }
+    Ok(())
+}
+
+fn add_enumeration<'a>(
+    flat: &mut Flat<'a>,
+    scope: usize,
+    enumeration: &'a Enumeration,
+) -> Result<(), NoMemory>
+    requires { scope < length flat.old.scopes }
+    ensures scopes { OnOk result (flat.new.scopes ≡ flat.old.scopes) }
+    ensures declarations { OnOk result (all_in flat.new ≡ all_in flat.old ++ declared_by (path_at flat.old.scopes scope) (EnumerationDefinition (views.enumeration_view enumeration.now))) }
+{
+    let names = &enumeration.enumerators;
+    add(flat, scope, &enumeration.name, What::Enumeration(names))?;
+    add(flat, scope, &names.first, What::Enumerator)?;
+    add_enumerators(flat, scope, &names.others)?;
+    Ok(())
+}
+
+// The declarators of a typedef behind the first.
+fn add_aliases<'a>(
+    flat: &mut Flat<'a>,
+    scope: usize,
+    spec: &'a TypeSpec,
+    others: &'a [Declarator],
+) -> Result<(), NoMemory>
+    requires { scope < length flat.old.scopes }
+    ensures scopes { OnOk result (flat.new.scopes ≡ flat.old.scopes) }
+    ensures declarations { OnOk result (all_in flat.new ≡ all_in flat.old ++ aliases (path_at flat.old.scopes scope) (views.type_spec_view spec.now) 1 (map views.declarator_view others.now)) }
+{
+    for i in 0..others.len() {
+        add_alias(flat, scope, i + 1, spec, &others[i])?;
+    }
+    Ok(())
+}
+
+fn add_alias<'a>(
+    flat: &mut Flat<'a>,
+    scope: usize,
+    before: usize,
+    spec: &'a TypeSpec,
+    declarator: &'a Declarator,
+) -> Result<(), NoMemory>
+    requires { scope < length flat.old.scopes }
+    ensures scopes { OnOk result (flat.new.scopes ≡ flat.old.scopes) }
+    ensures declarations { OnOk result (all_in flat.new ≡ all_in flat.old ++ aliases (path_at flat.old.scopes scope) (views.type_spec_view spec.now) before (views.declarator_view declarator.now ∷ [])) }
+{
+    let what = What::Alias(before, spec, &declarator.dimensions);
+    add(flat, scope, &declarator.name, what)
+}
+
+fn add_type_definition<'a>(
+    flat: &mut Flat<'a>,
+    scope: usize,
+    definition: &'a TypeDefinition,
+) -> Result<(), NoMemory>
+    requires { scope < length flat.old.scopes }
+    ensures scopes { OnOk result (flat.new.scopes ≡ flat.old.scopes) }
+    ensures declarations { OnOk result (all_in flat.new ≡ all_in flat.old ++ declared_by (path_at flat.old.scopes scope) (TypeDefinitionDefinition (views.type_definition_view definition.now))) }
+{
+    let declarators = &definition.declarators;
+    let spec = &definition.spec;
+    add_alias(flat, scope, 0, spec, &declarators.first)?;
+    add_aliases(flat, scope, spec, &declarators.others)?;
+    Ok(())
+}
+
+#[cycle(walk)]
+fn add_module<'a>(flat: &mut Flat<'a>, scope: usize, module: &'a Module) -> Result<(), NoMemory>
+    requires { scope < length flat.old.scopes }
+    ensures grows { OnOk result (Grows flat.old.scopes flat.new.scopes) }
+    ensures declarations { OnOk result (all_in flat.new ≡ all_in flat.old ++ declared_by (path_at flat.old.scopes scope) (views.module_view «module».now)) }
+{
+    add(flat, scope, &module.name, What::Module)?;
+    let inner = flat.scopes.open(scope, module.name.name.as_slice())?;
+    add_definitions(flat, inner, &module.definitions)?;
+    Ok(())
+}
+
+#[cycle(walk)]
+fn add_definition<'a>(
+    flat: &mut Flat<'a>,
+    scope: usize,
+    definition: &'a Definition,
+) -> Result<(), NoMemory>
+    requires { scope < length flat.old.scopes }
+    ensures grows { OnOk result (Grows flat.old.scopes flat.new.scopes) }
+    ensures declarations { OnOk result (all_in flat.new ≡ all_in flat.old ++ declared_by (path_at flat.old.scopes scope) (views.definition_view definition.now)) }
+{
+    match definition {
+        Definition::Module(module) => add_module(flat, scope, module),
+        Definition::Constant(constant) => {
+            add(flat, scope, &constant.name, What::Constant(constant))
+        }
+        Definition::TypeDefinition(definition) => add_type_definition(flat, scope, definition),
+        Definition::Struct(structure) => {
+            add(flat, scope, &structure.name, What::Struct(structure))
+        }
+        Definition::Enumeration(enumeration) => add_enumeration(flat, scope, enumeration),
+        Definition::AbstractType(storage_type) => {
+            let what = What::AbstractType(&storage_type.body);
+            add(flat, scope, &storage_type.name, what)
+        }
+        Definition::StorageType(storage_type) => {
+            let what = What::ConcreteType(&storage_type.body);
+            add(flat, scope, &storage_type.name, what)
+        }
+        Definition::AbstractHome(home) => {
+            let what = What::AbstractHome(&home.body);
+            add(flat, scope, &home.name, what)
+        }
+        Definition::StorageHome(home) => { add(flat, scope, &home.name, What::ConcreteHome(home)) }
+        Definition::Catalog(catalog) => {
+            let what = What::Catalog(&catalog.provisions);
+            add(flat, scope, &catalog.name, what)
+        }
+    }
+}
+
+#[cycle(walk)]
+fn add_definitions<'a>(
+    flat: &mut Flat<'a>,
+    scope: usize,
+    definitions: &'a [Definition],
+) -> Result<(), NoMemory>
+    requires { scope < length flat.old.scopes }
+    ensures grows { OnOk result (Grows flat.old.scopes flat.new.scopes) }
+    ensures declarations { OnOk result (all_in flat.new ≡ all_in flat.old ++ declarations (path_at flat.old.scopes scope) (views.definitions_of (map views.definition_view definitions.now))) }
+{
+    for definition in definitions {
+        add_definition(flat, scope, definition)?;
+    }
+    Ok(())
+}
+
+/// All declarations of a tree.
+pub fn flatten<'a>(alloc: Global, tree: &'a Tree) -> Result<Flat<'a>, NoMemory>
+    ensures { IfOk result (λ flat. all_in flat ≡ all_declarations (views.tree_view tree.now)) }
+{
+    let mut flat = Flat {
+        scopes: Scopes::new(alloc),
+        declarations: Vec::new(alloc),
+    };
+    add_definitions(&mut flat, 0, &tree.definitions)?;
+    Ok(flat)
+}

@@ -1,5 +1,5 @@
 -- The lines of homes, one behind the other, and the parts of a schema.
-use Rattle.std.proofs.Common.{Bool, true, false, ◌&&◌, nat_lt, ◌≡◌, ℕ, ◌+◌, ◌<◌, List, [], ◌∷◌, ◌++◌, length, map, Option, Some, None, refl, sym, ap, ◌∙◌, arith, length-append}
+use Rattle.std.proofs.Common.{Bool, true, false, ◌&&◌, ◌≡◌, ℕ, ◌+◌, ◌<◌, List, [], ◌∷◌, ◌++◌, length, map, get_or, Option, Some, None, refl, sym, ap, ◌∙◌, arith, length-append}
 use Rattle.std.specs.List.{slice_get, flat_map, list_all}
 use Rattle.std.specs.Option.{option_map, IfSome}
 use Rattle.std.proofs.lemmas.Option.{slice_get-get_or}
@@ -15,7 +15,7 @@ use Rattle.psdl_check.specs.HomeNos.{home_nos}
 use Rattle.psdl_types.specs.LineLengths.{length_of_key}
 use Rattle.psdl_check.specs.Making.{lines_after, lines_at, AreHomeParts, home_by, keyed}
 use Rattle.psdl_check.specs.declared.home_parts.HomeParts.{HomeParts}
-use Rattle.psdl_check.specs.Referring.{homes_in, AreReferents}
+use Rattle.psdl_check.specs.Referring.{homes_in, targets, Referring, AreReferents}
 use Rattle.psdl_conditions.specs.Schemas.{home_no, scoped_name, home_layout, key_numbers, factory_of, home_of, key_of, all_introduced, referents}
 use Rattle.psdl_names.specs.Descent.{base_home, home_factories}
 use Rattle.psdl_names.specs.Lookup.{at}
@@ -83,24 +83,22 @@ home_whole front line between whole own members S numbers first is_line is_first
 
 -- ---- homes
 
-below : (n count : ℕ) → nat_lt n count ≡ true → n < count
-below n count is = grind (arith, is)
-
--- the type of a member by lists that agree on all declarations
-type_agrees : (types : List PlainType) (count : ℕ) (f g : ℕ → List HomeNo) (m : MemberType) → is_there (length types) count m ≡ true → ((n : ℕ) → n < count → f n ≡ g n) → type_by types f m ≡ type_by types g m
-type_agrees types count f g (kinds.Plain number) there same = refl
-type_agrees types count f g (kinds.Reference definition) there same = ap RefTo (same definition (below definition count there))
+-- the type of a member by lists that agree on all that is named
+type_agrees : (types : List PlainType) (named : List Bool) (f g : ℕ → List HomeNo) (m : MemberType) → is_there (length types) named m ≡ true → ((n : ℕ) → get_or named n false ≡ true → f n ≡ g n) → type_by types f m ≡ type_by types g m
+type_agrees types named f g (kinds.Plain number) there same = refl
+type_agrees types named f g (kinds.Reference definition) there same = ap RefTo (same definition there)
 
 both : (a b : Bool) → (a && b) ≡ true → (a ≡ true) × (b ≡ true)
 both true b e = (refl, e)
 both false b e = absurd (cc)
 
-pub views_agree : (types : List PlainType) (count : ℕ) (f g : ℕ → List HomeNo) (ms : List TypedMember) → AreThere (length types) count ms → ((n : ℕ) → n < count → f n ≡ g n) → typed_views types f ms ≡ typed_views types g ms
-views_agree types count f g [] there same = refl
-views_agree types count f g (m ∷ ms) there same =
-    let each = both (is_there (length types) count m.member_type) (list_all (λ k. is_there (length types) count k.member_type) ms) there in
-    ap (λ (t : PlainType). record { name = m.name.now.name; type = t; readonly = m.readonly } ∷ typed_views types f ms) (type_agrees types count f g m.member_type each.0 same)
-    ∙ ap (λ (vs : List PlainMember). typed_view types g m ∷ vs) (views_agree types count f g ms each.1 same)
+pub views_agree : (types : List PlainType) (named : List Bool) (f g : ℕ → List HomeNo) (ms : List TypedMember) → AreThere (length types) named ms → ((n : ℕ) → get_or named n false ≡ true → f n ≡ g n)
+    → typed_views types f ms ≡ typed_views types g ms
+views_agree types named f g [] there same = refl
+views_agree types named f g (m ∷ ms) there same =
+    let each = both (is_there (length types) named m.member_type) (list_all (λ k. is_there (length types) named k.member_type) ms) there in
+    ap (λ (t : PlainType). record { name = m.name.now.name; type = t; readonly = m.readonly } ∷ typed_views types f ms) (type_agrees types named f g m.member_type each.0 same)
+    ∙ ap (λ (vs : List PlainMember). typed_view types g m ∷ vs) (views_agree types named f g ms each.1 same)
 
 -- a home by its parts
 pub home_is : (all : List Declaration) (h : ℕ) (name : List ℕ) (base : Option HomeNo) (members : List PlainMember) (keys : List KeyNo) (factories : List Factory)
@@ -110,13 +108,13 @@ pub home_is : (all : List Declaration) (h : ℕ) (name : List ℕ) (base : Optio
 home_is all h name base members keys factories a b c d e = λ i. record { name = a i; base = b i; layout = record { members = c i }; keys = d i; factories = e i }
 
 -- the lines of a home by its parts
-pub home_lines_are : (all : List Declaration) (types : List PlainType) (lists : List (List HomeNo)) (parts_keys : List Key) (number h : ℕ) (p : HomeParts)
-    → AreHomeParts all types h p → AreReferents all lists → parts_keys ≡ map (key_of all (standings all)) (all_introduced all)
-    → home_lines (keyed parts_keys) number (home_by types (homes_in lists) p) ≡ lines_at all number h
+pub home_lines_are : (all : List Declaration) (types : List PlainType) (known : Referring) (parts_keys : List Key) (number h : ℕ) (p : HomeParts)
+    → AreHomeParts all types h p → AreReferents all known → parts_keys ≡ map (key_of all (standings all)) (all_introduced all)
+    → home_lines (keyed parts_keys) number (home_by types (homes_in known.lists) p) ≡ lines_at all number h
 unfolding lines_at Rattle.psdl_conditions.specs.Schemas.schema
-home_lines_are all types lists parts_keys number h p are referring same =
-    let members : typed_views types (homes_in lists) p.layout.members.items ≡ home_layout all (standings all) h =
-    views_agree types (length all) (homes_in lists) (referents all) p.layout.members.items are.there referring.each ∙ are.members in
+home_lines_are all types known parts_keys number h p are referring same =
+    let members : typed_views types (homes_in known.lists) p.layout.members.items ≡ home_layout all (standings all) h =
+    views_agree types (targets all) (homes_in known.lists) (referents all) p.layout.members.items are.there referring.each ∙ are.members in
     λ i.
     home_line number (record { name = are.name i; base = are.base i; layout = record { members = members i }; keys = are.keys i; factories = [] })
     ++ flat_map member_line (members i)

@@ -1,8 +1,8 @@
 -- Homes in the lists of what their types conform to.
-use Rattle.std.proofs.Common.{◌≡◌, ℕ, zero, suc, ◌+◌, ◌≤◌, ◌<◌, List, [], ◌∷◌, ◌++◌, Bool, true, false, cond, ◌==◌, ◌||◌, length, filter, map, take, get_or, Option, Some, refl, sym, ap, ◌∙◌, arith, ⊎_elim, get_or-set_same, get_or-set_other, append_assoc, length-append}
+use Rattle.std.proofs.Common.{◌≡◌, ℕ, zero, suc, ◌+◌, ◌≤◌, ◌<◌, List, [], ◌∷◌, ◌++◌, Bool, true, false, cond, ◌==◌, ◌||◌, ◌&&◌, length, filter, map, take, get_or, Option, Some, refl, sym, ap, ◌∙◌, arith, ⊎_elim, get_or-set_same, get_or-set_other, append_assoc, length-append}
 use Rattle.std.specs.List.{slice_get}
 use Rattle.std.proofs.Math.ListN.{set}
-use Rattle.std.proofs.lemmas.Bool.{eqb-true, eq-eqb, cases_Bool}
+use Rattle.std.proofs.lemmas.Bool.{eqb-true, eq-eqb, cases_Bool, and_right}
 use Rattle.std.proofs.lemmas.List.{append-nil, map-append, map-set}
 use Rattle.std.proofs.lemmas.List.Elements.{filter-append}
 use Rattle.std.proofs.lemmas.List.Folds.{list_any_more}
@@ -12,13 +12,17 @@ use Rattle.type_layout.specs.declared.home.HomeNo.{HomeNo}
 use Rattle.type_layout.specs.Schemas.{given}
 use Rattle.psdl_check.specs.Conforming.{has_type}
 use Rattle.psdl_names.specs.Declarations.{Declaration}
-use Rattle.psdl_names.specs.Descent.{has, lines, ancestry, concrete_homes}
+use Rattle.psdl_names.specs.Descent.{has, lines, ancestry, conforms, concrete_homes, type_of_home}
 use Rattle.psdl_types.specs.Limits.{home_number}
 use Rattle.psdl_check.specs.Referring.{homes_in, lists_in}
 use Rattle.psdl_conditions.specs.Schemas.{home_no, referents}
 use Rattle.psdl_names.proofs.Entering.{take_more}
 use Rattle.psdl_conditions.proofs.Repeats.{once, fresh, fresh_old, fresh_new, fresh_fresh}
 use Rattle.psdl_conditions.proofs.Slots.{numbered_at}
+use Rattle.psdl_conditions.specs.Contributing.{is_own, contributors_in}
+use Rattle.psdl_conditions.specs.Lineage.{graph_of}
+use Rattle.psdl_conditions.proofs.Ancestry.{ancestry_is}
+use Rattle.psdl_conditions.proofs.Kept.{filter_once}
 
 abbrev last_if : Bool → HomeNo → List HomeNo
 last_if b home = cond b (home ∷ []) []
@@ -30,7 +34,7 @@ set_last ls i n x home lt e true h =
     ap (λ (m : ℕ). get_or (set ls i x) m []) (sym (eqb-true i n h)) ∙ get_or-set_same ls i x [] lt ∙ e ∙ ap (λ (m : ℕ). get_or ls m [] ++ home ∷ []) (eqb-true i n h)
 set_last ls i n x home lt e false h = get_or-set_other ls i n x [] (λ e. cc (eq-eqb i n (sym e))) ∙ sym (append-nil (get_or ls n []))
 
-pub length_of : {Z : Type 0} (lists : List (Vec HomeNo Z)) → length (lists_in lists) ≡ length lists
+length_of : {Z : Type 0} (lists : List (Vec HomeNo Z)) → length (lists_in lists) ≡ length lists
 length_of [] = refl
 length_of (l ∷ ls) = ap (λ (k : ℕ). suc k) (length_of ls)
 
@@ -114,6 +118,54 @@ one_number_more ns i n home first old new distinct lt so_far step =
     ∙ ap (λ (l : List HomeNo). first ++ l) (either front (a == n) home (λ h. ap (λ (m : ℕ). has (take i ns) m) (sym (eqb-true a n h)) ∙ not_before ns i distinct lt))
     ∙ ap (λ (b : Bool). first ++ last_if b home) (sym (list_any_more (λ m. m == n) ns i 0 lt))
 
+-- ---- numbers that are marked
+
+-- of those that are marked
+has_marked_if : (own : List Bool) (x n : ℕ) (xs : List ℕ) → has (filter (is_own own) xs) n ≡ (is_own own n && has xs n) → has (filter (is_own own) (x ∷ xs)) n ≡ (is_own own n && ((x == n) || has xs n))
+has_marked_if own x n xs rest =
+    ⊎_elim
+    (λ on.
+    ap (λ (v : Bool). has (cond v (x ∷ filter (is_own own) xs) (filter (is_own own) xs)) n) on
+    ∙ ap (λ (v : Bool). (x == n) || v) rest
+    ∙ ⊎_elim
+    (λ t.
+    let marked : is_own own n ≡ true = ap (λ (m : ℕ). is_own own m) (sym (eqb-true x n t)) ∙ on in
+    ap (λ (v : Bool). v || (is_own own n && has xs n)) t ∙ sym (ap (λ (v : Bool). v && ((x == n) || has xs n)) marked ∙ ap (λ (v : Bool). v || has xs n) t))
+    (λ f. ap (λ (v : Bool). v || (is_own own n && has xs n)) f ∙ sym (ap (λ (v : Bool). is_own own n && (v || has xs n)) f))
+    (cases_Bool (x == n)))
+    (λ off.
+    ap (λ (v : Bool). has (cond v (x ∷ filter (is_own own) xs) (filter (is_own own) xs)) n) off
+    ∙ rest
+    ∙ ⊎_elim
+    (λ t.
+    let unmarked : is_own own n ≡ false = ap (λ (m : ℕ). is_own own m) (sym (eqb-true x n t)) ∙ off in
+    ap (λ (v : Bool). v && has xs n) unmarked ∙ sym (ap (λ (v : Bool). v && ((x == n) || has xs n)) unmarked))
+    (λ f. sym (ap (λ (v : Bool). is_own own n && (v || has xs n)) f))
+    (cases_Bool (x == n)))
+    (cases_Bool (is_own own x))
+
+has_marked : (own : List Bool) (xs : List ℕ) (n : ℕ) → has (filter (is_own own) xs) n ≡ (is_own own n && has xs n)
+has_marked own [] n = sym (and_right (is_own own n) false refl)
+has_marked own (x ∷ xs) n = has_marked_if own x n xs (has_marked own xs n)
+
+contributors_are : (all : List Declaration) (graph : List (List ℕ)) (own : List Bool) (list : List ℕ) (n : ℕ) → graph ≡ graph_of all → list ≡ contributors_in graph own n → list ≡ filter (is_own own) (ancestry all n)
+contributors_are all graph own list n g e =
+    e ∙ ap (λ (k : List (List ℕ)). contributors_in k own n) g ∙ ap (λ (l : List ℕ). filter (is_own own) l) (sym (ancestry_is all n))
+
+-- those of what a definition descends from that are marked are there once
+pub marked_once : (all : List Declaration) (graph : List (List ℕ)) (own : List Bool) (list : List ℕ) (n : ℕ) → graph ≡ graph_of all → list ≡ contributors_in graph own n → once list ≡ list
+marked_once all graph own list n g e =
+    let is : list ≡ filter (is_own own) (ancestry all n) = contributors_are all graph own list n g e in
+    ap (λ (l : List ℕ). once l) is ∙ sym (filter_once (is_own own) (ancestry all n)) ∙ ap (λ (l : List ℕ). filter (is_own own) l) (found_once_each all n (ancestry all n) refl) ∙ sym is
+
+-- the type of a home conforms to a marked one exactly where that is among them
+pub has_marked_type : (all : List Declaration) (graph : List (List ℕ)) (own : List Bool) (list : List ℕ) (home t n : ℕ) → graph ≡ graph_of all → list ≡ contributors_in graph own t → Some t ≡ type_of_home all home
+    → has list n ≡ (get_or own n false && has_type all home n)
+has_marked_type all graph own list home t n g e some =
+    ap (λ (l : List ℕ). has l n) (contributors_are all graph own list t g e)
+    ∙ has_marked own (ancestry all t) n
+    ∙ ap (λ (o : Option ℕ). get_or own n false && given o false (λ u. conforms all u n)) some
+
 -- ---- home by home
 
 -- a home has the number of its place
@@ -142,9 +194,13 @@ one_home_more_in f test homes i number old new lt is so_far step =
     ∙ ap (λ (l : List ℕ). map f l) (sym (filter-append test front (h ∷ [])))
     ∙ ap (λ (l : List ℕ). map f (filter test l)) (sym (take_more homes i 0 lt))
 
--- all homes
-pub all_referents : (all : List Declaration) (homes : List ℕ) (n : ℕ) (l : List HomeNo) → homes ≡ concrete_homes all → l ≡ map (home_no all) (filter (λ h. has_type all h n) homes) → l ≡ referents all n
+all_referents : (all : List Declaration) (homes : List ℕ) (n : ℕ) (l : List HomeNo) → homes ≡ concrete_homes all → l ≡ map (home_no all) (filter (λ h. has_type all h n) homes) → l ≡ referents all n
 all_referents all homes n l is e = e ∙ ap (λ (hs : List ℕ). map (home_no all) (filter (λ h. has_type all h n) hs)) is
+
+-- all homes
+pub target_referents : (all : List Declaration) (homes : List ℕ) (n : ℕ) (named : Bool) (l : List HomeNo) → homes ≡ concrete_homes all → named ≡ true → l ≡ map (home_no all) (filter (λ h. named && has_type all h n) homes)
+    → l ≡ referents all n
+target_referents all homes n named l is on e = all_referents all homes n l is (e ∙ ap (λ (b : Bool). map (home_no all) (filter (λ h. b && has_type all h n) homes)) on)
 
 -- ---- empty lists
 

@@ -42,27 +42,27 @@ extends_further first next last one two n lt =
 below_is : (a k : ℕ) → a < k → nat_lt a k ≡ true
 below_is a k lt = grind arith
 
-still_there : (old new : List PlainType) (count : ℕ) (t : MemberType) → Extends old new → IsTrue (is_there (length old) count t) → IsTrue (is_there (length new) count t)
-still_there old new count (kinds.Plain n) kept there = below_is n (length new) ((kept n (ltb-true n (length old) there)).0)
-still_there old new count (kinds.Reference n) kept there = there
+still_there : (old new : List PlainType) (named : List Bool) (t : MemberType) → Extends old new → IsTrue (is_there (length old) named t) → IsTrue (is_there (length new) named t)
+still_there old new named (kinds.Plain n) kept there = below_is n (length new) ((kept n (ltb-true n (length old) there)).0)
+still_there old new named (kinds.Reference n) kept there = there
 
-same_type : (old new : List PlainType) (homes : ℕ → List HomeNo) (count : ℕ) (t : MemberType) → Extends old new → IsTrue (is_there (length old) count t) → type_by new homes t ≡ type_by old homes t
-same_type old new homes count (kinds.Plain n) kept there = (kept n (ltb-true n (length old) there)).1
-same_type old new homes count (kinds.Reference n) kept there = refl
+same_type : (old new : List PlainType) (homes : ℕ → List HomeNo) (named : List Bool) (t : MemberType) → Extends old new → IsTrue (is_there (length old) named t) → type_by new homes t ≡ type_by old homes t
+same_type old new homes named (kinds.Plain n) kept there = (kept n (ltb-true n (length old) there)).1
+same_type old new homes named (kinds.Reference n) kept there = refl
 
-pub all_still : (old new : List PlainType) (count : ℕ) (ms : List TypedMember) → Extends old new → AreThere (length old) count ms → AreThere (length new) count ms
-all_still old new count [] kept there = there
-all_still old new count (m ∷ ms) kept there =
-    let both = and_parts (is_there (length old) count m.member_type) (list_all (λ (x : TypedMember). is_there (length old) count x.member_type) ms) there in
-    and_from (is_there (length new) count m.member_type) (list_all (λ (x : TypedMember). is_there (length new) count x.member_type) ms) (still_there old new count m.member_type kept both.0)
-    (all_still old new count ms kept both.1)
+pub all_still : (old new : List PlainType) (named : List Bool) (ms : List TypedMember) → Extends old new → AreThere (length old) named ms → AreThere (length new) named ms
+all_still old new named [] kept there = there
+all_still old new named (m ∷ ms) kept there =
+    let both = and_parts (is_there (length old) named m.member_type) (list_all (λ (x : TypedMember). is_there (length old) named x.member_type) ms) there in
+    and_from (is_there (length new) named m.member_type) (list_all (λ (x : TypedMember). is_there (length new) named x.member_type) ms) (still_there old new named m.member_type kept both.0)
+    (all_still old new named ms kept both.1)
 
-pub views_kept : (old new : List PlainType) (homes : ℕ → List HomeNo) (count : ℕ) (ms : List TypedMember) → Extends old new → AreThere (length old) count ms → typed_views new homes ms ≡ typed_views old homes ms
-views_kept old new homes count [] kept there = refl
-views_kept old new homes count (m ∷ ms) kept there =
-    let both = and_parts (is_there (length old) count m.member_type) (list_all (λ (x : TypedMember). is_there (length old) count x.member_type) ms) there in
-    ap (λ (t : PlainType). record { name = m.name.now.name; type = t; readonly = m.readonly } ∷ typed_views new homes ms) (same_type old new homes count m.member_type kept both.0)
-    ∙ ap (λ (l : List PlainMember). typed_view old homes m ∷ l) (views_kept old new homes count ms kept both.1)
+pub views_kept : (old new : List PlainType) (homes : ℕ → List HomeNo) (named : List Bool) (ms : List TypedMember) → Extends old new → AreThere (length old) named ms → typed_views new homes ms ≡ typed_views old homes ms
+views_kept old new homes named [] kept there = refl
+views_kept old new homes named (m ∷ ms) kept there =
+    let both = and_parts (is_there (length old) named m.member_type) (list_all (λ (x : TypedMember). is_there (length old) named x.member_type) ms) there in
+    ap (λ (t : PlainType). record { name = m.name.now.name; type = t; readonly = m.readonly } ∷ typed_views new homes ms) (same_type old new homes named m.member_type kept both.0)
+    ∙ ap (λ (l : List PlainMember). typed_view old homes m ∷ l) (views_kept old new homes named ms kept both.1)
 
 -- ---- one member more
 
@@ -77,9 +77,9 @@ pub typed_none : (all : List Declaration) (done : List Standing) (types : List P
 typed_none all done types homes m r is e =
     ap (λ (o : Option MemberType). option_map (laid_out (member_view m)) (option_map (type_by types homes) o)) is ∙ ap (λ (o : Option PlainType). option_map (laid_out (member_view m)) o) e
 
-pub all_with : (types count : ℕ) (ms : List TypedMember) (m : TypedMember) → AreThere types count ms → IsTrue (is_there types count m.member_type) → AreThere types count (ms ++ m ∷ [])
-all_with types count ms m there one =
-    let test : TypedMember → Bool = λ x. is_there types count x.member_type in
+pub all_with : (types : ℕ) (named : List Bool) (ms : List TypedMember) (m : TypedMember) → AreThere types named ms → IsTrue (is_there types named m.member_type) → AreThere types named (ms ++ m ∷ [])
+all_with types named ms m there one =
+    let test : TypedMember → Bool = λ x. is_there types named x.member_type in
     list_all-append test ms (m ∷ []) ∙ and_from (list_all test ms) (list_all test (m ∷ [])) there (and_from (test m) true one refl)
 
 pub one_laid_more : (f : StateMember → Option PlainMember) (view : TypedMember → PlainMember) (typed : List TypedMember) (m : TypedMember) (ms : List Member) (i : ℕ) (x : Member) → i < length ms → x ≡ get_or ms i x

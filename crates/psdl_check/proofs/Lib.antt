@@ -7,6 +7,8 @@ pub mod Lining
 pub mod Assembling
 pub mod Laying
 pub mod Indexing
+pub mod Targeting
+pub mod Marked
 pub mod Conformed
 pub mod Overlong
 pub mod Introducing

@@ -1,4 +1,5 @@
 pub mod TypedMembers
+pub mod Marks
 pub mod Referring
 pub mod HomeNos
 pub mod KeyTables

@@ -19,7 +19,7 @@ use Rattle.psdl_conditions.specs.Faults.{long_shape}
 use Rattle.psdl_check.specs.HomeNos.{home_nos}
 use Rattle.psdl_check.specs.KeyTables.{introduced_in}
 use Rattle.psdl_names.specs.Lookup.{at}
-use Rattle.psdl_check.specs.Referring.{lists_in, AreReferents}
+use Rattle.psdl_check.specs.Referring.{targets, AreReferents}
 use Rattle.psdl_conditions.specs.Schemas.{home_no, referents, scoped_name, home_layout, all_introduced, key_numbers, key_of, home_of, schema}
 use Rattle.psdl_names.specs.Standings.{standings}
 use Rattle.psdl_types.specs.TextLengths.{cut}
@@ -28,7 +28,7 @@ use Rattle.psdl_check.specs.TypedMembers.{typed_views, AreThere}
 -- what is known of all homes and keys
 pub record AreParts (all : List Declaration) (parts : Parts) : Type 0 where
   pub numbers : parts.numbers.items ≡ home_nos all
-  pub referents : AreReferents all (lists_in parts.referents.items)
+  pub referents : AreReferents all parts.referents
   pub table : introduced_in parts.table ≡ all_introduced all
   pub keys : parts.keys ≡ map (key_of all (standings all)) (all_introduced all)
 
@@ -36,7 +36,7 @@ pub record AreParts (all : List Declaration) (parts : Parts) : Type 0 where
 pub record AreHomeParts (all : List Declaration) (types : List PlainType) (h : ℕ) (p : HomeParts) : Type 0 where
   pub name : p.name ≡ scoped_name (at all h)
   pub base : p.base ≡ option_map (home_no all) (base_home all h)
-  pub there : AreThere (length types) (length all) p.layout.members.items
+  pub there : AreThere (length types) (targets all) p.layout.members.items
   pub members : typed_views types (referents all) p.layout.members.items ≡ home_layout all (standings all) h
   pub keys : p.keys ≡ key_numbers all h
 

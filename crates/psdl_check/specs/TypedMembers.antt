@@ -1,7 +1,8 @@
 -- Members with the numbers of their types, and what they stand for.
-use Rattle.std.specs.Prelude.{ℕ, List, [], map, IsTrue, nat_lt, Bool}
+use Rattle.std.specs.Prelude.{ℕ, List, [], map, IsTrue, nat_lt, Bool, false}
 use Rattle.std.specs.List.{list_all}
 use Rattle.std.specs.Option.{option_and_then}
+use Rattle.std.proofs.Common.{get_or}
 use Rattle.type_layout.specs.Schemas.{given}
 use Rattle.type_layout.specs.declared.home.HomeNo.{HomeNo}
 use Rattle.type_layout.specs.Types.{PlainType, RefTo, PlainMember}
@@ -25,13 +26,13 @@ typed_view types homes m = record { name = m.name.now.name; type = type_by types
 abbrev pub typed_views : List PlainType → (ℕ → List HomeNo) → List TypedMember → List PlainMember
 typed_views types homes ms = map (typed_view types homes) ms
 
--- each has the number of a type, or of a declaration
-abbrev pub is_there : ℕ → ℕ → MemberType → Bool
-is_there types declarations (kinds.Plain number) = nat_lt number types
-is_there types declarations (kinds.Reference definition) = nat_lt definition declarations
+-- each has the number of a type, or of a declaration that is named
+abbrev pub is_there : ℕ → List Bool → MemberType → Bool
+is_there types named (kinds.Plain number) = nat_lt number types
+is_there types named (kinds.Reference definition) = get_or named definition false
 
-abbrev pub AreThere : ℕ → ℕ → List TypedMember → Type 0
-AreThere types declarations ms = IsTrue (list_all (λ m. is_there types declarations m.member_type) ms)
+abbrev pub AreThere : ℕ → List Bool → List TypedMember → Type 0
+AreThere types named ms = IsTrue (list_all (λ m. is_there types named m.member_type) ms)
 
 -- the layout of the type of a home, none where it is not there
 abbrev pub layout_of_home : List Declaration → List Standing → (ℕ → List HomeNo) → ℕ → List PlainMember

@@ -13,6 +13,7 @@ ghost use Rattle.psdl_conditions.specs.Owning.{owners};
 ghost use Rattle.psdl_types.specs.Measures.{AreWithin};
 ghost use Rattle.psdl_conditions.specs.Membership.{member_views};
 ghost use Rattle.psdl_conditions.specs.Placing.{place_called};
+ghost use Rattle.psdl_check.specs.Referring.{targets, AreNamed};
 ghost use Rattle.psdl_conditions.specs.Schemas.{indexes};
 ghost use Rattle.psdl_names.specs.Standings.{all_there, standings};
 ghost use Rattle.psdl_names.specs.Tellings.{tell};
@@ -60,11 +61,12 @@ fn layout_of_members<'a>(
     members: Vec<Member<'a>>,
 ) -> Result<HomeLayout<'a>, NoMemory>
     requires within { AreWithin (length (all_of directory.now)) (member_views members.items) }
+    requires named { AreNamed (all_of directory.now) (member_views members.items) }
     requires told { told.now ≡ map tell (standings (all_of directory.now)) }
     requires types { IsTypeTable (all_of directory.now) types.old }
     ensures types { IsTypeTable (all_of directory.now) types.new }
     ensures kept { Extends types.old.types types.new.types }
-    ensures there { IfOk result (λ l. AreThere (length types.new.types) (length (all_of directory.now)) l.members.items) }
+    ensures there { IfOk result (λ l. AreThere (length types.new.types) (targets (all_of directory.now)) l.members.items) }
     ensures members { IfOk result (λ l. (homes : ℕ → List HomeNo) → typed_views types.new.types homes l.members.items ≡ given (all_there (map (layout_member (all_of directory.now) (standings (all_of directory.now)) homes) (member_views members.entry.items))) [] (λ ms. ms)) }
 {
     let found = typed_members(alloc, directory, told, types, &members)?;
@@ -97,7 +99,7 @@ fn layout_of_type<'a>(
     ensures same { heritage.new ≡ heritage.old }
     ensures types { IsTypeTable (all_of directory.now) types.new }
     ensures kept { Extends types.old.types types.new.types }
-    ensures there { IfOk result (λ l. AreThere (length types.new.types) (length (all_of directory.now)) l.members.items) }
+    ensures there { IfOk result (λ l. AreThere (length types.new.types) (targets (all_of directory.now)) l.members.items) }
     ensures members { IfOk result (λ l. (homes : ℕ → List HomeNo) → typed_views types.new.types homes l.members.items ≡ given (layout (all_of directory.now) (standings (all_of directory.now)) homes number) [] (λ ms. ms)) }
 {
     let members = members(alloc, directory, heritage, number)?;
@@ -121,7 +123,7 @@ pub(crate) fn home_layout<'a>(
     ensures same { heritage.new ≡ heritage.old }
     ensures types { IsTypeTable (all_of directory.now) types.new }
     ensures kept { Extends types.old.types types.new.types }
-    ensures there { IfOk result (λ l. AreThere (length types.new.types) (length (all_of directory.now)) l.members.items) }
+    ensures there { IfOk result (λ l. AreThere (length types.new.types) (targets (all_of directory.now)) l.members.items) }
     ensures members { IfOk result (λ l. (homes : ℕ → List HomeNo) → typed_views types.new.types homes l.members.items ≡ layout_of_home (all_of directory.now) (standings (all_of directory.now)) homes home) }
 {
     let home_type = type_of_home(alloc, directory, home)?;

@@ -9,7 +9,7 @@ ghost use Rattle.psdl_check.specs.HomeNos as nos;
 ghost use Rattle.psdl_conditions.specs.Lineage.{graph_of};
 ghost use Rattle.psdl_conditions.specs.Owning.{owners};
 ghost use Rattle.psdl_check.specs.Making.{AreParts, AreHomeParts, home_by, keyed, lines_after};
-ghost use Rattle.psdl_check.specs.Referring.{lists_in, homes_in};
+ghost use Rattle.psdl_check.specs.Referring.{homes_in};
 ghost use Rattle.psdl_conditions.specs.Schemas as schemas;
 ghost use Rattle.psdl_names.specs.Standings.{standings};
 ghost use Rattle.psdl_names.specs.Tellings.{tell};
@@ -140,8 +140,8 @@ pub(crate) fn with_home(
     home: &HomeParts<'_>,
     front: TextLength,
 ) -> TextLength
-    requires { AreThere (length types.now) (length parts.now.referents.items) home.now.layout.members.items }
-    ensures { result.0 ≡ cut (front.0 + length (home_lines (keyed parts.now.keys) number.0 (home_by types.now (homes_in (lists_in parts.now.referents.items)) home.now))) }
+    requires { AreThere (length types.now) parts.now.referents.targets home.now.layout.members.items }
+    ensures { result.0 ≡ cut (front.0 + length (home_lines (keyed parts.now.keys) number.0 (home_by types.now (homes_in parts.now.referents.lists) home.now))) }
 {
     let line = home_line_length(number.0, base_number(home.base), home.name.as_slice());
     let members = with_members(

@@ -5,11 +5,12 @@ ghost use Rattle.type_layout.specs.ShapeText.{member_line};
 ghost use Rattle.type_layout.specs.Views.{plain_type};
 ghost use Rattle.psdl_types.specs.LineLengths.{line_length};
 ghost use Rattle.psdl_check.specs.MemberLines.{members_behind};
-ghost use Rattle.psdl_check.specs.Referring.{lists_in, homes_in};
+ghost use Rattle.psdl_check.specs.Referring.{homes_in};
 ghost use Rattle.psdl_types.specs.TextLengths.{cut, text_length};
 ghost use Rattle.psdl_check.specs.TypedMembers.{type_by, typed_view, typed_views, is_there, AreThere};
 
 use crate::line_lengths::{member_line_length, reference_length};
+use crate::referents::Referents;
 use crate::typed_members::{MemberType, TypedMember};
 use psdl_types::text_length::TextLength;
 use psdl_types::types::Types;
@@ -18,20 +19,20 @@ use std::alloc::Global;
 use type_layout::{HomeNo, HomeNos, Member, Members, Ty};
 
 // Of the text of a member's type.
-fn type_length(types: &Types<'_>, referents: &[Vec<HomeNo>], member_type: MemberType) -> TextLength
-    requires { IsTrue (is_there (length types.now) (length referents.now) member_type) }
-    ensures { result.0 ≡ text_length (type_by types.now (homes_in (lists_in referents.now)) member_type) }
+fn type_length(types: &Types<'_>, referents: &Referents, member_type: MemberType) -> TextLength
+    requires { IsTrue (is_there (length types.now) referents.now.targets member_type) }
+    ensures { result.0 ≡ text_length (type_by types.now (homes_in referents.now.lists) member_type) }
 {
     match member_type {
         MemberType::Plain(number) => types.length(number),
-        MemberType::Reference(definition) => reference_length(&referents[definition]),
+        MemberType::Reference(definition) => reference_length(referents.of(definition)),
     }
 }
 
 // Of a member's line.
-fn line_length(types: &Types<'_>, referents: &[Vec<HomeNo>], member: &TypedMember<'_>) -> TextLength
-    requires { IsTrue (is_there (length types.now) (length referents.now) member.now.member_type) }
-    ensures { result.0 ≡ line_length (member_line (typed_view types.now (homes_in (lists_in referents.now)) member.now)) }
+fn line_length(types: &Types<'_>, referents: &Referents, member: &TypedMember<'_>) -> TextLength
+    requires { IsTrue (is_there (length types.now) referents.now.targets member.now.member_type) }
+    ensures { result.0 ≡ line_length (member_line (typed_view types.now (homes_in referents.now.lists) member.now)) }
 {
     let length = type_length(types, referents, member.member_type);
     member_line_length(member.name.name.as_slice(), length)
@@ -40,12 +41,12 @@ fn line_length(types: &Types<'_>, referents: &[Vec<HomeNo>], member: &TypedMembe
 // With the lines one behind the other.
 fn with_lines(
     types: &Types<'_>,
-    referents: &[Vec<HomeNo>],
+    referents: &Referents,
     members: &[TypedMember<'_>],
     front: TextLength,
 ) -> TextLength
-    requires { AreThere (length types.now) (length referents.now) members.now }
-    ensures { result.0 ≡ members_behind types.now (homes_in (lists_in referents.now)) front.0 members.now }
+    requires { AreThere (length types.now) referents.now.targets members.now }
+    ensures { result.0 ≡ members_behind types.now (homes_in referents.now.lists) front.0 members.now }
 {
     let mut whole = front;
     for member in members {
@@ -57,12 +58,12 @@ fn with_lines(
 /// With the lines of members behind what stands in front.
 pub(crate) fn with_members(
     types: &Types<'_>,
-    referents: &[Vec<HomeNo>],
+    referents: &Referents,
     members: &[TypedMember<'_>],
     front: TextLength,
 ) -> TextLength
-    requires { AreThere (length types.now) (length referents.now) members.now }
-    ensures { result.0 ≡ cut (front.0 + length (flat_map member_line (typed_views types.now (homes_in (lists_in referents.now)) members.now))) }
+    requires { AreThere (length types.now) referents.now.targets members.now }
+    ensures { result.0 ≡ cut (front.0 + length (flat_map member_line (typed_views types.now (homes_in referents.now.lists) members.now))) }
 {
     with_lines(types, referents, members, front.with(0))
 }
@@ -81,16 +82,16 @@ fn copied_homes(alloc: Global, homes: &[HomeNo]) -> Result<HomeNos, NoMemory>
 fn built_type(
     alloc: Global,
     types: &Types<'_>,
-    referents: &[Vec<HomeNo>],
+    referents: &Referents,
     member_type: MemberType,
 ) -> Result<Ty, NoMemory>
-    requires { IsTrue (is_there (length types.now) (length referents.now) member_type) }
-    ensures { IfOk result (λ t. plain_type t ≡ type_by types.now (homes_in (lists_in referents.now)) member_type) }
+    requires { IsTrue (is_there (length types.now) referents.now.targets member_type) }
+    ensures { IfOk result (λ t. plain_type t ≡ type_by types.now (homes_in referents.now.lists) member_type) }
 {
     match member_type {
         MemberType::Plain(number) => types.build(alloc, number),
         MemberType::Reference(definition) => {
-            Ok(Ty::Ref(copied_homes(alloc, &referents[definition])?))
+            Ok(Ty::Ref(copied_homes(alloc, referents.of(definition))?))
         }
     }
 }
@@ -98,12 +99,12 @@ fn built_type(
 fn add_member(
     alloc: Global,
     types: &Types<'_>,
-    referents: &[Vec<HomeNo>],
+    referents: &Referents,
     list: &mut Members,
     member: &TypedMember<'_>,
 ) -> Result<(), NoMemory>
-    requires { IsTrue (is_there (length types.now) (length referents.now) member.now.member_type) }
-    ensures { OnOk result (list.new ≡ list.old ++ typed_view types.now (homes_in (lists_in referents.now)) member.now ∷ []) }
+    requires { IsTrue (is_there (length types.now) referents.now.targets member.now.member_type) }
+    ensures { OnOk result (list.new ≡ list.old ++ typed_view types.now (homes_in referents.now.lists) member.now ∷ []) }
 {
     let ty = built_type(alloc, types, referents, member.member_type)?;
     let name = member.name.name.copy()?;
@@ -119,11 +120,11 @@ fn add_member(
 pub(crate) fn member_list(
     alloc: Global,
     types: &Types<'_>,
-    referents: &[Vec<HomeNo>],
+    referents: &Referents,
     members: &[TypedMember<'_>],
 ) -> Result<Members, NoMemory>
-    requires { AreThere (length types.now) (length referents.now) members.now }
-    ensures { IfOk result (λ list. list ≡ typed_views types.now (homes_in (lists_in referents.now)) members.now) }
+    requires { AreThere (length types.now) referents.now.targets members.now }
+    ensures { IfOk result (λ list. list ≡ typed_views types.now (homes_in referents.now.lists) members.now) }
 {
     let mut list = Members::new(alloc);
     for member in members {

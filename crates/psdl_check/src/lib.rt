@@ -19,6 +19,7 @@ mod making;
 mod provided_homes;
 mod referents;
 mod scoped_names;
+mod targets;
 mod typed_members;
 
 pub use checks::check;

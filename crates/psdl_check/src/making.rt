@@ -22,7 +22,7 @@ use crate::home_parts::{home_parts, home_record, with_home};
 use crate::key_records::key_list;
 use crate::key_table::{KeyTable, key_table};
 use crate::provided_homes::provided_homes;
-use crate::referents::referents;
+use crate::referents::Referents;
 use psdl_conditions::heritage::Heritage;
 use psdl_conditions::tables::Tables;
 use psdl_names::directory::Directory;
@@ -37,7 +37,7 @@ use type_layout::{HomeList, HomeNo, KeyList, Schema};
 #[derive(Drop)]
 pub(crate) struct Parts<'a> {
     pub numbers: Vec<HomeNo>,
-    pub referents: Vec<Vec<HomeNo>>,
+    pub referents: Referents,
     pub table: KeyTable<'a>,
     pub keys: KeyList,
 }
@@ -76,7 +76,7 @@ fn parts_of<'a>(
         &table,
     )?;
     Ok(Parts {
-        referents: referents(alloc, directory, heritage, &tables.homes)?,
+        referents: Referents::new(alloc, directory, &tables.homes)?,
         numbers,
         table,
         keys,

@@ -57,7 +57,7 @@ filter_fresh test (x ∷ xs) known known' alike =
     (cases_Bool (has known x)))
     (cases_Bool (test x))
 
-filter_once : (test : ℕ → Bool) (xs : List ℕ) → filter test (once xs) ≡ once (filter test xs)
+pub filter_once : (test : ℕ → Bool) (xs : List ℕ) → filter test (once xs) ≡ once (filter test xs)
 filter_once test xs = filter_fresh test xs [] [] (λ n h. refl)
 
 filter_flat : (test : ℕ → Bool) (g : ℕ → List ℕ) (xs : List ℕ) → filter test (flat_map g xs) ≡ flat_map (λ x. filter test (g x)) xs

@@ -85,11 +85,7 @@ impl Heritage {
     }
 
     /// Those that a declaration descends from, itself last, which have something of their own.
-    pub(crate) fn contributors(
-        &mut self,
-        alloc: Global,
-        number: usize,
-    ) -> Result<Vec<usize>, NoMemory>
+    pub fn contributors(&mut self, alloc: Global, number: usize) -> Result<Vec<usize>, NoMemory>
         requires number { number < length self.old.graph }
         ensures same { self.new ≡ self.old }
         ensures contributors { IfOk result (λ list. list.items ≡ contributors_in self.old.graph self.old.own number) }

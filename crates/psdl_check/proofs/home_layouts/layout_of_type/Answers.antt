@@ -9,11 +9,16 @@ use Rattle.psdl_conditions.specs.Membership.{member_views}
 use Rattle.psdl_names.specs.Standings.{all_there, standings}
 use Rattle.psdl_check.specs.TypedMembers.{typed_views}
 use Rattle.psdl_conditions.proofs.Recording.{members_within}
+use Rattle.psdl_check.proofs.Targeting.{members_named}
 use Rattle.psdl_check.proofs.home_layouts.layout_of_type.Goals as goal
 
 pub layout_of_members-requires-clause-within : goal.layout_of_members-requires-clause-within
 layout_of_members-requires-clause-within c =
     members_within (all_of c.args.directory.now) c.args.number (member_views c.in_ok-members.members.items) c.requires.number c.in_ok-members.ensures.members
+
+pub layout_of_members-requires-clause-named : goal.layout_of_members-requires-clause-named
+layout_of_members-requires-clause-named c =
+    members_named (all_of c.args.directory.now) c.args.number (member_views c.in_ok-members.members.items) c.requires.number c.in_ok-members.ensures.members
 
 pub returns-clause-members : goal.returns-clause-members
 returns-clause-members c =

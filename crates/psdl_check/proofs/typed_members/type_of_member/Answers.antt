@@ -12,7 +12,12 @@ use Rattle.psdl_conditions.specs.Membership.{member_view}
 use Rattle.psdl_names.specs.Standings.{sight, standings}
 use Rattle.psdl_check.specs.TypedMembers.{type_by}
 use Rattle.psdl_check.proofs.Laying.{reference_found}
+use Rattle.psdl_check.proofs.Targeting.{name_named}
 use Rattle.psdl_check.proofs.typed_members.type_of_member.Goals as goal
+
+pub reference_member-requires-clause-named : goal.reference_member-requires-clause-named
+reference_member-requires-clause-named c =
+    name_named (all_of c.args.directory.now) c.args.member.now (name_view c.in-Reference.name) (cc (ap state_type_view c.in-Reference.is)) c.requires.named
 
 pub returns-in-Plain-clause-found : goal.returns-in-Plain-clause-found
 returns-in-Plain-clause-found c =

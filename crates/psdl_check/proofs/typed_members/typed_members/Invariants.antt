@@ -6,6 +6,7 @@ use Rattle.psdl_conditions.specs.Membership.{member_views}
 use Rattle.psdl_names.specs.Standings.{standings, all_there}
 use Rattle.psdl_types.specs.TypeNodes.{Extends}
 use Rattle.psdl_types.specs.TypeTables.{IsTypeTable}
+use Rattle.psdl_check.specs.Referring.{targets}
 use Rattle.psdl_check.specs.TypedMembers.{typed_views, AreThere}
 use Rattle.psdl_check.proofs.typed_members.typed_members.Given as goal
 
@@ -15,6 +16,6 @@ invariant-loop-member l =
     record {
       table : IsTypeTable all l.table;
       kept : Extends l.fn.table.types l.table.types;
-      there : AreThere (length l.table.types) (length all) l.typed.items;
+      there : AreThere (length l.table.types) (targets all) l.typed.items;
       members : (homes : ℕ → List HomeNo) → Some (typed_views l.table.types homes l.typed.items) ≡ all_there (map (layout_member all (standings all) homes) (member_views (take l.member-index l.members)));
     }

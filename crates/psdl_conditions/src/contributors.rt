@@ -1,7 +1,7 @@
 // What declarations descend from that has something of its own.
-ghost use Rattle.std.specs.Prelude.{◌≡◌, ◌<◌, ◌+◌, ◌++◌, ◌∷◌, ℕ, [], Some, None, length, IfOk, OnOk, OnErr, IfSome, OnSome, option_map};
+ghost use Rattle.std.specs.Prelude.{◌≡◌, ◌<◌, ℕ, false, Some, None, is_some, length, slice_set, IfOk, OnOk, IfSome, OnSome, option_map};
 ghost use Rattle.psdl_conditions.specs.Contributing.{contributors_in, list_at, NamesKept};
-ghost use Rattle.psdl_conditions.specs.Contributed.{kept_in, counted, IsTable};
+ghost use Rattle.psdl_conditions.specs.Contributed.{kept_in, IsTable};
 
 use crate::lineage::Lineage;
 use crate::marks::Marks;
@@ -12,7 +12,7 @@ use std::alloc::Global;
 // A longer list is of a type with too many members, or of a home with many keys, and is not kept, so that memory stays linear.
 const MOST_KEPT: usize = 255;
 
-/// For each declaration so far its list, where all below it have lower numbers.
+/// For each declaration its list, where it is kept.
 #[derive(Drop)]
 pub(crate) struct Contributors {
     kept: Vec<Option<Vec<usize>>>,
@@ -31,7 +31,7 @@ impl Contributors {
         }
     }
 
-    // The lists of all that the next declaration names, joined, where they are kept.
+    // The lists of all that a declaration without a list names, joined, where they are kept.
     fn joined(
         &self,
         alloc: Global,
@@ -41,7 +41,7 @@ impl Contributors {
         number: usize,
     ) -> Result<Option<Vec<usize>>, NoMemory>
         requires number { number < length lineage.now }
-        requires next { number ≡ counted self.now }
+        requires unkept { is_some (list_at (kept_in self.now) number) ≡ false }
         requires sized { length marks.old ≡ length lineage.now }
         requires table { IsTable lineage.now own.now self.now }
         ensures sized { length marks.new ≡ length marks.old }
@@ -64,15 +64,22 @@ impl Contributors {
         Ok(Some(joined))
     }
 
-    fn add(&mut self, list: Option<Vec<usize>>) -> Result<(), NoMemory>
-        ensures { OnOk result (kept_in self.new ≡ kept_in self.old ++ option_map (λ l. l.items) list ∷ []) }
+    fn is_kept(&self, number: usize) -> bool
+        ensures { result ≡ is_some (list_at (kept_in self.now) number) }
     {
-        self.kept.push(list)?;
-        Ok(())
+        let list = self.list(number);
+        list.is_some()
     }
 
-    // Keeps the list of the next declaration, where it has one that is not too long.
-    fn add_next(
+    fn keep(&mut self, number: usize, list: Vec<usize>)
+        requires { number < length (kept_in self.old) }
+        ensures { kept_in self.new ≡ slice_set (kept_in self.old) number (Some list.items) }
+    {
+        self.kept[number] = Some(list);
+    }
+
+    // Keeps the list of a declaration, where those of all that it names are kept and it is not too long.
+    fn add(
         &mut self,
         alloc: Global,
         lineage: &Lineage,
@@ -81,20 +88,34 @@ impl Contributors {
         number: usize,
     ) -> Result<(), NoMemory>
         requires number { number < length lineage.now }
-        requires next { number ≡ counted self.old }
         requires sized { length marks.old ≡ length lineage.now }
         requires table { IsTable lineage.now own.now self.old }
-        ensures next { OnOk result (counted self.new ≡ number + 1) }
         ensures sized { length marks.new ≡ length marks.old }
         ensures table { OnOk result (IsTable lineage.now own.now self.new) }
     {
+        if self.is_kept(number) {
+            return Ok(());
+        }
         let list = self.joined(alloc, lineage, marks, own, number)?;
-        let kept = short(list);
-        self.add(kept)?;
+        if let Some(kept) = short(list) {
+            self.keep(number, kept);
+        }
         Ok(())
     }
 
-    /// The lists of all declarations.
+    // No list for any of so many declarations.
+    fn without(alloc: Global, count: usize) -> Result<Contributors, NoMemory>
+        ensures sized { IfOk result (λ table. length (kept_in table) ≡ count) }
+        ensures none { IfOk result (λ table. (n : ℕ) → list_at (kept_in table) n ≡ None) }
+    {
+        let mut kept = Vec::new(alloc);
+        for _ in 0..count {
+            kept.push(None)?;
+        }
+        Ok(Contributors { kept })
+    }
+
+    /// The lists of all declarations but of those in circles of bases and below such.
     pub(crate) fn new(
         alloc: Global,
         lineage: &Lineage,
@@ -105,11 +126,10 @@ impl Contributors {
         ensures sized { length marks.new ≡ length marks.old }
         ensures table { IfOk result (λ table. IsTable lineage.now own.now table) }
     {
-        let mut table = Contributors {
-            kept: Vec::new(alloc),
-        };
-        for number in 0..lineage.len() {
-            table.add_next(alloc, lineage, marks, own, number)?;
+        let order = descent::order(alloc, lineage, marks)?;
+        let mut table = Contributors::without(alloc, lineage.len())?;
+        for number in &order {
+            table.add(alloc, lineage, marks, own, *number)?;
         }
         Ok(table)
     }

@@ -1,5 +1,7 @@
 // What declarations descend from.
-ghost use Rattle.std.specs.Prelude.{◌≡◌, ◌<◌, length, OnOk, IfOk};
+ghost use Rattle.std.specs.Prelude.{◌≡◌, ◌<◌, ◌==◌, ℕ, true, length, OnOk, IfOk};
+ghost use Rattle.std.specs.List.{flat_map, range_with_len};
+ghost use Rattle.psdl_names.specs.Descent.{has, without_repeats};
 ghost use Rattle.psdl_conditions.specs.Lineage.{ancestry_in, conforms_in};
 
 use crate::lineage::Lineage;
@@ -43,4 +45,23 @@ pub(crate) fn descends(
     marks.clear();
     let mut walk = Walk::new(alloc);
     walk.run_to(lineage, marks, from, to)
+}
+
+/// All declarations, each behind those that it descends from where these do not descend from it.
+pub(crate) fn order(
+    alloc: Global,
+    lineage: &Lineage,
+    marks: &mut Marks,
+) -> Result<Vec<usize>, NoMemory>
+    requires sized { length marks.old ≡ length lineage.now }
+    ensures sized { length marks.new ≡ length marks.old }
+    ensures order { IfOk result (λ order. order.items ≡ without_repeats (λ a b. a == b) (flat_map (ancestry_in lineage.now) (range_with_len 0 (length lineage.now)))) }
+    ensures below { IfOk result (λ order. (n : ℕ) → has order.items n ≡ true → n < length lineage.now) }
+{
+    marks.clear();
+    let mut walk = Walk::new(alloc);
+    for number in 0..lineage.len() {
+        walk.run(lineage, marks, number)?;
+    }
+    Ok(walk.into_found())
 }

@@ -80,14 +80,14 @@ module _ (all : List Declaration) (none : first_fault all ≡ None) where
       let front : p < n = parent_in_front n p lt a in
       (front, lt-ltb p (length all) (omega (arith, front, lt)))
 
-  are_low : AreLow (graph_of all) low
+  are_low : AreLow (graph_of all) (λ m. m) low
   are_low n p is h = lower n p (ltb-true n (length all) is) h
 
   -- what a declaration descends from: what its parents do, and itself
   pub ancestry_joined : (n : ℕ) → n < length all → ancestry all n ≡ once (flat_map (ancestry all) (parents_of all n) ++ n ∷ [])
   ancestry_joined n lt =
       ancestry_is all n
-      ∙ joined_of (graph_of all) low n are_low (omega (arith, lt, length-graph_of all)) (λ p h. lower n p lt h)
+      ∙ joined_of (graph_of all) (λ m. m) low n are_low (omega (arith, lt, length-graph_of all)) (omega (arith, lt, length-graph_of all)) (λ p h. lower n p lt h)
       ∙ ap (λ (ps : List ℕ). once (flat_map (ancestry_in (graph_of all)) ps ++ n ∷ [])) (parents_are all n)
       ∙ ap (λ (l : List ℕ). once (l ++ n ∷ [])) (same_on (ancestry_in (graph_of all)) (ancestry all) (parents_of all n) (λ p h. sym (ancestry_is all p)))
 

@@ -5,7 +5,7 @@ use Rattle.psdl_conditions.specs.Contributing.{contributors_in, list_at}
 use Rattle.psdl_conditions.specs.Contributed.{kept_in}
 use Rattle.psdl_conditions.proofs.Firsts.{there_at}
 use Rattle.psdl_conditions.proofs.Idle.{none_joined, length-cleared}
-use Rattle.psdl_conditions.proofs.Kept.{contributors_below, one_parent_more, named_more, all_joined, without_own, with_own, length-lists_of}
+use Rattle.psdl_conditions.proofs.Kept.{contributors_below, one_parent_more, named_more, all_joined, without_own, with_own}
 use Rattle.psdl_conditions.proofs.contributors.Contributors.joined.Goals as goal
 
 pub loop-parent-init : goal.loop-parent-init
@@ -49,7 +49,7 @@ loop-parent-preserved c =
           one_parent_more (contributors_in graph c.args.own.now) ps i c.loop-parent.joined.items c.in-Some.list.now c.join.new.joined.items lt c.loop-parent.invariant.items
           (c.requires.table.list p c.in-Some.list.now (sym at_p)) c.in_ok-join-in-Some.ensures.items;
       named =
-          named_more graph (kept_in c.args.self.now) ps i c.args.number c.in-Some.list.now lt at_p (length-lists_of c.args.self.now.kept.items ∙ sym c.requires.next) c.loop-parent.invariant.named;
+          named_more (kept_in c.args.self.now) ps i c.in-Some.list.now lt at_p c.loop-parent.invariant.named;
     }
 
 pub returns-then-not-is_own-clause-list : goal.returns-then-not-is_own-clause-list
@@ -58,7 +58,7 @@ returns-then-not-is_own-clause-list c =
     let past : length (parents_in graph c.args.number) ≤ c.loop-parent.parent-index =
     omega (arith, c.loop-parent-test.false, ap (λ (l : List ℕ). length l) c.parents-parents.ensures.parents) in
     without_own c.args.own.now c.args.number c.loop-parent.joined.items (contributors_in graph c.args.own.now c.args.number) (sym c.is_own.ensures ∙ c.if-not-is_own.true) c.loop-parent.invariant.joined.distinct
-    (all_joined graph c.args.own.now (kept_in c.args.self.now) c.args.number c.loop-parent.parent-index c.loop-parent.joined.items c.requires.table c.requires.number past c.loop-parent.invariant.items
+    (all_joined graph c.args.own.now (kept_in c.args.self.now) c.args.number c.loop-parent.parent-index c.loop-parent.joined.items c.requires.table c.requires.unkept c.requires.number past c.loop-parent.invariant.items
     c.loop-parent.invariant.named)
 
 pub returns-clause-list : goal.returns-clause-list
@@ -67,6 +67,6 @@ returns-clause-list c =
     let past : length (parents_in graph c.args.number) ≤ c.loop-parent.parent-index =
     omega (arith, c.loop-parent-test.false, ap (λ (l : List ℕ). length l) c.parents-parents.ensures.parents) in
     with_own c.args.own.now c.args.number c.loop-parent.joined.items (contributors_in graph c.args.own.now c.args.number) c.add.new.joined.items (sym c.is_own.ensures ∙ c.if-not-is_own.false)
-    (all_joined graph c.args.own.now (kept_in c.args.self.now) c.args.number c.loop-parent.parent-index c.loop-parent.joined.items c.requires.table c.requires.number past c.loop-parent.invariant.items
+    (all_joined graph c.args.own.now (kept_in c.args.self.now) c.args.number c.loop-parent.parent-index c.loop-parent.joined.items c.requires.table c.requires.unkept c.requires.number past c.loop-parent.invariant.items
     c.loop-parent.invariant.named)
     c.in_ok-add.ensures.items

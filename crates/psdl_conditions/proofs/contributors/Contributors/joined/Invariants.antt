@@ -1,4 +1,4 @@
-use Rattle.std.proofs.Common.{◌≡◌, ◌<◌, ◌==◌, ℕ, take, length, true}
+use Rattle.std.proofs.Common.{◌≡◌, ◌==◌, ℕ, take, length, true}
 use Rattle.std.specs.List.{flat_map}
 use Rattle.std.specs.Option.{is_some}
 use Rattle.psdl_names.specs.Descent.{has, without_repeats}
@@ -14,5 +14,5 @@ invariant-loop-parent l =
       sized : length l.marks ≡ length l.lineage;
       joined : AreJoined l.marks l.joined.items;
       items : l.joined.items ≡ without_repeats (λ a b. a == b) (flat_map (contributors_in l.lineage l.own) front);
-      named : (p : ℕ) → has front p ≡ true → (p < l.number) × (is_some (list_at (kept_in l.self) p) ≡ true);
+      named : (p : ℕ) → has front p ≡ true → is_some (list_at (kept_in l.self) p) ≡ true;
     }

@@ -3,26 +3,36 @@
 
 mod ahead;
 mod bytes;
+mod damage;
 mod failed;
 mod laws;
 mod lines;
 mod memory;
+mod owner;
 mod part;
 mod pid;
 mod place;
+mod put;
+mod session;
 mod source;
 mod steps;
+mod stop;
 mod whole;
 
 pub use bytes::Bytes;
+pub use damage::DamageKind;
 pub use failed::{Failed, NoMemory};
 pub use laws::lines_come_in_order;
 pub use lines::{LineReader, LineStep};
 pub use memory::MemSource;
-pub use pid::Pid;
+pub use owner::OwnerNo;
+pub use pid::{Pid, Pids};
 pub use place::Place;
+pub use put::{Put, Puts};
+pub use session::SessionNo;
 pub use source::{Source, StdSource};
 pub use steps::Steps;
+pub use stop::{DiskFault, StoreStop};
 pub use whole::{ReadAll, read_all};
 
 #[cfg(test)]

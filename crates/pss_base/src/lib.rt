@@ -1,16 +1,20 @@
-//! What all layers stand on: bytes, identifiers of objects, sources of bytes, and the lines of a source.
+//! What all layers stand on: bytes, identifiers of objects and their texts, stored records, sources of bytes, and
+//! the lines of a source.
 #![tactic(auto)]
 
 mod ahead;
+mod blanks;
 mod bytes;
 mod damage;
 mod failed;
+mod hexadecimal;
 mod laws;
 mod lines;
 mod memory;
 mod owner;
 mod part;
 mod pid;
+mod pid_text;
 mod place;
 mod put;
 mod session;
@@ -19,14 +23,17 @@ mod steps;
 mod stop;
 mod whole;
 
+pub use blanks::{is_blank, skip_blanks};
 pub use bytes::Bytes;
 pub use damage::DamageKind;
 pub use failed::{Failed, NoMemory};
+pub use hexadecimal::{hex_digit, hex_number, hex_value, write_hex};
 pub use laws::lines_come_in_order;
 pub use lines::{LineReader, LineStep};
 pub use memory::MemSource;
 pub use owner::OwnerNo;
 pub use pid::{Pid, Pids};
+pub use pid_text::{append_pid, append_short_pid, read_pid, read_short_pid};
 pub use place::Place;
 pub use put::{Put, Puts};
 pub use session::SessionNo;

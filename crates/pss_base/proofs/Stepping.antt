@@ -6,8 +6,8 @@ use Rattle.std.specs.declared.option.Option.{Option}
 use Rattle.std.specs.Str.Lines.{strip_carriage_return}
 use Rattle.std.specs.Io.KnownBytes.{Consumes, IsAtEnd}
 use Rattle.pss_base.specs.Lines.{bytes_of}
-use Rattle.pss_base.specs.Reading.{Reading, TakesLine, NextLine}
-use Rattle.pss_base.specs.Parts.{PartOf, StopsAt, told_of, stopped_by, is_stopped_by_fault, most_bytes, reading_after}
+use Rattle.pss_base.specs.Reading.{Reading, TakesLine, NextLine, most_bytes}
+use Rattle.pss_base.specs.Parts.{PartOf, StopsAt, told_of, stopped_by, is_stopped_by_fault, reading_after}
 use Rattle.pss_base.specs.declared.part.Part.{Part}
 use Rattle.pss_base.specs.declared.part.Stop.{Stop}
 use Rattle.pss_base.specs.declared.part.Stop.TheVariants.{Limit, ReadFault, NoMemory}

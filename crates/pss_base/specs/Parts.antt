@@ -1,8 +1,9 @@
 -- What reading one line gives.
-use Rattle.std.specs.Prelude.{ℕ, ◌≡◌, ◌≤◌, ◌++◌, List, [], ◌∷◌, length, take, Bool, true, false, not, nat_lt, ◌==◌, if◌then◌else◌, ◌-◌, Result, Ok, Err}
+use Rattle.std.specs.Prelude.{ℕ, ◌≡◌, ◌≤◌, ◌<◌, ◌+◌, ◌++◌, List, [], ◌∷◌, length, take, drop, Bool, true, false, not, nat_lt, ◌==◌, if◌then◌else◌, ◌-◌, Result, Ok, Err}
 use Rattle.std.specs.declared.option.Option.{Option}
 use Rattle.std.specs.Io.KnownBytes.{Consumes, IsAtEnd}
 use Rattle.pss_base.specs.declared.part.Part.{Part}
+use Rattle.pss_base.specs.declared.part.Piece.{Piece}
 use Rattle.pss_base.specs.declared.part.Stop.{Stop}
 use Rattle.pss_base.specs.declared.part.Stop.TheVariants.{Limit, ReadFault, NoMemory}
 use Rattle.std.specs.Str.Lines.{strip_carriage_return}
@@ -28,6 +29,27 @@ pub record PartOf (part : Part) (most : ℕ) (before after : Option (List ℕ)) 
   pub fits : part.size ≤ most
   pub last : part.ended ≡ false → IsAtEnd after
 
+-- what some bytes have of their first line
+pub record IsPiece (piece : Piece) (bytes : List ℕ) : Type 0 where
+  pub one : has_lf (take piece.len bytes) ≡ false
+  pub front : bytes ≡ bytes_of (take piece.len bytes, piece.ended) ++ drop piece.size bytes
+  pub size : piece.size ≡ length (bytes_of (take piece.len bytes, piece.ended))
+  pub len : piece.len ≤ length bytes
+  pub whole : piece.ended ≡ false → drop piece.size bytes ≡ []
+
+-- a line of which so many bytes came before takes its piece of the bytes ahead
+pub record TakesPiece (piece : Piece) (count most : ℕ) (before after text_before text_after : List ℕ) : Type 0 where
+  pub cut : IsPiece piece before
+  pub rest : after ≡ drop piece.size before
+  pub text : text_after ≡ text_before ++ take (65536 - count) (take piece.len before)
+  pub fits : count + piece.size ≤ most
+
+-- no piece was taken: the bytes ahead have more of the line than there is room for, or there was no memory
+abbrev pub StopsIn : Stop → ℕ → List ℕ → List ℕ → Type 0
+StopsIn Limit room before after = (room < length before) × (has_lf (take room before) ≡ false) × (after ≡ drop (room + 1) before)
+StopsIn ReadFault room before after = ⊥
+StopsIn NoMemory room before after = after ≡ before
+
 -- why no line was read, and what was taken of it
 abbrev pub StopsAt : Stop → ℕ → Option (List ℕ) → Option (List ℕ) → Type 0
 StopsAt Limit most before after = (part : List ℕ) × (b : ℕ) × Consumes before after (part ++ b ∷ []) × (has_lf part ≡ false) × (length part ≡ most)
@@ -50,10 +72,6 @@ abbrev pub stopped_by : Stop → LineStep
 stopped_by Limit = step.Limit
 stopped_by ReadFault = step.ReadFault
 stopped_by NoMemory = step.NoMemory
-
--- how many bytes the next line may have
-abbrev pub most_bytes : ℕ → ℕ → ℕ
-most_bytes lines_left bytes_left = if lines_left == 0 then 0 else bytes_left
 
 -- the reader behind a line
 abbrev pub reading_after : Reading → Part → Reading

@@ -1,5 +1,5 @@
 -- What one call of a reader of lines does.
-use Rattle.std.specs.Prelude.{ℕ, ◌≡◌, ◌⊎◌, ◌+◌, ◌<◌, ◌++◌, List, [], ◌∷◌, length, Bool, true, false, not, IsTrue}
+use Rattle.std.specs.Prelude.{ℕ, ◌≡◌, ◌⊎◌, ◌+◌, ◌<◌, ◌++◌, List, [], ◌∷◌, length, Bool, true, false, not, ◌||◌, ◌==◌, nat_lt, if◌then◌else◌, IsTrue}
 use Rattle.std.specs.declared.option.Option.{Option}
 use Rattle.std.specs.Io.KnownBytes.{prepend_known, Consumes, IsAtEnd}
 use Rattle.pss_base.specs.declared.lines.LineStep.{LineStep}
@@ -23,6 +23,18 @@ new_reading n b = record { ahead = []; lines_left = n; bytes_left = b; at_end = 
 -- all that is to come: what the reader has, and then what its source has
 abbrev pub to_come : Reading → Option (List ℕ) → Option (List ℕ)
 to_come reader left = prepend_known reader.ahead left
+
+-- how many bytes the next line may have
+abbrev pub most_bytes : ℕ → ℕ → ℕ
+most_bytes lines_left bytes_left = if lines_left == 0 then 0 else bytes_left
+
+-- what is ahead has the end of a line, or a byte more than a line may have
+abbrev pub holds_line : ℕ → List ℕ → Bool
+holds_line most ahead = has_lf ahead || nat_lt most (length ahead)
+
+-- the reader's next step shows in what it has: it saw the end, or it holds a line
+abbrev pub has_next : Reading → Bool
+has_next r = r.at_end || holds_line (most_bytes r.lines_left r.bytes_left) r.ahead
 
 -- one line was taken, and is told by this step
 pub record TakesLine (old new : Reading) (before after : Option (List ℕ)) (step : LineStep) : Type 0 where

@@ -1,6 +1,6 @@
 // The bytes that a reader has read in a large piece and not taken yet.
-ghost use Rattle.std.specs.Prelude.{◌≡◌, ◌∷◌, [], IfOk, OnOk, OnErr, MatchOption};
-ghost use Rattle.std.specs.Io.KnownBytes.{prepend_known, Consumes, Keeps, IsAtEnd};
+ghost use Rattle.std.specs.Prelude.{◌≡◌, ◌≢◌, ◌≤◌, [], OnOk, OnErr, length, drop};
+ghost use Rattle.std.specs.Io.KnownBytes.{prepend_known, Keeps, IsAtEnd};
 ghost use Rattle.pss_base.specs.Causes.{HasCause};
 
 use crate::{Failed, Source};
@@ -38,17 +38,6 @@ impl Ahead {
         }
     }
 
-    fn take_byte(&mut self) -> Option<u8>
-        ensures { MatchOption result ((self.old ≡ []) × (self.new ≡ [])) (λ byte. self.old ≡ byte ∷ self.new) }
-    {
-        if self.from == self.to {
-            return None;
-        }
-        let byte = self.chunk[self.from];
-        self.from += 1;
-        Some(byte)
-    }
-
     fn fill<C: Source>(&mut self, source: &mut C) -> Result<(), Failed>
         requires { self.old ≡ [] }
         ensures ok { OnOk result (Keeps (C.left source.old) (prepend_known self.new (C.left source.new))) }
@@ -62,18 +51,33 @@ impl Ahead {
         Ok(())
     }
 
-    /// The next byte, or none at the end.
-    pub fn next_byte<C: Source>(&mut self, source: &mut C) -> Result<Option<u8>, Failed>
-        ensures byte { IfOk result (λ next. MatchOption next
-            (Keeps (prepend_known self.old (C.left source.old)) (prepend_known self.new (C.left source.new)) × IsAtEnd (prepend_known self.new (C.left source.new)))
-            (λ byte. Consumes (prepend_known self.old (C.left source.old)) (prepend_known self.new (C.left source.new)) (byte ∷ []))) }
-        ensures err { OnErr result (Keeps (prepend_known self.old (C.left source.old)) (prepend_known self.new (C.left source.new)) × (self.new ≡ [])) }
+    /// Reads a piece where no byte is ahead. None is ahead afterwards only at the end of the source, or where the
+    /// read failed.
+    pub fn refill<C: Source>(&mut self, source: &mut C) -> Result<(), Failed>
+        ensures kept { Keeps (prepend_known self.old (C.left source.old)) (prepend_known self.new (C.left source.new)) }
+        ensures end { OnOk result (self.new ≡ [] → IsAtEnd (prepend_known self.new (C.left source.new))) }
+        ensures err { OnErr result (self.new ≡ []) }
+        ensures unread { self.old ≢ [] → (self.new ≡ self.old) × (source.new ≡ source.old) }
         ensures cause { HasCause (C.faults source.old) (C.faults source.new) result }
     {
-        if let Some(byte) = self.take_byte() {
-            return Ok(Some(byte));
+        if self.from == self.to {
+            self.fill(source)?;
         }
-        self.fill(source)?;
-        Ok(self.take_byte())
+        Ok(())
+    }
+
+    /// The bytes.
+    pub fn as_slice(&self) -> &[u8]
+        ensures { result.now ≡ self.now }
+    {
+        &self.chunk[self.from..self.to]
+    }
+
+    /// Takes so many bytes off the front.
+    pub fn skip(&mut self, count: usize)
+        requires { count ≤ length self.old }
+        ensures { self.new ≡ drop count self.old }
+    {
+        self.from += count;
     }
 }

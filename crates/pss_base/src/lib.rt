@@ -8,6 +8,7 @@ mod bytes;
 mod damage;
 mod failed;
 mod hexadecimal;
+mod keep;
 mod laws;
 mod lines;
 mod memory;

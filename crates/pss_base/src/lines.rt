@@ -2,8 +2,8 @@
 ghost use Rattle.std.specs.Prelude.{◌≡◌, ◌≤◌, IsTrue, ◌==◌, if◌then◌else◌};
 ghost use Rattle.std.specs.Str.Lines.{strip_carriage_return as without_return};
 ghost use Rattle.pss_base.specs.Causes.{HasCauseIf};
-ghost use Rattle.pss_base.specs.Parts.{told_of, stopped_by, most_bytes, reading_after};
-ghost use Rattle.pss_base.specs.Reading.{new_reading, to_come, NextLine, is_read_fault, goes_on};
+ghost use Rattle.pss_base.specs.Parts.{told_of, stopped_by, reading_after};
+ghost use Rattle.pss_base.specs.Reading.{new_reading, to_come, NextLine, is_read_fault, goes_on, most_bytes, has_next};
 
 use crate::ahead::Ahead;
 use crate::part::{LONGEST, Part, Stop, read_part};
@@ -72,12 +72,15 @@ impl LineReader {
         self.live
     }
 
-    /// The next line of the source, which is the same one at each call. The first byte past a limit is told as
-    /// `Limit`; a failure of the source at once, without any line of which a byte is missing.
+    /// The next line of what is to come: of the bytes that the reader has ahead, and then of the source that is given.
+    /// So give the same source at each call. The first byte past a limit is told as `Limit`; a failure of the source at
+    /// once, without any line of which a byte is missing. Where the next step shows in what the reader has ahead, it
+    /// does not read.
     pub fn next<C: Source>(&mut self, src: &mut C) -> LineStep
         requires { IsTrue self.old.live }
         ensures step { NextLine self.old self.new (to_come self.old (C.left src.old)) (to_come self.new (C.left src.new)) result }
         ensures live { self.new.live ≡ goes_on result }
+        ensures unread { IsTrue (has_next self.old) → src.new ≡ src.old }
         ensures cause { HasCauseIf (C.faults src.old) (C.faults src.new) (is_read_fault result) }
     {
         if self.at_end {

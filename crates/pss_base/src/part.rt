@@ -1,10 +1,12 @@
 // What is read of a source up to the next line feed.
-ghost use Rattle.std.specs.Prelude.{◌≡◌, ◌++◌, ◌∷◌, [], IfOk, OnOk, OnErr, IfErr, IsTrue, nat_lt, if◌then◌else◌};
+ghost use Rattle.std.specs.Prelude.{◌≡◌, ◌≤◌, ◌-◌, ◌==◌, ◌++◌, [], IfOk, OnOk, OnErr, IfErr, IsTrue, position, take};
 ghost use Rattle.std.specs.Io.KnownBytes.{prepend_known};
 ghost use Rattle.pss_base.specs.Causes.{HasCauseIf};
-ghost use Rattle.pss_base.specs.Parts.{PartOf, StopsAt, is_stopped_by_fault};
+ghost use Rattle.pss_base.specs.Reading.{holds_line};
+ghost use Rattle.pss_base.specs.Parts.{PartOf, StopsAt, is_stopped_by_fault, IsPiece, TakesPiece, StopsIn};
 
 use crate::ahead::Ahead;
+use crate::keep::extend_within;
 use crate::{Bytes, NoMemory, Source};
 use std::alloc::Global;
 
@@ -32,19 +34,71 @@ pub enum Stop {
     NoMemory,
 }
 
-// Adds a byte, unless so many bytes came before it.
-fn keep(text: &mut Bytes, count: u64, byte: u8) -> Result<(), NoMemory>
-    ensures ok { OnOk result (text.new ≡ (if nat_lt count 65536 then text.old ++ byte ∷ [] else text.old)) }
-    ensures err { OnErr result (text.new ≡ text.old) }
+// What some bytes have of their first line.
+#[derive(Clone, Copy, Drop)]
+struct Piece {
+    // How many bytes without a line feed.
+    len: usize,
+    // How many with the line feed.
+    size: usize,
+    // Whether there is one.
+    ended: bool,
+}
+
+// Where the first line feed stands.
+fn feed_in(bytes: &[u8]) -> Option<usize>
+    ensures { result ≡ position (λ b. b == 10) bytes.now }
 {
-    if count < LONGEST {
-        text.push(byte)
-    } else {
-        Ok(())
+    bytes.iter().position(|b| *b == b'\n')
+}
+
+// Up to the first line feed, or all.
+fn piece_of(bytes: &[u8]) -> Piece
+    ensures { IsPiece result bytes.now }
+{
+    match feed_in(bytes) {
+        Some(len) => Piece {
+            len,
+            size: len + 1,
+            ended: true,
+        },
+        None => Piece {
+            len: bytes.len(),
+            size: bytes.len(),
+            ended: false,
+        },
     }
 }
 
-/// Reads to the next line feed or the end, and at most so many bytes.
+// Adds to a line that has so many bytes what is kept of the next ones.
+fn keep(text: &mut Bytes, count: u64, bytes: &[u8]) -> Result<(), NoMemory>
+    ensures ok { OnOk result (text.new ≡ text.old ++ take (65536 - count) bytes.now) }
+    ensures err { OnErr result (text.new ≡ text.old) }
+{
+    extend_within(text, LONGEST.saturating_sub(count) as usize, bytes)
+}
+
+// Takes what the bytes ahead have of a line, of which so many came before.
+fn take_piece(ahead: &mut Ahead, text: &mut Bytes, count: u64, most: u64) -> Result<Piece, Stop>
+    requires { count ≤ most }
+    ensures ok { IfOk result (λ piece. TakesPiece piece count most ahead.old ahead.new text.old text.new) }
+    ensures err { IfErr result (λ stop. StopsIn stop (most - count) ahead.old ahead.new) }
+{
+    let room = most - count;
+    let piece = piece_of(ahead.as_slice());
+    if piece.size as u64 > room {
+        ahead.skip(room as usize + 1);
+        return Err(Stop::Limit);
+    }
+    let Ok(()) = keep(text, count, &ahead.as_slice()[..piece.len]) else {
+        return Err(Stop::NoMemory);
+    };
+    ahead.skip(piece.size);
+    Ok(piece)
+}
+
+/// Reads to the next line feed or the end, and at most so many bytes. It reads from the source only where neither a
+/// line feed nor a byte too many is ahead.
 pub fn read_part<C: Source>(
     alloc: Global,
     ahead: &mut Ahead,
@@ -54,26 +108,29 @@ pub fn read_part<C: Source>(
     ensures ok { IfOk result (λ part. PartOf part most (prepend_known ahead.old (C.left source.old)) (prepend_known ahead.new (C.left source.new))) }
     ensures err { IfErr result (λ stop. StopsAt stop most (prepend_known ahead.old (C.left source.old)) (prepend_known ahead.new (C.left source.new))) }
     ensures empty { IsTrue (is_stopped_by_fault result) → ahead.new ≡ [] }
+    ensures unread { IsTrue (holds_line most ahead.old) → source.new ≡ source.old }
     ensures cause { HasCauseIf (C.faults source.old) (C.faults source.new) (is_stopped_by_fault result) }
 {
     let mut text = Bytes::new(alloc);
     let mut count = 0;
-    'bytes: loop {
-        let Ok(next) = ahead.next_byte(source) else {
+    'pieces: loop {
+        let Ok(()) = ahead.refill(source) else {
             return Err(Stop::ReadFault);
         };
-        let Some(byte) = next else {
+        if ahead.as_slice().is_empty() {
             return Ok(Part {
                 text,
                 count,
                 size: count,
                 ended: false,
             });
-        };
-        if count == most {
-            return Err(Stop::Limit);
         }
-        if byte == b'\n' {
+        let piece = match take_piece(ahead, &mut text, count, most) {
+            Ok(piece) => piece,
+            Err(stop) => return Err(stop),
+        };
+        count += piece.len as u64;
+        if piece.ended {
             return Ok(Part {
                 text,
                 count,
@@ -81,9 +138,5 @@ pub fn read_part<C: Source>(
                 ended: true,
             });
         }
-        if keep(&mut text, count, byte).is_err() {
-            return Err(Stop::NoMemory);
-        }
-        count += 1;
     }
 }

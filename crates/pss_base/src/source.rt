@@ -6,7 +6,10 @@ ghost use Rattle.std.specs.Io.KnownBytes.{ReadConsumes};
 ghost use Rattle.pss_base.specs.Causes.{HasCause, counted};
 
 use crate::Failed;
-use std::io::Read;
+use std::io::{ErrorKind, Read};
+
+/// How often a read is tried that the system interrupts each time.
+const TRIES: u32 = u32::MAX;
 
 /// Bytes that come in pieces. A read may fail; it may succeed again at the next call.
 pub trait Source {
@@ -24,8 +27,8 @@ pub trait Source {
         ensures cause { HasCause (faults self.old) (faults self.new) result };
 }
 
-/// A reader of std as a source. It tells no bytes. Without a reader, as for a file that could not be opened,
-/// each read fails.
+/// A reader of std as a source. It tells no bytes. A read that the system interrupts is tried again. Without a reader,
+/// as for a file that could not be opened, each read fails.
 #[derive(Drop)]
 pub struct StdSource<R> {
     inner: Option<R>,
@@ -62,11 +65,29 @@ impl<R: Read + Drop> Source for StdSource<R> {
             ReadConsumes (R.remaining old) (R.remaining new) result buf.new)) }
     {
         if let Some(inner) = &mut self.inner {
-            if let Ok(count) = inner.read(buf) {
+            if let Ok(count) = read_again(inner, buf) {
                 return Ok(count);
             }
         }
         self.faults = self.faults.saturating_add(1);
         Err(Failed)
     }
+}
+
+// Reads, and tries again where the system interrupted the read.
+fn read_again<R: Read + Drop>(inner: &mut R, buf: &mut [u8]) -> Result<usize, Failed>
+    ensures bound { ReadsAtMost result buf.new }
+    ensures bytes { ReadConsumes (R.remaining inner.old) (R.remaining inner.new) result buf.new }
+{
+    for _ in 0..TRIES {
+        match inner.read(buf) {
+            Ok(count) => return Ok(count),
+            Err(error) => {
+                if error.kind() != ErrorKind::Interrupted {
+                    return Err(Failed);
+                }
+            }
+        }
+    }
+    Err(Failed)
 }

@@ -5,6 +5,7 @@ ghost use Rattle.pss_base.specs.All.{IsRefused, is_faulty};
 ghost use Rattle.pss_base.specs.Causes.{HasCauseIf};
 
 use crate::ahead::Ahead;
+use crate::keep::extend_within;
 use crate::{Bytes, Source};
 use std::alloc::Global;
 
@@ -29,20 +30,22 @@ pub fn read_all<C: Source>(alloc: Global, src: &mut C, limit: u32) -> Result<Byt
 {
     let mut ahead = Ahead::new();
     let mut bytes = Bytes::new(alloc);
-    let mut count = 0;
-    'bytes: loop {
-        let Ok(next) = ahead.next_byte(src) else {
+    let mut room = limit as usize;
+    'pieces: loop {
+        let Ok(()) = ahead.refill(src) else {
             return Err(ReadAll::ReadFault);
         };
-        let Some(byte) = next else {
+        let count = ahead.as_slice().len();
+        if count == 0 {
             return Ok(bytes);
+        }
+        let Ok(()) = extend_within(&mut bytes, room, ahead.as_slice()) else {
+            return Err(ReadAll::NoMemory);
         };
-        if count == limit {
+        if count > room {
             return Err(ReadAll::OverLimit(bytes));
         }
-        if bytes.push(byte).is_err() {
-            return Err(ReadAll::NoMemory);
-        }
-        count += 1;
+        room -= count;
+        ahead.skip(count);
     }
 }

@@ -1,20 +1,18 @@
-use Rattle.std.proofs.Common.{rules, ◌≡◌, ◌++◌, ◌∷◌, [], nat_lt, if◌then◌else◌}
-use Rattle.pss_base.proofs.Taking.{one_more, at_feed, over, stopped_at}
+use Rattle.std.proofs.Common.{rules}
+use Rattle.pss_base.proofs.Pieces.{never_more}
+use Rattle.pss_base.proofs.Taking.{more, at_feed, stops}
 use Rattle.pss_base.proofs.part.read_part.Goals as goal
 
-pub returns-then-count-most-clause-err : goal.returns-then-count-most-clause-err
-returns-then-count-most-clause-err g c = over _ _ _ _ _ _ _ c.bytes.invariant.taken (rw c.in-Some.is at c.in-Ok.ensures.byte) c.if-count-most.true
+pub returns-in-Err-clause-err : goal.returns-in-Err-clause-err
+returns-in-Err-clause-err g c = stops _ _ _ _ _ _ _ _ _ c.pieces.invariant.taken c.in-Ok.ensures.kept c.in-Err.ensures.err
 
-pub returns-then-byte-eq10-clause-ok : goal.returns-then-byte-eq10-clause-ok
-returns-then-byte-eq10-clause-ok g c = at_feed _ _ _ _ _ _ _ c.bytes.invariant.taken (rw c.in-Some.is at c.in-Ok.ensures.byte) c.if-byte-eq10.true c.if-count-most.false
+pub returns-then-piece-clause-ok : goal.returns-then-piece-clause-ok
+returns-then-piece-clause-ok g c = at_feed _ _ _ _ _ _ _ _ _ c.in-Ok-take_piece.piece c.pieces.invariant.taken c.in-Ok.ensures.kept c.in-Ok-take_piece.ensures.ok c.if-piece.true
 
-pub returns-then-is_err-clause-err : goal.returns-then-is_err-clause-err
-returns-then-is_err-clause-err g c = stopped_at _ _ _ _ _ _ _ c.bytes.invariant.taken (rw c.in-Some.is at c.in-Ok.ensures.byte) c.if-byte-eq10.false
-
-pub bytes-preserved : goal.bytes-preserved
-bytes-preserved g c =
-    let kept : c.keep.new.text ≡ (if nat_lt c.bytes.count 65536 then c.bytes.text ++ c.in-Some.byte ∷ [] else c.bytes.text) = search rules in
-    record {
-      taken = one_more _ _ _ _ _ _ _ _ c.bytes.invariant.taken (rw c.in-Some.is at c.in-Ok.ensures.byte) c.if-byte-eq10.false c.if-count-most.false kept;
-      cause = search rules;
-    }
+pub pieces-preserved : goal.pieces-preserved
+pieces-preserved g c = record {
+  taken = more _ _ _ _ _ _ _ _ _ c.in-Ok-take_piece.piece c.pieces.invariant.taken c.in-Ok.ensures.kept c.in-Ok-take_piece.ensures.ok c.if-piece.false;
+  unread = λ holds. absurd (never_more c.in-Ok-take_piece.piece _ c.pieces.ahead c.refill.new.self _ _ holds (c.pieces.invariant.unread holds).1 (λ some. (c.refill.ensures.unread some).0)
+      c.in-Ok-take_piece.ensures.ok.cut c.if-piece.false c.in-Ok-take_piece.ensures.ok.fits);
+  cause = search rules;
+}

@@ -15,7 +15,7 @@ use pss_base::{Bytes, NoMemory};
 use std::alloc::Global;
 
 /// Why no token stands at a place of a text.
-#[derive(Clone, Copy, Debug, PartialEq, Eq, Drop)]
+#[derive(Clone, Copy, Drop)]
 pub enum LexicalKind {
     /// A byte that begins no token, among them a `_` without a letter behind it.
     BadByte,

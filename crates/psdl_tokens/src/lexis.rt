@@ -12,7 +12,7 @@ use std::alloc::Global;
 pub const MOST_BYTES: usize = 1_048_576;
 
 /// Where no token stands in a text, and why.
-#[derive(Clone, Copy, Debug, PartialEq, Eq, Drop)]
+#[derive(Clone, Copy, Drop)]
 pub struct LexicalFault {
     pub place: Place,
     pub kind: LexicalKind,
@@ -55,6 +55,3 @@ pub fn scan(alloc: Global, text: &[u8]) -> Result<Scanned, NoMemory>
         fault: None,
     })
 }
-
-#[cfg(test)]
-mod tests;

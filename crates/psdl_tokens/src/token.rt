@@ -2,7 +2,7 @@
 use pss_base::{Bytes, Place};
 
 /// The words that the grammar is written in.
-#[derive(Clone, Copy, Debug, PartialEq, Eq, Drop)]
+#[derive(Clone, Copy, Drop)]
 pub enum Keyword {
     Abstract,
     Boolean,
@@ -37,7 +37,7 @@ pub enum Keyword {
 }
 
 /// The signs that the grammar is written in.
-#[derive(Clone, Copy, Debug, PartialEq, Eq, Drop)]
+#[derive(Clone, Copy, Drop)]
 pub enum Mark {
     LeftBrace,
     RightBrace,

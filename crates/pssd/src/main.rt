@@ -1,7 +1,10 @@
-//! The program: it makes the service's words, opens the schema's file, and takes standard input as script and standard
-//! output as speech. All else is the service's.
+//! The program: it sees to the standard streams, makes the service's words, opens the schema's file, and takes standard
+//! input as script and standard output as speech. All else is the service's.
 #![tactic(auto)]
 
+mod streams;
+
+use crate::streams::fill_streams;
 use pss_base::{Bytes, NoMemory, StdSource};
 use pss_daemon::{Plan, Status, plan, pssd};
 use pss_disk::RealStation;
@@ -68,10 +71,13 @@ fn open_schema<R: Files>(rt: &R, words: &[Bytes]) -> Option<R::File> {
 }
 
 fn run(rt: &HostRuntime) -> Result<Status, NoMemory> {
+    let Ok(has_input) = fill_streams(rt) else {
+        return Ok(Status::SpeakFault);
+    };
     let alloc = rt.alloc();
     let words = words(rt, alloc)?;
     let mut schema = StdSource::new(open_schema(rt, &words));
-    let mut script = StdSource::new(Some(rt.stdin()));
+    let mut script = StdSource::new(has_input.then_some(rt.stdin()));
     let mut station: RealStation<File, _> = RealStation::new(None, rt.stdout());
     Ok(pssd(alloc, &words, &mut schema, &mut script, &mut station))
 }

@@ -1,12 +1,13 @@
 // A source of bytes that may fail, and the one over a reader of the system.
-ghost use Rattle.std.specs.Prelude.{◌≡◌, List, ℕ, None, IsErr, IfSome, MatchOption, is_err};
+ghost use Rattle.std.specs.Prelude.{◌≡◌, ◌≢◌, List, ℕ, None, IsErr, IfErr, IfSome, MatchOption, is_err};
 ghost use Rattle.std.specs.declared.option.Option.{Option};
 ghost use Rattle.std.specs.Io.{ReadsAtMost};
+ghost use Rattle.std.specs.IoError.{error_kind};
 ghost use Rattle.std.specs.Io.KnownBytes.{ReadConsumes};
 ghost use Rattle.pss_base.specs.Causes.{HasCause, counted};
 
 use crate::Failed;
-use std::io::{ErrorKind, Read};
+use std::io::{self, ErrorKind, Read};
 
 /// How often a read is tried that the system interrupts each time.
 const TRIES: u32 = u32::MAX;
@@ -75,19 +76,16 @@ impl<R: Read + Drop> Source for StdSource<R> {
 }
 
 // Reads, and tries again where the system interrupted the read.
-fn read_again<R: Read + Drop>(inner: &mut R, buf: &mut [u8]) -> Result<usize, Failed>
+fn read_again<R: Read + Drop>(inner: &mut R, buf: &mut [u8]) -> io::Result<usize>
     ensures bound { ReadsAtMost result buf.new }
     ensures bytes { ReadConsumes (R.remaining inner.old) (R.remaining inner.new) result buf.new }
+    ensures retried { IfErr result (λ e. error_kind e ≢ ErrorKind.Interrupted) }
 {
     for _ in 0..TRIES {
         match inner.read(buf) {
-            Ok(count) => return Ok(count),
-            Err(error) => {
-                if error.kind() != ErrorKind::Interrupted {
-                    return Err(Failed);
-                }
-            }
+            Err(error) if error.kind() == ErrorKind::Interrupted => {}
+            result => return result,
         }
     }
-    Err(Failed)
+    Err(ErrorKind::Other.into())
 }

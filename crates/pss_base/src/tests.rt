@@ -5,6 +5,7 @@ use crate::{
     Bytes, LineReader, LineStep, MemSource, NoMemory, ReadAll, Source, StdSource, read_all,
 };
 use std::alloc::Global;
+use std::io::{self, ErrorKind, Read};
 use std::test::Fail;
 
 // One letter a step, and the text of a line behind it.
@@ -72,35 +73,87 @@ fn lines_are_those_of_the_bytes(rt: HostRuntime) -> Result<(), Fail> {
     Ok(())
 }
 
+// Adds a line of so many bytes, and what is told of it.
+fn add_line(
+    alloc: Global,
+    bytes: &mut Bytes,
+    want: &mut Bytes,
+    len: usize,
+) -> Result<(), NoMemory> {
+    let mut line = Bytes::new(alloc);
+    for i in 0..len {
+        line.push(b'a' + (i % 26) as u8)?;
+    }
+    if len > 65536 {
+        want.push(b'T')?;
+    } else {
+        want.push(b'L')?;
+        want.extend(line.as_slice())?;
+    }
+    bytes.extend(line.as_slice())?;
+    bytes.push(b'\n')
+}
+
 #[test]
-fn lines_of_65536_bytes_are_the_longest(rt: HostRuntime) -> Result<(), Fail> {
+fn long_lines_come_in_pieces(rt: HostRuntime) -> Result<(), Fail> {
     let alloc = rt.alloc();
-    for (len, letter) in [(65536usize, b'L'), (65537, b'T'), (65537 * 2, b'T')] {
+    // Over three chunks, with the line feed at the end and at the front of a chunk, and about the longest line.
+    let cases = [
+        (20000, 60000, 32768),
+        (32767, 0, 32768),
+        (32768, 65536, 32768),
+        (65536, 65537, 5000),
+        (65537 * 2, 65536, 1),
+    ];
+    for (first, second, piece) in cases {
         let mut bytes = Bytes::new(alloc);
-        for _ in 0..len {
-            bytes.push(b'x')?;
-        }
-        bytes.extend(b"\nnext")?;
-        let mut source = MemSource::new(alloc, bytes.as_slice(), 5000, &[])?;
+        let mut want = Bytes::new(alloc);
+        add_line(alloc, &mut bytes, &mut want, first)?;
+        add_line(alloc, &mut bytes, &mut want, second)?;
+        want.push(b'E')?;
+        let mut source = MemSource::new(alloc, bytes.as_slice(), piece, &[])?;
         let shown = told(alloc, &mut source, 9, 1000000)?;
-        assert_eq!(rt; shown.as_slice().first(), Some(&letter), "{len}");
-        assert!(rt; shown.as_slice().ends_with(b"LnextE"), "{len}");
+        assert!(rt;
+            shown.as_slice() == want.as_slice(),
+            "{first} {second} {piece}"
+        );
     }
     Ok(())
+}
+
+// A reader that is interrupted at every other call, gives a line and a half, and then fails.
+#[derive(Drop)]
+struct Interrupted {
+    calls: u32,
+}
+
+impl Read for Interrupted {
+    fn read(&mut self, buf: &mut [u8]) -> io::Result<usize> {
+        self.calls = self.calls.saturating_add(1);
+        if self.calls % 2 == 1 {
+            return Err(ErrorKind::Interrupted.into());
+        }
+        if buf.is_empty() || self.calls > 6 {
+            return Err(ErrorKind::Other.into());
+        }
+        buf[0] = if self.calls == 4 { b'\n' } else { b'a' };
+        Ok(1)
+    }
 }
 
 #[test]
 fn a_read_that_fails_is_told_at_once(rt: HostRuntime) -> Result<(), Fail> {
     let alloc = rt.alloc();
-    let cases: [(&[u32], &[u8]); 4] = [
-        (&[], b"LaLbE"),
+    let cases: [(&[u32], &[u8]); 5] = [
+        (&[], b"LaLbcdE"),
         (&[0], b"F"),
         (&[1], b"LaF"),
-        (&[2], b"LaLbF"),
+        (&[2], b"LaF"),
+        (&[3], b"LaLbcdF"),
     ];
     for (fail, want) in cases {
-        let mut source = MemSource::new(alloc, b"a\nb\n", 2, fail)?;
-        let shown = told(alloc, &mut source, 2, 4)?;
+        let mut source = MemSource::new(alloc, b"a\nbcd\n", 2, fail)?;
+        let shown = told(alloc, &mut source, 2, 6)?;
         assert_eq!(rt; shown.as_slice(), want, "{fail:?}");
     }
     let mut none: StdSource<&[u8]> = StdSource::new(None);
@@ -109,6 +162,11 @@ fn a_read_that_fails_is_told_at_once(rt: HostRuntime) -> Result<(), Fail> {
     assert_eq!(rt;
         told(alloc, &mut some, 9, 99)?.as_slice(),
         b"LaLbE".as_slice()
+    );
+    let mut interrupted = StdSource::new(Some(Interrupted { calls: 0 }));
+    assert_eq!(rt;
+        told(alloc, &mut interrupted, 9, 99)?.as_slice(),
+        b"LaF".as_slice()
     );
     Ok(())
 }

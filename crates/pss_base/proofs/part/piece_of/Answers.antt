@@ -1,4 +1,4 @@
-use Rattle.std.proofs.Common.{sym, ◌∙◌}
+use Rattle.std.proofs.Common.{sym}
 use Rattle.pss_base.proofs.Pieces.{up_to_feed, up_to_end}
 use Rattle.pss_base.proofs.part.piece_of.Goals as goal
 

@@ -1,4 +1,3 @@
-use Rattle.std.proofs.Common.{◌≡◌, rules}
 use Rattle.pss_base.proofs.Pieces.{over_room}
 use Rattle.pss_base.proofs.part.take_piece.Goals as goal
 

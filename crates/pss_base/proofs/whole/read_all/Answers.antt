@@ -1,4 +1,4 @@
-use Rattle.std.proofs.Common.{rules, ◌≡◌, ◌++◌, take}
+use Rattle.std.proofs.Common.{rules}
 use Rattle.pss_base.proofs.Taking.{over_limit}
 use Rattle.pss_base.proofs.whole.read_all.Goals as goal
 

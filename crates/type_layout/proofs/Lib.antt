@@ -1,9 +1,11 @@
 mod Vectors
 mod Rows
 pub mod Counting
+pub mod Octets
 pub mod OfType
 pub mod Bases
 pub mod Joining
+pub mod Chosen
 pub mod Keyed
 pub mod Lookups
 pub mod Places

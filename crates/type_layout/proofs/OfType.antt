@@ -1,16 +1,18 @@
 -- The test of a type passes exactly the type's values.
 use Rattle.std.proofs.Common.{map, drop, ◌≤◌, ℕ, ◌≡◌, ◌+◌, ◌^◌, ◌<◌, ℤ, pos, negsuc, List, [], ◌∷◌, length, Some, None, Bool, true, false, refl, ap, ◌∙◌, arith}
-use Rattle.std.specs.Prelude.{not, ◌&&◌, ◌==◌, nat_lt, int_le, FitsSigned}
+use Rattle.std.specs.Prelude.{not, ◌&&◌, ◌==◌, nat_lt, int_le, FitsSigned, IsTrue}
 use Rattle.std.specs.Int.{w8, w16, w32, w64, FitsUnsigned}
 use Rattle.std.proofs.lemmas.Int.{ints}
 use Rattle.std.proofs.lemmas.Bool.Decides.{nat_tests}
 use Rattle.std.proofs.lemmas.List.{drop_all}
 use Rattle.type_layout.specs.declared.ty.Field.{Field}
 use Rattle.type_layout.specs.declared.value.Value.{Value}
+use Rattle.type_layout.specs.declared.member.Member.{Member}
 use Rattle.type_layout.specs.Views.{plain_field, plain_value}
+use Rattle.type_layout.specs.Members.{plain_member}
 use Rattle.type_layout.specs.declared.home.HomeNo.{HomeNo}
 use Rattle.type_layout.specs.Types.{PlainType, Short, Long, LongLong, UShort, ULong, ULongLong, Char, Boolean, Octet, Str, Seq, Arr, Struct, Enum, RefTo, PlainFields, no_fields, field_and, PlainValue, Int, Character, Truth, Ordinal, Text, Items, Parts, Ref, PlainValues, no_values, value_and, fields_of, values_of}
-use Rattle.type_layout.specs.Values.{Of, AreOf, EachOf, count, is_over, has_zero, lists}
+use Rattle.type_layout.specs.Values.{Of, AreOf, EachOf, layout_fields, count, is_over, has_zero, are_bytes, lists}
 use Rattle.type_layout.specs.Testing.{is_of, are_of, every, is_between, is_character, is_truth, is_text, is_sequence, is_array, is_struct, is_enumerator, is_reference}
 
 -- a test that passes exactly where a fact holds
@@ -111,7 +113,10 @@ below_tells : (n : ℕ) → Tells (nat_lt n 4294967295) (n + 1 < 2 ^ 32)
 below_tells n = (λ h. grind (arith, nat_tests), λ h. grind (arith, nat_tests))
 
 text_tells : (bound : ℕ) (v : PlainValue) → Tells (is_text bound v) (Of (Str bound) v)
-text_tells bound (Text bytes) = three_tell _ _ _ _ _ _ (not_tells (has_zero bytes)) (not_tells (is_over bound (length bytes))) (below_tells (length bytes))
+text_tells bound (Text bytes) =
+    let three = three_tell (not (has_zero bytes)) (not (is_over bound (length bytes))) (nat_lt (length bytes) 4294967295) _ _ _ (not_tells (has_zero bytes)) (not_tells (is_over bound (length bytes))) (below_tells (length bytes)) in
+    let four = and_tells (not (has_zero bytes) && not (is_over bound (length bytes)) && nat_lt (length bytes) 4294967295) (are_bytes bytes) _ (IsTrue (are_bytes bytes)) three (λ h. h, λ h. h) in
+    (λ h. let t = four.0 h in (t.0.0, t.0.1, t.0.2, t.1), λ h. four.1 ((h.0, h.1, h.2), h.3))
 text_tells bound _ = never
 
 enumerator_tells : (names : List (List ℕ)) (v : PlainValue) → Tells (is_enumerator names v) (Of (Enum names) v)
@@ -173,6 +178,14 @@ mutual
 -- values are left where there is no field
 pub too_many : (fs : List Field) (i : ℕ) (vs : List Value) → length fs ≤ i → 1 ≤ length vs → are_of (fields_of (map plain_field (drop i fs))) (values_of (map plain_value vs)) ≡ false
 too_many fs i vs past some = rw (drop_all i fs past) (by vs some)
+  where
+    by : (vs : List Value) → 1 ≤ length vs → are_of no_fields (values_of (map plain_value vs)) ≡ false
+    by [] h = absurd (omega arith)
+    by (v ∷ vs) h = refl
+
+-- the same of members
+pub more_than_members : (ms : List Member) (i : ℕ) (vs : List Value) → length ms ≤ i → 1 ≤ length vs → are_of (layout_fields (map plain_member (drop i ms))) (values_of (map plain_value vs)) ≡ false
+more_than_members ms i vs past some = rw (drop_all i ms past) (by vs some)
   where
     by : (vs : List Value) → 1 ≤ length vs → are_of no_fields (values_of (map plain_value vs)) ≡ false
     by [] h = absurd (omega arith)

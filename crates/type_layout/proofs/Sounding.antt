@@ -1,15 +1,18 @@
 -- The worked schema is sound.
 use Rattle.std.proofs.Common.{ℕ, zero, suc, ◌≡◌, [], ◌∷◌, Some, refl, subst, arith}
+use Rattle.std.specs.Prelude.{IsSome}
 use Rattle.std.specs.Fmt.{digits}
 use Rattle.std.specs.List.{slice_get}
 use Rattle.type_layout.specs.declared.home.HomeNo.{HomeNo}
 use Rattle.type_layout.specs.declared.key.KeyNo.{KeyNo}
 use Rattle.type_layout.specs.declared.key.Key.{Key}
+use Rattle.type_layout.specs.declared.schema.Factory.{Factory}
 use Rattle.type_layout.specs.declared.schema.Home.{Home}
+use Rattle.type_layout.specs.declared.schema.Provided.{Provided}
 use Rattle.type_layout.specs.Types.{PlainMember}
-use Rattle.type_layout.specs.Schemas.{nth}
-use Rattle.type_layout.specs.Sound.{EachMember, EachHome, EachKey, IsSoundSchema, IsKeyMember}
-use Rattle.type_layout.specs.People.{home_1, key_0, person, person_home, ssn, people}
+use Rattle.type_layout.specs.Schemas.{nth, home_at}
+use Rattle.type_layout.specs.Sound.{EachMember, EachHome, EachKey, AreMembers, IsSoundSchema, IsKeyMember}
+use Rattle.type_layout.specs.People.{home_1, key_0, person, make, person_home, ssn, persons, people}
 
 each_home : (P : HomeNo → Home → Type 0) → P home_1 person_home → EachHome people P
 each_home P p h home at = by h.0 at
@@ -36,6 +39,14 @@ key_member : (j i : ℕ) → slice_get ssn.members j ≡ Some i → IsKeyMember 
 key_member zero i at = (let same : 0 ≡ i = cc in subst (IsKeyMember person person) same (_, _, refl, refl, refl, refl))
 key_member (suc j) i at = absurd cc
 
+factory_members : (j : ℕ) (f : Factory) → slice_get person_home.factories j ≡ Some f → AreMembers f.members person
+factory_members zero f at = (let same : make ≡ f = cc in subst (λ (g : Factory). AreMembers g.members person) same (refl, refl))
+factory_members (suc j) f at = absurd cc
+
+provided_there : (j : ℕ) (p : Provided) → slice_get people.provided j ≡ Some p → IsSome (home_at people p.home)
+provided_there zero p at = (let same : persons ≡ p = cc in subst (λ (q : Provided). IsSome (home_at people q.home)) same refl)
+provided_there (suc j) p at = absurd cc
+
 pub people_sound : IsSoundSchema people
 unfolding digits
 people_sound = record {
@@ -54,8 +65,8 @@ people_sound = record {
   keyed = each_key _ (each_home _ (λ _. refl, λ _. refl));
   key_members = each_key _ (refl, refl);
   key_types = each_key _ (each_home _ (λ _. key_member));
-  factories = each_home _ (λ j f at. absurd cc);
-  provided_there = λ j p at. absurd cc;
+  factories = each_home _ factory_members;
+  provided_there = provided_there;
   provided_names = refl;
   short_shape = omega arith;
 }

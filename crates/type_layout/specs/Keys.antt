@@ -1,6 +1,7 @@
 -- The bytes that keys are compared by.
-use Rattle.std.specs.Prelude.{ℕ, ◌≡◌, List, [], ◌∷◌, ◌++◌, length, Some, Bool, true, false, IsTrue}
+use Rattle.std.specs.Prelude.{ℕ, ◌≡◌, List, [], ◌∷◌, ◌++◌, length, map, Some, Bool, true, false, IsTrue}
 use Rattle.std.specs.List.{slice_get, flat_map}
+use Rattle.std.specs.Option.{option_to_list}
 use Rattle.std.specs.Int.{w8, w16, w32, w64, to_be_bytes, cast_unsigned, from_bool}
 use Rattle.type_layout.specs.declared.home.HomeNo.{HomeNo}
 use Rattle.type_layout.specs.declared.schema.Home.{Home}
@@ -40,6 +41,27 @@ part_at members values i = given (slice_get members i) [] (λ m. given (slice_ge
 -- the members' values one behind the other, in the key's order
 abbrev pub key_bytes : Schema → KeyNo → List PlainValue → List ℕ
 key_bytes S k values = given (key_at S k) [] (λ key. flat_map (part_at (members_at S key.home) values) key.members)
+
+-- the members with these numbers, in this order
+abbrev pub chosen : List PlainMember → List ℕ → List PlainMember
+chosen members indexes = flat_map (λ i. option_to_list (slice_get members i)) indexes
+
+-- the members of a key, in its order
+abbrev pub key_members : Schema → KeyNo → List PlainMember
+key_members S k = given (key_at S k) [] (λ key. chosen (members_at S key.home) key.members)
+
+-- the parts of members' values, one behind the other
+abbrev pub parts : List PlainMember → List PlainValue → List ℕ
+parts (m ∷ ms) (v ∷ vs) = key_part m.type v ++ parts ms vs
+parts _ _ = []
+
+-- the bytes of a key whose members have these values, in its order
+abbrev pub value_bytes : Schema → KeyNo → List PlainValue → List ℕ
+value_bytes S k values = parts (key_members S k) values
+
+-- in the record the members with these numbers have these values
+abbrev pub HasValues : List PlainValue → List ℕ → List PlainValue → Type 0
+HasValues record_values indexes values = map (slice_get record_values) indexes ≡ map Some values
 
 -- where the member with this number is there, its value is of its type
 abbrev pub FitsAt : List PlainMember → List PlainValue → ℕ → Type 0

@@ -8,7 +8,7 @@ use Rattle.type_layout.specs.Types.{PlainType, PlainValue, PlainMember}
 use Rattle.type_layout.specs.Values.{Of, IsRecord}
 use Rattle.type_layout.specs.Spelling.{Spells, spelling, record_spelling}
 use Rattle.type_layout.specs.Schemas.{key_at}
-use Rattle.type_layout.specs.Keys.{IsRecordWith, key_bytes}
+use Rattle.type_layout.specs.Keys.{IsRecordWith, key_bytes, value_bytes, HasValues}
 use Rattle.type_layout.specs.Sound.{IsSoundSchema}
 
 -- a value has one spelling at a place
@@ -32,3 +32,9 @@ abbrev pub KeysTell : Type 0
 KeysTell =
     (S : Schema) → IsSoundSchema S → (k : KeyNo) (key : Key) → key_at S k ≡ Some key → (us vs : List PlainValue) → IsRecordWith S k us → IsRecordWith S k vs
     → (key_bytes S k us ≡ key_bytes S k vs) ↔ (map (slice_get us) key.members ≡ map (slice_get vs) key.members)
+
+-- the bytes of the values of a key are those of each record in which the key's members have them
+abbrev pub KeyValuesTell : Type 0
+KeyValuesTell =
+    (S : Schema) → IsSoundSchema S → (k : KeyNo) (key : Key) → key_at S k ≡ Some key → (us vs : List PlainValue) → HasValues us key.members vs
+    → key_bytes S k us ≡ value_bytes S k vs

@@ -10,7 +10,7 @@ pub mod Schemas
 pub mod Keys
 pub mod ShapeText
 pub mod Sound
-pub mod Catalog
+pub mod Names
 pub mod Testing
 pub mod Laws
 pub mod People

@@ -2,7 +2,7 @@
 use Rattle.std.specs.Prelude.{ℕ, ℤ, pos, negsuc, List, length, Some, None, Bool, true, false, not, ◌&&◌, ◌==◌, nat_lt, int_le}
 use Rattle.type_layout.specs.declared.home.HomeNo.{HomeNo}
 use Rattle.type_layout.specs.Types.{PlainType, Short, Long, LongLong, UShort, ULong, ULongLong, Char, Boolean, Octet, Str, Seq, Arr, Struct, Enum, RefTo, PlainFields, no_fields, field_and, PlainValue, Int, Character, Truth, Ordinal, Text, Items, Parts, Ref, PlainValues, no_values, value_and}
-use Rattle.type_layout.specs.Values.{count, is_over, has_zero, lists}
+use Rattle.type_layout.specs.Values.{count, is_over, has_zero, are_bytes, lists}
 
 -- each of the values passes
 abbrev pub every : (PlainValue → Bool) → PlainValues → Bool
@@ -22,7 +22,7 @@ is_truth (Truth b) = true
 is_truth _ = false
 
 abbrev pub is_text : ℕ → PlainValue → Bool
-is_text bound (Text bytes) = not (has_zero bytes) && not (is_over bound (length bytes)) && nat_lt (length bytes) 4294967295
+is_text bound (Text bytes) = not (has_zero bytes) && not (is_over bound (length bytes)) && nat_lt (length bytes) 4294967295 && are_bytes bytes
 is_text bound _ = false
 
 abbrev pub is_sequence : (PlainValue → Bool) → ℕ → PlainValue → Bool

@@ -1,7 +1,7 @@
 -- Which values a type has.
 use Rattle.std.specs.Prelude.{ℕ, ◌+◌, ◌^◌, ◌<◌, ◌≡◌, List, [], ◌∷◌, length, Option, Some, None, Bool, false, not, ◌&&◌, ◌==◌, nat_lt, IsTrue, FitsSigned}
 use Rattle.std.specs.Int.{w8, w16, w32, w64, FitsUnsigned}
-use Rattle.std.specs.List.{list_any}
+use Rattle.std.specs.List.{list_any, list_all}
 use Rattle.pss_base.specs.declared.pid.Pid.{Pid}
 use Rattle.type_layout.specs.declared.home.HomeNo.{HomeNo}
 use Rattle.type_layout.specs.Types.{PlainType, Short, Long, LongLong, UShort, ULong, ULongLong, Char, Boolean, Octet, Str, Seq, Arr, Struct, Enum, RefTo, PlainFields, no_fields, field_and, PlainValue, Int, Character, Truth, Ordinal, Text, Items, Parts, Ref, PlainValues, no_values, value_and, values_of, PlainMember}
@@ -24,6 +24,10 @@ is_over bound n = not (bound == 0) && nat_lt bound n
 abbrev pub has_zero : List ℕ → Bool
 has_zero bytes = list_any (λ b. b == 0) bytes
 
+-- each of them is a byte
+abbrev pub are_bytes : List ℕ → Bool
+are_bytes bytes = list_all (λ b. nat_lt b 256) bytes
+
 -- the list has this home
 abbrev pub lists : List HomeNo → ℕ → Bool
 lists homes home = list_any (λ h. h.0 == home) homes
@@ -45,7 +49,7 @@ abbrev mutual
   Of Char (Character c) = c < 2 ^ 8
   Of Boolean (Truth b) = Unit {0}
   Of Octet (Int z) = FitsUnsigned w8 z
-  Of (Str bound) (Text bytes) = (has_zero bytes ≡ false) × (is_over bound (length bytes) ≡ false) × (length bytes + 1 < 2 ^ 32)
+  Of (Str bound) (Text bytes) = (has_zero bytes ≡ false) × (is_over bound (length bytes) ≡ false) × (length bytes + 1 < 2 ^ 32) × IsTrue (are_bytes bytes)
   Of (Seq item bound) (Items vs) = EachOf (Of item) vs × (is_over bound (count vs) ≡ false) × (count vs < 2 ^ 32)
   Of (Arr item n) (Items vs) = EachOf (Of item) vs × (count vs ≡ n)
   Of (Struct fields) (Parts vs) = AreOf fields vs

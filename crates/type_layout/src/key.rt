@@ -7,7 +7,7 @@ use std::alloc::Global;
 use std::marker::Model;
 
 /// A key by its place among the keys of the schema, counted from 0.
-#[derive(Clone, Copy, Debug, PartialEq, Eq, Drop)]
+#[derive(Clone, Copy, Debug, PartialEq, Eq, Hash, Drop)]
 pub struct KeyNo(pub u32);
 
 /// Keys by their numbers, as a storage home has them.

@@ -1,15 +1,16 @@
 // The bytes that keys are compared by.
-ghost use Rattle.std.specs.Prelude.{◌≡◌, ◌++◌, ◌^◌, ◌<◌, ℕ, List, Some, map, IfOk, OnOk};
-ghost use Rattle.std.specs.List.{flat_map, slice_get};
-ghost use Rattle.type_layout.specs.Types.{Short, Long, LongLong, UShort, ULong, ULongLong, Char, Boolean, Octet, Str, Enum};
+ghost use Rattle.std.specs.Prelude.{◌≡◌, ◌+◌, ◌++◌, ◌^◌, ◌<◌, List, length, map, IfOk, OnOk};
+ghost use Rattle.std.specs.List.{flat_map};
+ghost use Rattle.std.specs.Int.{w32, to_be_bytes};
+ghost use Rattle.type_layout.specs.Types.{Int};
 ghost use Rattle.type_layout.specs.Views.{plain_type, plain_value};
 ghost use Rattle.type_layout.specs.Members.{plain_member};
-ghost use Rattle.type_layout.specs.Values.{Of};
+ghost use Rattle.type_layout.specs.Values.{Of, IsRecord};
 ghost use Rattle.type_layout.specs.Schemas.{members_at};
 ghost use Rattle.type_layout.specs.Sound.{IsSoundSchema};
-ghost use Rattle.type_layout.specs.Keys.{key_part, part_at, key_bytes, IsRecordWith, FitsAt, AreFit};
+ghost use Rattle.type_layout.specs.Keys.{key_part, part_at, key_bytes, IsRecordWith, FitsAt, AreFit, chosen, key_members, parts, value_bytes};
 
-use crate::{HomeNo, KeyNo, Member, Names, Record, Schema, Ty, Value};
+use crate::{HomeNo, KeyNo, Member, Record, Schema, Ty, Value};
 use pss_base::{Bytes, NoMemory};
 use std::alloc::Global;
 
@@ -34,6 +35,49 @@ pub fn key_of(alloc: Global, schema: &Schema, key: KeyNo, value: &Record) -> Res
         found.members.as_slice(),
     )?;
     Ok(bytes)
+}
+
+/// The bytes of a key whose members have these values, in the key's order: those that `key_of` gives of
+/// a record in which they have them (`key_values_tell`).
+pub fn key_of_values(
+    alloc: Global,
+    schema: &Schema,
+    key: KeyNo,
+    values: &[Value],
+) -> Result<Bytes, NoMemory>
+    requires { IsRecord (key_members schema.now key) (map plain_value values.now) }
+    ensures { IfOk result (λ bytes. bytes ≡ value_bytes schema.now key (map plain_value values.now)) }
+{
+    let mut bytes = Bytes::new(alloc);
+    let Some(found) = schema.keys.as_slice().get(key.0 as usize) else {
+        return Ok(bytes);
+    };
+    let members = members_of(schema, found.home);
+    put_values(&mut bytes, members, found.members.as_slice(), values)?;
+    Ok(bytes)
+}
+
+fn put_values(
+    bytes: &mut Bytes,
+    members: &[Member],
+    indexes: &[u32],
+    values: &[Value],
+) -> Result<(), NoMemory>
+    requires { IsRecord (chosen (map plain_member members.now) indexes.now) (map plain_value values.now) }
+    ensures { OnOk result (bytes.new ≡ bytes.old ++ parts (chosen (map plain_member members.now) indexes.now) (map plain_value values.now)) }
+{
+    let mut place: usize = 0;
+    for index in indexes {
+        let Some(member) = members.get(*index as usize) else {
+            continue;
+        };
+        let Some(value) = values.get(place) else {
+            unreachable!()
+        };
+        put_part(bytes, &member.ty, value)?;
+        place += 1;
+    }
+    Ok(())
 }
 
 fn members_of(schema: &Schema, home: HomeNo) -> &[Member]
@@ -85,135 +129,39 @@ fn put_part(bytes: &mut Bytes, ty: &Ty, value: &Value) -> Result<(), NoMemory>
     requires { Of (plain_type ty.now) (plain_value value.now) }
     ensures { OnOk result (bytes.new ≡ bytes.old ++ key_part (plain_type ty.now) (plain_value value.now)) }
 {
-    match ty {
-        Ty::Short => put_short(bytes, value),
-        Ty::Long => put_long(bytes, value),
-        Ty::LongLong => put_long_long(bytes, value),
-        Ty::UShort => put_ushort(bytes, value),
-        Ty::ULong => put_ulong(bytes, value),
-        Ty::ULongLong => put_ulong_long(bytes, value),
-        Ty::Char => put_char(bytes, value),
-        Ty::Boolean => put_boolean(bytes, value),
-        Ty::Octet => put_octet(bytes, value),
-        Ty::Str(bound) => put_string(bytes, *bound, value),
-        Ty::Enum(names) => put_enumerator(bytes, names, value),
-        Ty::Seq(_, _) => Ok(()),
-        Ty::Arr(_, _) => Ok(()),
-        Ty::Struct(_) => Ok(()),
-        Ty::Ref(_) => Ok(()),
-    }
-}
-
-fn put_short(bytes: &mut Bytes, value: &Value) -> Result<(), NoMemory>
-    requires { Of Short (plain_value value.now) }
-    ensures { OnOk result (bytes.new ≡ bytes.old ++ key_part Short (plain_value value.now)) }
-{
     match value {
-        Value::Int(number) => bytes.extend(&(*number as i16).cast_unsigned().to_be_bytes()),
-        _ => unreachable!(),
-    }
-}
-
-fn put_long(bytes: &mut Bytes, value: &Value) -> Result<(), NoMemory>
-    requires { Of Long (plain_value value.now) }
-    ensures { OnOk result (bytes.new ≡ bytes.old ++ key_part Long (plain_value value.now)) }
-{
-    match value {
-        Value::Int(number) => bytes.extend(&(*number as i32).cast_unsigned().to_be_bytes()),
-        _ => unreachable!(),
-    }
-}
-
-fn put_long_long(bytes: &mut Bytes, value: &Value) -> Result<(), NoMemory>
-    requires { Of LongLong (plain_value value.now) }
-    ensures { OnOk result (bytes.new ≡ bytes.old ++ key_part LongLong (plain_value value.now)) }
-{
-    match value {
-        Value::Int(number) => bytes.extend(&(*number as i64).cast_unsigned().to_be_bytes()),
-        _ => unreachable!(),
-    }
-}
-
-fn put_ushort(bytes: &mut Bytes, value: &Value) -> Result<(), NoMemory>
-    requires { Of UShort (plain_value value.now) }
-    ensures { OnOk result (bytes.new ≡ bytes.old ++ key_part UShort (plain_value value.now)) }
-{
-    match value {
-        Value::Int(number) => bytes.extend(&(*number as u16).to_be_bytes()),
-        _ => unreachable!(),
-    }
-}
-
-fn put_ulong(bytes: &mut Bytes, value: &Value) -> Result<(), NoMemory>
-    requires { Of ULong (plain_value value.now) }
-    ensures { OnOk result (bytes.new ≡ bytes.old ++ key_part ULong (plain_value value.now)) }
-{
-    match value {
-        Value::Int(number) => bytes.extend(&(*number as u32).to_be_bytes()),
-        _ => unreachable!(),
-    }
-}
-
-fn put_ulong_long(bytes: &mut Bytes, value: &Value) -> Result<(), NoMemory>
-    requires { Of ULongLong (plain_value value.now) }
-    ensures { OnOk result (bytes.new ≡ bytes.old ++ key_part ULongLong (plain_value value.now)) }
-{
-    match value {
-        Value::Int(number) => bytes.extend(&(*number as u64).to_be_bytes()),
-        _ => unreachable!(),
-    }
-}
-
-fn put_octet(bytes: &mut Bytes, value: &Value) -> Result<(), NoMemory>
-    requires { Of Octet (plain_value value.now) }
-    ensures { OnOk result (bytes.new ≡ bytes.old ++ key_part Octet (plain_value value.now)) }
-{
-    match value {
-        Value::Int(number) => bytes.extend(&(*number as u8).to_be_bytes()),
-        _ => unreachable!(),
-    }
-}
-
-fn put_char(bytes: &mut Bytes, value: &Value) -> Result<(), NoMemory>
-    requires { Of Char (plain_value value.now) }
-    ensures { OnOk result (bytes.new ≡ bytes.old ++ key_part Char (plain_value value.now)) }
-{
-    match value {
+        Value::Int(number) => put_integer(bytes, ty, *number),
         Value::Char(code) => bytes.extend(&code.to_be_bytes()),
-        _ => unreachable!(),
-    }
-}
-
-fn put_boolean(bytes: &mut Bytes, value: &Value) -> Result<(), NoMemory>
-    requires { Of Boolean (plain_value value.now) }
-    ensures { OnOk result (bytes.new ≡ bytes.old ++ key_part Boolean (plain_value value.now)) }
-{
-    match value {
         Value::Bool(truth) => bytes.extend(&u8::from(*truth).to_be_bytes()),
-        _ => unreachable!(),
-    }
-}
-
-fn put_enumerator(bytes: &mut Bytes, names: &Names, value: &Value) -> Result<(), NoMemory>
-    requires { Of (Enum names.now) (plain_value value.now) }
-    ensures { OnOk result (bytes.new ≡ bytes.old ++ key_part (Enum names.now) (plain_value value.now)) }
-{
-    match value {
         Value::Enum(ordinal) => bytes.extend(&ordinal.to_be_bytes()),
+        Value::Str(text) => put_text(bytes, text.as_slice()),
+        Value::List(_) => Ok(()),
+        Value::Struct(_) => Ok(()),
+        Value::Ref(_) => Ok(()),
+    }
+}
+
+fn put_integer(bytes: &mut Bytes, ty: &Ty, number: i128) -> Result<(), NoMemory>
+    requires { Of (plain_type ty.now) (Int number) }
+    ensures { OnOk result (bytes.new ≡ bytes.old ++ key_part (plain_type ty.now) (Int number)) }
+{
+    match ty {
+        Ty::Short => bytes.extend(&(number as i16).cast_unsigned().to_be_bytes()),
+        Ty::Long => bytes.extend(&(number as i32).cast_unsigned().to_be_bytes()),
+        Ty::LongLong => bytes.extend(&(number as i64).cast_unsigned().to_be_bytes()),
+        Ty::UShort => bytes.extend(&(number as u16).to_be_bytes()),
+        Ty::ULong => bytes.extend(&(number as u32).to_be_bytes()),
+        Ty::ULongLong => bytes.extend(&(number as u64).to_be_bytes()),
+        Ty::Octet => bytes.extend(&(number as u8).to_be_bytes()),
         _ => unreachable!(),
     }
 }
 
-fn put_string(bytes: &mut Bytes, bound: u32, value: &Value) -> Result<(), NoMemory>
-    requires { Of (Str bound) (plain_value value.now) }
-    ensures { OnOk result (bytes.new ≡ bytes.old ++ key_part (Str bound) (plain_value value.now)) }
+// A text behind its number of bytes.
+fn put_text(bytes: &mut Bytes, text: &[u8]) -> Result<(), NoMemory>
+    requires { length text.now + 1 < 2 ^ 32 }
+    ensures { OnOk result (bytes.new ≡ bytes.old ++ (to_be_bytes w32 (length text.now) ++ text.now)) }
 {
-    match value {
-        Value::Str(text) => {
-            let text = text.as_slice();
-            bytes.extend(&(text.len() as u32).to_be_bytes())?;
-            bytes.extend(text)
-        }
-        _ => unreachable!(),
-    }
+    bytes.extend(&(text.len() as u32).to_be_bytes())?;
+    bytes.extend(text)
 }

@@ -1,5 +1,5 @@
 //! Types, values, layouts and schemas, and what they mean: which values a type has, how a record is
-//! spelled in CDR, what a key's bytes are, and what a catalog is.
+//! spelled in CDR, and what a key's bytes are.
 #![tactic(auto)]
 
 mod defaults;
@@ -19,14 +19,11 @@ pub use defaults::default_of;
 pub use descent::descends;
 pub use home::{HomeNo, HomeNos};
 pub use key::{Indexes, Key, KeyList, KeyNo, KeyNos};
-pub use key_bytes::key_of;
-pub use laws::{keys_tell, no_spelling_begins, one_spelling};
+pub use key_bytes::{key_of, key_of_values};
+pub use laws::{key_values_tell, keys_tell, no_spelling_begins, one_spelling};
 pub use member::{Layout, Member, Members};
-pub use of_type::is_of;
+pub use of_type::{is_of, is_record};
 pub use schema::{Factories, Factory, Home, HomeList, Provided, ProvidedList, Schema};
 pub use shape::shape_of;
 pub use ty::{Field, Fields, Names, Ty};
 pub use value::{Record, Value, Values};
-
-#[cfg(test)]
-mod tests;

@@ -1,11 +1,12 @@
 // Whether a value is of a type.
-ghost use Rattle.std.specs.Prelude.{◌≡◌, ◌↔◌, map, IsTrue, length};
+ghost use Rattle.std.specs.Prelude.{◌≡◌, ◌↔◌, map, true, IsTrue, length};
 ghost use Rattle.type_layout.specs.Views.{plain_type, plain_field, plain_fields, plain_value};
 ghost use Rattle.type_layout.specs.Types.{fields_of, values_of};
-ghost use Rattle.type_layout.specs.Values.{Of, is_over as passes_bound, has_zero as has_a_zero, lists as lists_home, count};
+ghost use Rattle.type_layout.specs.Values.{Of, IsRecord, layout_fields, is_over as passes_bound, has_zero as has_a_zero, are_bytes, lists as lists_home, count};
+ghost use Rattle.type_layout.specs.Members.{plain_member};
 ghost use Rattle.type_layout.specs.Testing as test;
 
-use crate::{Field, HomeNo, Names, Ty, Value};
+use crate::{Field, HomeNo, Layout, Member, Names, Record, Ty, Value};
 
 /// Whether a value is of a type: a number in its range, a text without a byte 0 and within its
 /// bound, a sequence within its bound, an array of exactly its number of elements, a struct of its
@@ -15,6 +16,30 @@ pub fn is_of(value: &Value, ty: &Ty) -> bool
     ensures { IsTrue result ↔ Of (plain_type ty.now) (plain_value value.now) }
 {
     passes(ty, value)
+}
+
+/// Whether the values are a record of the layout: as many as it has members, each of its member's
+/// type.
+pub fn is_record(layout: &Layout, values: &Record) -> bool
+    ensures { IsTrue result ↔ IsRecord layout.now.members values.now }
+{
+    are_of_members(layout.members.as_slice(), values.0.as_slice())
+}
+
+fn are_of_members(members: &[Member], values: &[Value]) -> bool
+    ensures { result ≡ test.are_of (layout_fields (map plain_member members.now)) (values_of (map plain_value values.now)) }
+{
+    let mut remaining = values;
+    for member in members {
+        let [value, others @ ..] = remaining else {
+            return false;
+        };
+        if !passes(&member.ty, value) {
+            return false;
+        }
+        remaining = others;
+    }
+    matches!(remaining, [])
 }
 
 fn is_between(value: &Value, low: i128, high: i128) -> bool
@@ -50,8 +75,10 @@ fn is_over(bound: u32, count: usize) -> bool
     bound != 0 && (bound as usize) < count
 }
 
+#[tactic(auto, using(crate::proofs::Octets::bytes_pass))]
 fn has_zero(bytes: &[u8]) -> bool
-    ensures { result ≡ has_a_zero bytes.now }
+    ensures zero { result ≡ has_a_zero bytes.now }
+    ensures bytes { are_bytes bytes.now ≡ true }
 {
     bytes.iter().any(|byte| *byte == 0)
 }

@@ -12,7 +12,7 @@ use pss_base::{Bytes, NoMemory};
 use std::alloc::Global;
 
 /// The shape text: what a store of the schema keeps, a line for each home, member and key in order.
-/// Two schemas with one shape text spell the same records. The text is the project's own.
+/// The text is the project's own.
 pub fn shape_of(alloc: Global, schema: &Schema) -> Result<Bytes, NoMemory>
     ensures { IfOk result (λ text. text ≡ shape_text schema.now) }
 {

@@ -1,10 +1,12 @@
 // Values of members, and records.
-ghost use Rattle.std.specs.Prelude.{◌≡◌, ◌++◌, ◌∷◌, [], map, OnOk, OnErr};
+ghost use Rattle.std.specs.Prelude.{◌≡◌, ◌<◌, ◌++◌, ◌∷◌, [], Some, length, map, set, IfOk, OnOk, OnErr};
+ghost use Rattle.std.specs.List.{slice_get, remove};
 ghost use Rattle.type_layout.specs.Views.{plain_value, plain_values};
 
 use pss_base::{Bytes, NoMemory, Pid};
 use std::alloc::Global;
 use std::marker::Model;
+use std::mem::replace;
 
 /// A value of some type.
 #[cycle(value)]
@@ -25,6 +27,36 @@ pub enum Value {
     Ref(Option<Pid>),
 }
 
+impl Value {
+    /// The same value once more. It takes time and memory in the size of the value.
+    #[cycle(copy)]
+    pub fn copy(&self, alloc: Global) -> Result<Value, NoMemory>
+        ensures { IfOk result (λ copy. plain_value copy ≡ plain_value self.now) }
+    {
+        match self {
+            Value::Int(number) => Ok(Value::Int(*number)),
+            Value::Char(code) => Ok(Value::Char(*code)),
+            Value::Bool(truth) => Ok(Value::Bool(*truth)),
+            Value::Enum(ordinal) => Ok(Value::Enum(*ordinal)),
+            Value::Str(text) => Ok(Value::Str(text.copy()?)),
+            Value::List(items) => Ok(Value::List(copies_of(alloc, &items.values)?)),
+            Value::Struct(parts) => Ok(Value::Struct(copies_of(alloc, &parts.values)?)),
+            Value::Ref(pid) => Ok(Value::Ref(*pid)),
+        }
+    }
+}
+
+#[cycle(copy)]
+fn copies_of(alloc: Global, values: &[Value]) -> Result<Values, NoMemory>
+    ensures { IfOk result (λ copies. plain_values copies ≡ map plain_value values.now) }
+{
+    let mut copies = Values::with_capacity(alloc, values.len())?;
+    for value in values {
+        copies.push(value.copy(alloc)?)?;
+    }
+    Ok(copies)
+}
+
 /// Values, one behind the other.
 #[cycle(value)]
 #[derive(Drop)]
@@ -42,6 +74,22 @@ impl Values {
         }
     }
 
+    /// None, with room for so many.
+    pub fn with_capacity(alloc: Global, capacity: usize) -> Result<Values, NoMemory>
+        ensures { IfOk result (λ values. plain_values values ≡ []) }
+    {
+        Ok(Values {
+            values: Vec::with_capacity(alloc, capacity)?,
+        })
+    }
+
+    /// The same values once more. It takes time and memory in their size.
+    pub fn copy(&self, alloc: Global) -> Result<Values, NoMemory>
+        ensures { IfOk result (λ copy. plain_values copy ≡ plain_values self.now) }
+    {
+        copies_of(alloc, &self.values)
+    }
+
     /// Puts one last. `NoMemory`: the list is as before.
     pub fn push(&mut self, value: Value) -> Result<(), NoMemory>
         ensures ok { OnOk result (plain_values self.new ≡ plain_values self.old ++ plain_value value ∷ []) }
@@ -49,6 +97,24 @@ impl Values {
     {
         self.values.push(value)?;
         Ok(())
+    }
+
+    /// Puts a value in the place of the one with this number, counted from 0, and gives that one.
+    pub fn replace(&mut self, index: usize, value: Value) -> Value
+        requires { index < length (plain_values self.old) }
+        ensures given { slice_get (plain_values self.old) index ≡ Some (plain_value result) }
+        ensures replaced { plain_values self.new ≡ set (plain_values self.old) index (plain_value value) }
+    {
+        replace(&mut self.values[index], value)
+    }
+
+    /// Takes out the value with this number, counted from 0. Those behind it move up.
+    pub fn remove(&mut self, index: usize) -> Value
+        requires { index < length (plain_values self.old) }
+        ensures given { slice_get (plain_values self.old) index ≡ Some (plain_value result) }
+        ensures removed { plain_values self.new ≡ remove (plain_values self.old) index }
+    {
+        self.values.remove(index)
     }
 
     pub fn as_slice(&self) -> &[Value]
@@ -74,4 +140,22 @@ impl Model for Record {
     ghost use Rattle.type_layout.specs.Views.{plain_values};
 
     ghost view = { λ r. plain_values r.0 };
+}
+
+impl Record {
+    /// The same record once more. It takes time and memory in its size.
+    pub fn copy(&self, alloc: Global) -> Result<Record, NoMemory>
+        ensures { IfOk result (λ copy. copy ≡ self.now) }
+    {
+        Ok(Record(self.0.copy(alloc)?))
+    }
+
+    /// Puts a value in the place of the one of the member with this number, and gives that one.
+    pub fn replace(&mut self, member: usize, value: Value) -> Value
+        requires { member < length self.old }
+        ensures given { slice_get self.old member ≡ Some (plain_value result) }
+        ensures replaced { self.new ≡ set self.old member (plain_value value) }
+    {
+        self.0.replace(member, value)
+    }
 }

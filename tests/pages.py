@@ -1,0 +1,172 @@
+"""The examples of the pages. Each block of a page says by the word behind its fence what it is, and by that it is tried:
+
+    psdl       a text in which nothing is wrong; a second word is its name
+    canonical  the canonical text of the text in front of it, or of the one that is named
+    shape      its shape text
+    faults     texts of one line, each with a line under it that marks the place of its fault: `^ 1:32 C1 Redefined`
+    script     lines of a script over examples/cells.psdl, each with its reply behind two blanks or more
+    console    commands behind `$ `, each with what it prints; a line `..` stands for any lines
+    records    lines of the program record_cases, each with its answer under it; `text` has none, nor has a line that begins with `#`
+    refusals   texts of one line, and octets of records with a line under them that marks the place of the refusal: `^ BadBool(15)`
+
+Blocks of the words `grammar` and `commands` are not tried: notation, and commands that prove or build. Any other block is a failed case, and so
+is a page on which nothing is tried."""
+import glob
+import os
+import re
+
+from running import cells, contents, each, ended, expect, lines_of, program, record_cases, shortened, tell, top
+
+BLOCK = re.compile(r"^```([^\n]*)\n(.*?)^```$", re.M | re.S)
+EXAMPLE = re.compile(r"^\.EX\n(.*?)^\.EE$", re.M | re.S)
+NOT_TRIED = ["grammar", "commands"]
+
+
+def written(folder, text):
+    path = os.path.join(folder, "page.psdl")
+    with open(path, "wb") as file:
+        file.write(text)
+    return path
+
+
+class Page:
+    """A page, the texts that were named on it, and how many cases it has."""
+
+    def __init__(self, folder, path):
+        self.folder, self.name, self.texts, self.cases = folder, os.path.relpath(path, top), {}, 0
+
+    def told(self, what):
+        self.cases += 1
+        return f"{self.name}: {what}"
+
+    def psdl(self, block, name=""):
+        run = ended([program, "check", written(self.folder, block.encode())])
+        status, spoken, complaint = run
+        canonical, _, shape = spoken.partition(b"--\n")
+        again = ended([program, "check", written(self.folder, canonical)])
+        same = (status, complaint) == (0, b"") and again == run
+        tell(self.told(block), same, shortened(run))
+        self.texts[name] = self.texts[""] = (canonical, shape)
+
+    def canonical(self, block, name=""):
+        seen = self.texts.get(name, (b"", b""))[0]
+        tell(self.told(block), seen == block.encode(), seen)
+
+    def shape(self, block, name=""):
+        seen = self.texts.get(name, (b"", b""))[1]
+        tell(self.told(block), seen == block.encode(), seen)
+
+    def faults(self, block):
+        for text, fault in marked(block.splitlines(), f"{self.name}: "):
+            expect(self.told(text), ["check", written(self.folder, text)], b"", 2, f"schema {fault}\n".encode())
+
+    def script(self, block):
+        parts = [re.fullmatch(r"(.*?\S)(?:  +(\S.*))?", line) for line in block.splitlines() if line]
+        script = "".join(f"{part[1]}\n" for part in parts)
+        spoken = "".join(f"{part[2]}\n" for part in parts if part[2])
+        expect(self.told(script), ["run", cells, os.path.join(self.folder, "page.store")], script.encode(), 0, spoken.encode())
+
+    def console(self, block):
+        """The commands are run where `./pssd` is the program and `examples` are the examples."""
+        for number, command in enumerate(re.split(r"^\$ ", block, flags=re.M)):
+            line, _, wanted = command.partition("\n")
+            if number:
+                run = ended(["bash", "-c", line], cwd=self.folder)
+                pattern = "".join(".*" if part == "..\n" else re.escape(part) for part in wanted.splitlines(keepends=True))
+                same = re.fullmatch(pattern, run[1].decode(), re.S) and run[2] == b""
+                tell(self.told(line), bool(same), shortened(run))
+
+    def asked(self, lines):
+        """What record_cases answers to these lines."""
+        status, spoken, complaint = ended([record_cases], "".join(f"{line}\n" for line in lines).encode())
+        if (status, complaint) != (0, b""):
+            tell(self.told("record_cases"), False, (status, complaint))
+        return spoken.decode().splitlines()
+
+    def answers(self, lines, wanted):
+        seen = self.asked(lines)
+        questions = [line for line in lines if not line.startswith("text ")]
+        seen += ["no answer"] * (len(questions) - len(seen))
+        for question, want, told in zip(questions, wanted, seen):
+            tell(self.told(question), told == want, told)
+
+    def records(self, block):
+        lines = [line for line in block.splitlines() if line and not line.startswith("#")]
+        asked, wanted = [], []
+        while lines:
+            line = lines.pop(0)
+            asked.append(joined(line) if line.startswith("decode ") else line)
+            if not line.startswith("text "):
+                answer = lines.pop(0) if lines else ""
+                wanted.append(joined(answer).strip() if line.startswith("encode ") and not answer.startswith("BADVALUE") else answer)
+        self.answers(asked, wanted)
+
+    def refusals(self, block):
+        """Octets are pairs of digits with blanks between them; any other line is the text for those that follow."""
+        asked, wanted, before = [], [], ""
+        for line in block.splitlines():
+            mark = re.fullmatch(r"( *)\^ +(\w+)(\((\d+)\))?", line)
+            if mark:
+                place = octets_in_front(before, len(mark[1]))
+                if mark[4] is not None and place != int(mark[4]):
+                    tell(self.told(line), False, f"the mark stands at octet {place}")
+                wanted.append(mark[2] + (mark[3] or ""))
+            elif re.fullmatch(r"([0-9a-f]{2} *)+", line):
+                asked.append("decode " + line.replace(" ", ""))
+            else:
+                asked.append(f"text {line}")
+            before = line
+        self.answers(asked, wanted)
+
+
+def joined(line):
+    """A line whose octets stand without blanks: `decode 00 01` as `decode 0001`."""
+    verb, between, octets = line.partition("decode ")
+    return verb + between + octets.replace(" ", "") if between else line.replace(" ", "")
+
+
+def octets_in_front(line, column):
+    return len(line[:column].split())
+
+
+def marked(lines, where=""):
+    """Texts of one line, each with a line under it that marks the place of its fault."""
+    mark = re.compile(r"( *)\^ 1:(\d+) ([CS]\d+ \w+)$")
+    before = ""
+    for line in lines:
+        under = mark.match(line)
+        if under and len(under[1]) + 1 == int(under[2]):
+            yield before.encode(), f"1:{under[2]} {under[3]}"
+        elif under:
+            tell(where + line, False, "the mark stands elsewhere")
+        before = line
+
+
+def try_page(folder, path):
+    page = Page(folder, path)
+    text = contents(path).decode()
+    if path.endswith(".md"):
+        blocks = BLOCK.findall(text)
+    else:
+        # A page of the manual: each of its examples is of a console.
+        blocks = [("console", block.replace("\\-", "-").replace("\\&", "")) for block in EXAMPLE.findall(text)]
+    for words, block in blocks:
+        kind, _, name = words.partition(" ")
+        if kind in NOT_TRIED:
+            continue
+        if kind not in ("psdl", "canonical", "shape", "faults", "script", "console", "records", "refusals"):
+            tell(page.told(block), False, f"a block of the kind {kind!r}")
+        elif name:
+            getattr(page, kind)(block, name)
+        else:
+            getattr(page, kind)(block)
+    if not page.cases:
+        tell(page.name, False, "nothing on it is tried")
+
+
+def pages(folder):
+    for name, to in [("pssd", program), ("examples", os.path.join(top, "examples"))]:
+        os.symlink(os.path.abspath(to), os.path.join(folder, name))
+    found = glob.glob(os.path.join(top, "*.md")) + glob.glob(os.path.join(top, "docs", "*"))
+    for path in each("the pages", sorted(found)):
+        try_page(folder, path)

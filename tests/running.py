@@ -1,0 +1,123 @@
+"""What all tests share: where the programs are, runs of them under a limit of time, and how many cases passed."""
+import os
+import signal
+import subprocess
+import threading
+
+here = os.path.dirname(os.path.abspath(__file__))
+top = os.path.dirname(here)
+examples = os.path.join(top, "examples")
+cells = os.path.join(examples, "cells.psdl")
+# `rt ci` leaves the programs there. Other builds of them are tried by naming them.
+program = os.environ.get("PSSD") or os.path.join(top, "crates", "pssd", "out", "pssd")
+record_cases = os.environ.get("RECORD_CASES") or os.path.join(top, "crates", "record_cases", "out", "record_cases")
+# A run has so many seconds. A build that is not optimised may need more.
+LONGEST = int(os.environ.get("PSSD_SECONDS") or 60)
+USAGE = b"usage: pssd check SCHEMA | init SCHEMA STORE | run SCHEMA STORE | demo N STORE\n"
+OVER = f"it took more than {LONGEST} s"
+
+results = {"passed": 0, "failed": 0}
+
+
+def tell(name, same, seen):
+    results["passed" if same else "failed"] += 1
+    if not same:
+        print(f"failed: {name}: {seen}", flush=True)
+
+
+def each(name, cases):
+    """The cases of a page or folder. One without any is a failed case."""
+    cases = list(cases)
+    if not cases:
+        tell(name, False, "it has no cases")
+    return cases
+
+
+def contents(path):
+    with open(path, "rb") as file:
+        return file.read()
+
+
+def lines_of(path):
+    return contents(path).decode().splitlines()
+
+
+def kill(child):
+    """Ends a child with all that it started."""
+    try:
+        os.killpg(child.pid, signal.SIGKILL)
+    except ProcessLookupError:
+        pass
+
+
+def ended(words, script=b"", **how):
+    """The status of a run, what it spoke and what it wrote to standard error. Where it did not start or end, the status says so."""
+    how = {"stdin": subprocess.PIPE, "stdout": subprocess.PIPE, "stderr": subprocess.PIPE, "start_new_session": True, **how}
+    try:
+        child = subprocess.Popen(words, **how)
+    except OSError as error:
+        return str(error), b"", b""
+    try:
+        spoken, complaint = child.communicate(script, timeout=LONGEST)
+        return child.returncode, spoken, complaint
+    except subprocess.TimeoutExpired:
+        kill(child)
+        return OVER, *child.communicate()
+
+
+def shortened(run):
+    status, spoken, complaint = run
+    return status, spoken[-200:], complaint[-200:]
+
+
+def expect(name, words, script, status, spoken):
+    """A run of the program over a script that is there as a whole."""
+    run = ended([program] + words, script)
+    tell(name, run == (status, spoken, b""), shortened(run))
+
+
+class Dialogue:
+    """A run of the program with which one speaks by pipes. It is ended when its time is over; then it replies no more."""
+
+    def __init__(self, words):
+        how = {"stdin": subprocess.PIPE, "stdout": subprocess.PIPE, "stderr": subprocess.PIPE, "start_new_session": True}
+        self.child = subprocess.Popen([program] + words, **how)
+        self.is_over = False
+        self.timer = threading.Timer(LONGEST, self.stop)
+        self.timer.start()
+
+    def stop(self):
+        self.is_over = True
+        kill(self.child)
+
+    def say(self, some):
+        """Writes some bytes of the script, where the program still reads."""
+        try:
+            self.child.stdin.write(some)
+            self.child.stdin.flush()
+        except OSError:
+            pass
+
+    def reply(self):
+        return self.child.stdout.readline()
+
+    def end(self):
+        """Closes the script. Gives what is spoken from then on and how the run ends."""
+        try:
+            self.child.stdin.close()
+        except OSError:
+            pass
+        spoken, complaint = self.child.stdout.read(), self.child.stderr.read()
+        status = self.child.wait()
+        self.timer.cancel()
+        self.child.stdout.close()
+        self.child.stderr.close()
+        return (OVER if self.is_over else status), spoken, complaint
+
+
+def dialogue(words):
+    """A dialogue, or why there is none."""
+    try:
+        return Dialogue(words), ""
+    except OSError as error:
+        return None, str(error)

@@ -1,0 +1,112 @@
+"""Dialogues by pipes, and runs whose standard descriptors are closed."""
+import itertools
+import os
+
+from running import USAGE, cells, contents, dialogue, ended, examples, program, shortened, tell
+
+
+def is_answered(line):
+    """Whether a line of a script has a reply: it has a word, and its first word is no comment."""
+    words = line.replace(b"\t", b" ").rstrip(b"\n").removesuffix(b"\r").split(b" ")
+    words = [word for word in words if word]
+    return bool(words) and not words[0].startswith(b"#")
+
+
+# ---- a reply is spoken before more of the script is read
+
+
+def converse(name, schema, store, script, spoken):
+    """Writes a script line by line, each once the reply to the line in front of it was read."""
+    talk, why = dialogue(["run", schema, store])
+    if not talk:
+        return tell(name, False, why)
+    heard = b""
+    for line in script.splitlines(keepends=True):
+        talk.say(line)
+        if line.endswith(b"\n") and is_answered(line):
+            reply = talk.reply()
+            heard += reply
+            if not reply:
+                break
+    status, rest, complaint = talk.end()
+    seen = (status, heard + rest, complaint)
+    tell(name, seen == (0, spoken, b""), shortened(seen))
+
+
+def exchange(name, parts):
+    """Writes parts of a script. Each stands beside the replies that come before any more is written."""
+    talk, why = dialogue(["run", cells, "unused.store"])
+    if not talk:
+        return tell(name, False, why)
+    heard = []
+    for part, replies in parts:
+        talk.say(part)
+        heard.append([talk.reply() for _ in replies])
+    status, rest, complaint = talk.end()
+    seen = (status, heard, rest, complaint)
+    tell(name, seen == (0, [replies for _, replies in parts], b"", b""), seen)
+
+
+OPENED = (b"open s basic rw\n", [b"OK\n"])
+CREATED = (b"create s Cells 7\n", [b"OK i1 000000010000000000000001\n"])
+
+
+def dialogues(folder):
+    for base, schema, script, spoken in folder:
+        if len(script) < 20000:
+            converse(f"line by line: {base}", schema, "unused.store", script, spoken)
+    exchange("a reply to each line", [OPENED, CREATED, (b"get s i1 v\n", [b"OK 7\n"])])
+    exchange("two lines at once", [OPENED, (b"create s Cells 7\nget s i1 v\n", [CREATED[1][0], b"OK 7\n"])])
+    exchange("a line and a half", [(b"open s basic rw\ncrea", [b"OK\n"]), (b"te s Cells 7\n", CREATED[1])])
+    exchange("lines without a reply", [(b"\n# one\n \t\nopen s basic rw\n", [b"OK\n"]), (b"#\nget s i1 v\n", [b"NOENTRY\n"])])
+    exchange("LF behind CR", [(b"open s basic rw\r", []), (b"\n", [b"OK\n"])])
+    long = b"x" * 70000
+    exchange("a line that is too long", [(long + b"\n", [b"NOTBUILT\n"]), OPENED])
+
+
+# ---- closed descriptors
+
+SCRIPT = b"open s basic rw\ncreate s Cells 7\nget s i1 v\n"
+REPLIES = b"OK\nOK i1 000000010000000000000001\nOK 7\n"
+STORE = b"what stood in the store\n"
+CLOSED = {0: "<&-", 1: ">&-", 2: "2>&-"}
+OPEN = {0: "<script", 1: ">spoken", 2: "2>complaint"}
+
+
+def put(folder, name, some):
+    with open(os.path.join(folder, name), "wb") as file:
+        file.write(some)
+
+
+def run_closed(folder, name, words, closed, status, spoken, script=SCRIPT):
+    """A run with some of the descriptors 0, 1 and 2 closed. The others are files, and so is that in which the shell tells the status."""
+    for path, some in [("script", script), ("spoken", b""), ("complaint", b""), ("status", b"")]:
+        put(folder, path, some)
+    redirections = " ".join((CLOSED if number in closed else OPEN)[number] for number in range(3))
+    ended(["bash", "-c", f'"$@" {redirections}; echo $? >status', "bash", program] + words, cwd=folder)
+    seen = tuple(contents(os.path.join(folder, path)) for path in ("status", "spoken", "complaint"))
+    tell(f"{name}, closed: {sorted(closed)}", seen == (b"%d\n" % status, spoken, b""), seen)
+
+
+def run_each(folder, closed, checked):
+    """A run without standard input cannot read its script (5), one without standard output cannot speak (7)."""
+    run = ["run", "cells.psdl", "store"]
+    reads, speaks = 0 not in closed, 1 not in closed
+    run_closed(folder, "run", run, closed, *((5, b"") if not reads else (0, REPLIES) if speaks else (7, b"")))
+    run_closed(folder, "run of no line", run, closed, 0 if reads else 5, b"", b"")
+    run_closed(folder, "check", ["check", "cells.psdl"], closed, *((0, checked) if speaks else (7, b"")))
+    run_closed(folder, "no words", [], closed, *((1, USAGE) if speaks else (7, b"")))
+    run_closed(folder, "no schema file", ["run", "missing.psdl", "store"], closed, 5, b"")
+
+
+def closed_descriptors(folder):
+    """Each descriptor alone, two of them, and all. No file that a run opens gets what it speaks."""
+    put(folder, "cells.psdl", contents(cells))
+    put(folder, "store", STORE)
+    checked = contents(os.path.join(examples, "cells.checked"))
+    for size in (1, 2, 3):
+        for closed in itertools.combinations((0, 1, 2), size):
+            run_each(folder, closed, checked)
+    for name, before in [("cells.psdl", contents(cells)), ("store", STORE)]:
+        after = contents(os.path.join(folder, name))
+        tell(f"{name} behind runs with closed descriptors", after == before, after[:200])

@@ -15,18 +15,11 @@ import glob
 import os
 import re
 
-from running import cells, contents, each, ended, expect, lines_of, program, record_cases, shortened, tell, top
+from running import cells, contents, each, ended, expect, expect_answer, program, record_cases, shortened, tell, top, written
 
 BLOCK = re.compile(r"^```([^\n]*)\n(.*?)^```$", re.M | re.S)
 EXAMPLE = re.compile(r"^\.EX\n(.*?)^\.EE$", re.M | re.S)
 NOT_TRIED = ["grammar", "commands"]
-
-
-def written(folder, text):
-    path = os.path.join(folder, "page.psdl")
-    with open(path, "wb") as file:
-        file.write(text)
-    return path
 
 
 class Page:
@@ -58,7 +51,7 @@ class Page:
 
     def faults(self, block):
         for text, fault in marked(block.splitlines(), f"{self.name}: "):
-            expect(self.told(text), ["check", written(self.folder, text)], b"", 2, f"schema {fault}\n".encode())
+            expect_answer(self.folder, self.told(text), text, f"schema {fault}\n".encode())
 
     def script(self, block):
         parts = [re.fullmatch(r"(.*?\S)(?:  +(\S.*))?", line) for line in block.splitlines() if line]

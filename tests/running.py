@@ -76,6 +76,23 @@ def expect(name, words, script, status, spoken):
     tell(name, run == (status, spoken, b""), shortened(run))
 
 
+def written(folder, text):
+    schema = os.path.join(folder, "schema.psdl")
+    with open(schema, "wb") as file:
+        file.write(text)
+    return schema
+
+
+def expect_answer(folder, name, text, told, status=9, spoken=b"not built\n", script=b"open a basic rw\n"):
+    """A text under `check` and under `run`: both refuse it with one line. What `run` comes to else is given."""
+    schema = written(folder, text)
+    is_refused = told.startswith(b"schema ")
+    expect(f"check of {name}", ["check", schema], script, 2 if is_refused else 0, told)
+    if is_refused:
+        status, spoken = 2, told
+    expect(f"run of {name}", ["run", schema, os.path.join(folder, "store")], script, status, spoken)
+
+
 class Dialogue:
     """A run of the program with which one speaks by pipes. It is ended when its time is over; then it replies no more."""
 

@@ -1,8 +1,9 @@
 """Dialogues by pipes, and runs whose standard descriptors are closed."""
 import itertools
 import os
+import re
 
-from running import USAGE, cells, contents, dialogue, ended, examples, program, shortened, tell
+from running import USAGE, cells, contents, dialogue, each, ended, examples, program, shortened, tell
 
 
 def is_answered(line):
@@ -15,27 +16,25 @@ def is_answered(line):
 # ---- a reply is spoken before more of the script is read
 
 
-def converse(name, schema, store, script, spoken):
+def converse(name, words, script, spoken):
     """Writes a script line by line, each once the reply to the line in front of it was read."""
-    talk, why = dialogue(["run", schema, store])
+    talk, why = dialogue(words)
     if not talk:
         return tell(name, False, why)
-    heard = b""
-    for line in script.splitlines(keepends=True):
+    heard, reply = b"", b"-"
+    for line in re.findall(rb"[^\n]*\n|[^\n]+", script):
         talk.say(line)
-        if line.endswith(b"\n") and is_answered(line):
+        if reply and line.endswith(b"\n") and is_answered(line):
             reply = talk.reply()
             heard += reply
-            if not reply:
-                break
     status, rest, complaint = talk.end()
-    seen = (status, heard + rest, complaint)
-    tell(name, seen == (0, spoken, b""), shortened(seen))
+    run = (status, heard + rest, complaint)
+    tell(f"{name} line by line", run == (0, spoken, b""), shortened(run))
 
 
-def exchange(name, parts):
+def exchange(name, words, parts):
     """Writes parts of a script. Each stands beside the replies that come before any more is written."""
-    talk, why = dialogue(["run", cells, "unused.store"])
+    talk, why = dialogue(words)
     if not talk:
         return tell(name, False, why)
     heard = []
@@ -49,19 +48,19 @@ def exchange(name, parts):
 
 OPENED = (b"open s basic rw\n", [b"OK\n"])
 CREATED = (b"create s Cells 7\n", [b"OK i1 000000010000000000000001\n"])
+EXCHANGES = {
+    "a reply to each line": [OPENED, CREATED, (b"get s i1 v\n", [b"OK 7\n"])],
+    "two lines at once": [OPENED, (b"create s Cells 7\nget s i1 v\n", [CREATED[1][0], b"OK 7\n"])],
+    "a line and a half": [(b"open s basic rw\ncrea", [b"OK\n"]), (b"te s Cells 7\n", CREATED[1])],
+    "lines without a reply": [(b"\n# one\n \t\nopen s basic rw\n", [b"OK\n"]), (b"#\nget s i1 v\n", [b"NOENTRY\n"])],
+    "CR and LF apart": [(b"open s basic rw\r", []), (b"\n", [b"OK\n"])],
+    "a line that is too long": [(b"x" * 70000 + b"\n", [b"NOTBUILT\n"]), OPENED],
+    }
 
 
-def dialogues(folder):
-    for base, schema, script, spoken in folder:
-        if len(script) < 20000:
-            converse(f"line by line: {base}", schema, "unused.store", script, spoken)
-    exchange("a reply to each line", [OPENED, CREATED, (b"get s i1 v\n", [b"OK 7\n"])])
-    exchange("two lines at once", [OPENED, (b"create s Cells 7\nget s i1 v\n", [CREATED[1][0], b"OK 7\n"])])
-    exchange("a line and a half", [(b"open s basic rw\ncrea", [b"OK\n"]), (b"te s Cells 7\n", CREATED[1])])
-    exchange("lines without a reply", [(b"\n# one\n \t\nopen s basic rw\n", [b"OK\n"]), (b"#\nget s i1 v\n", [b"NOENTRY\n"])])
-    exchange("LF behind CR", [(b"open s basic rw\r", []), (b"\n", [b"OK\n"])])
-    long = b"x" * 70000
-    exchange("a line that is too long", [(long + b"\n", [b"NOTBUILT\n"]), OPENED])
+def exchanges(words):
+    for name, parts in each("exchanges", EXCHANGES.items()):
+        exchange(name, words, parts)
 
 
 # ---- closed descriptors

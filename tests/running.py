@@ -22,7 +22,7 @@ results = {"passed": 0, "failed": 0}
 def tell(name, same, seen):
     results["passed" if same else "failed"] += 1
     if not same:
-        print(f"failed: {name}: {seen}", flush=True)
+        print(f"failed: {name.strip().partition(chr(10))[0][:120]}: {seen}", flush=True)
 
 
 def each(name, cases):

@@ -1,12 +1,12 @@
 -- What the reader of a string's octets owes to them.
 use Rattle.std.proofs.Common.{◌≡◌, ℕ, zero, suc, ◌+◌, ◌-◌, ◌<◌, ◌≤◌, Bool, true, false, cond, eqb, ltb, List, [], ◌∷◌, ◌++◌, length, get_or, take, drop, Option, Some, None, Result, Ok, Err, refl, sym, ap, ◌∙◌, append_assoc, arith, length-append}
-use Rattle.std.specs.Prelude.{replicate, ◌==◌, ◌||◌}
+use Rattle.std.specs.Prelude.{replicate, ◌==◌, ◌||◌, IsTrue}
 use Rattle.std.specs.List.{position, position_from}
 use Rattle.std.proofs.lemmas.Bool.{ltb-false, ltb-true, le-ltb, lt-ltb, eqb-true}
 use Rattle.std.proofs.lemmas.List.{take_at, take-take, length-drop, length-take, length-replicate, get_or-drop, get_or-take, get_or-append_right}
 use Rattle.std.proofs.Math.Seq.{take-suc}
 use Rattle.std.proofs.lemmas.Iterator.Adapters.{position_from-zero}
-use Rattle.type_layout.specs.Values.{has_zero}
+use Rattle.type_layout.specs.Values.{has_zero, are_bytes}
 use Rattle.cdr_codec.specs.declared.fault.RecordFault.{RecordFault}
 use Rattle.cdr_codec.specs.declared.fault.RecordFault.TheVariants as fault
 use Rattle.cdr_codec.specs.Primitives.{Letters, given, judged, refusal, letters}
@@ -39,10 +39,21 @@ position_none xs e = none_has 0 xs (sym (position_from-zero (λ b. b == 0) xs) �
 none_position : (xs : List ℕ) → has_zero xs ≡ false → position (λ b. b == 0) xs ≡ None
 none_position xs e = position_from-zero (λ b. b == 0) xs ∙ has_none 0 xs e
 
+-- ---- octets are bytes
+
+taken_bytes : (n : ℕ) (xs : List ℕ) → AreOctets xs → are_bytes (take n xs) ≡ true
+taken_bytes zero xs o = refl
+taken_bytes (suc n) [] o = refl
+taken_bytes (suc n) (x ∷ xs) o = rw (lt-ltb x 256 (o 0)) (taken_bytes n xs (λ i. o (suc i)))
+
+letters_are_bytes : (n : ℕ) → are_bytes (replicate n 97) ≡ true
+letters_are_bytes zero = refl
+letters_are_bytes (suc n) = letters_are_bytes n
+
 -- ---- octets of a string
 
 abbrev pub IsText : ℕ → List ℕ → Type 0
-IsText n text = (has_zero text ≡ false) × (length text ≡ n)
+IsText n text = (has_zero text ≡ false) × (length text ≡ n) × IsTrue (are_bytes text)
 
 -- what is told of the octets of a string, by the place of a 0 among them and by its last
 abbrev told : ℕ → ℕ → List ℕ → Option ℕ → ℕ → Result (List ℕ × ℕ) RecordFault
@@ -97,7 +108,7 @@ right n None false at e = absurd cc
 right n (Some i) t at e = absurd cc
 
 n_letters : (n : ℕ) → IsReader (letters_at n) (λ t at. record { what = Letters n; octets = t ++ 0 ∷ [] } ∷ []) (IsText n)
-n_letters n = piece_law (Letters n) (letters_at n) (take n) (λ t. t ++ 0 ∷ []) (IsText n) (replicate n 97) (no_zeros n, length-replicate n 97) (letters_is n) back forth
+n_letters n = piece_law (Letters n) (letters_at n) (take n) (λ t. t ++ 0 ∷ []) (IsText n) (replicate n 97) (no_zeros n, length-replicate n 97, letters_are_bytes n) (letters_is n) back forth
   where
     back : (at : ℕ) (xs : List ℕ) → AreOctets xs → n + 1 ≤ length xs → judged (Letters n) at (take (n + 1) xs) ≡ None → IsText n (take n xs) × (take n xs ++ 0 ∷ [] ≡ take (n + 1) xs)
     back at xs o long fine =
@@ -108,7 +119,7 @@ n_letters n = piece_law (Letters n) (letters_at n) (take n) (λ t. t ++ 0 ∷ []
         let size : length (take n xs) ≡ n = omega (arith, length-take n xs) in
         let nul : get_or xs n 0 ≡ 0 = sym last ∙ eqb-true (get_or (take (n + 1) xs) n 0) 0 r.1 in
         let more : suc n ≡ n + 1 = omega arith in
-        ((clean, size), ap (λ (k : ℕ). take n xs ++ k ∷ []) (sym nul) ∙ sym (take-suc xs n 0 (omega arith)) ∙ ap (λ (k : ℕ). take k xs) more)
+        ((clean, size, taken_bytes n xs o), ap (λ (k : ℕ). take n xs ++ k ∷ []) (sym nul) ∙ sym (take-suc xs n 0 (omega arith)) ∙ ap (λ (k : ℕ). take k xs) more)
 
     forth : (at : ℕ) (x rest : List ℕ) → IsText n x → (length (x ++ 0 ∷ []) ≡ n + 1) × (judged (Letters n) at (x ++ 0 ∷ []) ≡ None) × (take n ((x ++ 0 ∷ []) ++ rest) ≡ x)
     forth at x rest f =

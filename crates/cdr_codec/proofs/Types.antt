@@ -1,6 +1,6 @@
 -- What the readers of values owe to the pieces of values.
 use Rattle.std.proofs.Common.{◌≡◌, ℕ, zero, suc, ◌+◌, ◌-◌, ◌^◌, ◌<◌, ◌≤◌, Bool, true, false, cond, eqb, ltb, List, [], ◌∷◌, length, Option, Some, None, Result, Ok, Err, refl, sym, ap, subst, ◌∙◌, arith, pos, negsuc, Fits, rules}
-use Rattle.std.specs.Prelude.{FitsSigned, not, ◌||◌, ◌&&◌}
+use Rattle.std.specs.Prelude.{FitsSigned, IsTrue, not, ◌||◌, ◌&&◌}
 use Rattle.std.specs.Int.{w8, w16, w32, w64, FitsUnsigned, cast_signed, cast_unsigned, from_bool}
 use Rattle.std.proofs.lemmas.Bool.{ltb-false, ltb-true, le-ltb, lt-ltb, eqb-true, eq-eqb}
 use Rattle.std.proofs.lemmas.Int.{of_z-to_z, to_z-of_z, ints}
@@ -9,7 +9,7 @@ use Rattle.byteorder.specs.Endian.{big_bytes}
 use Rattle.pss_base.specs.declared.pid.Pid.{Pid}
 use Rattle.type_layout.specs.declared.home.HomeNo.{HomeNo}
 use Rattle.type_layout.specs.Types.{PlainType, Short, Long, LongLong, UShort, ULong, ULongLong, Char, Boolean, Octet, Str, Seq, Arr, Struct, Enum, RefTo, PlainFields, no_fields, field_and, PlainValue, Int, Character, Truth, Ordinal, Text, Items, Parts, Ref, PlainValues, no_values, value_and, values_of}
-use Rattle.type_layout.specs.Values.{Of, AreOf, EachOf, LeadsTo, count, is_over, has_zero, lists}
+use Rattle.type_layout.specs.Values.{Of, AreOf, EachOf, LeadsTo, count, is_over, has_zero, are_bytes, lists}
 use Rattle.type_layout.specs.Sound.{IsSound, AreSound, Rise}
 use Rattle.type_layout.specs.Spelling.{gap}
 use Rattle.cdr_codec.specs.declared.fault.RecordFault.{RecordFault}
@@ -109,7 +109,7 @@ none_over bound = ap (λ (t : Bool). not (eqb bound 0) && t) (le-ltb bound 0 (om
 
 -- a string within its bound
 abbrev pub IsShort : ℕ → List ℕ → Type 0
-IsShort bound bytes = (has_zero bytes ≡ false) × (is_over bound (length bytes) ≡ false) × (length bytes + 1 < 2 ^ 32)
+IsShort bound bytes = (has_zero bytes ≡ false) × (is_over bound (length bytes) ≡ false) × (length bytes + 1 < 2 ^ 32) × IsTrue (are_bytes bytes)
 
 or_false : (a b : Bool) → (a || b) ≡ false → (a ≡ false) × (b ≡ false)
 or_false true b e = absurd cc
@@ -143,10 +143,10 @@ text_law bound = both_law (judged_at (TextLength bound)) (aligned (TextLength bo
     forth n t f g =
         let tests = or_false (eqb n 0) (is_over bound (n - 1)) f.1 in
         let is : n ≡ length t + 1 = not_none n tests.0 ∙ ap (λ (k : ℕ). k + 1) (sym g.1) in
-        ((g.0, ap (is_over bound) g.1 ∙ tests.1, omega (arith, is, f.0)), (λ at. ap (λ (k : ℕ). followed (aligned (TextLength bound) k at) (λ next. letters t) at) (sym is)))
+        ((g.0, ap (is_over bound) g.1 ∙ tests.1, omega (arith, is, f.0), g.2), (λ at. ap (λ (k : ℕ). followed (aligned (TextLength bound) k at) (λ next. letters t) at) (sym is)))
 
     back : (t : List ℕ) → IsShort bound t → (n : ℕ) × (u : List ℕ) × MayBe (TextLength bound) n × IsText (n - 1) u × (u ≡ t)
-    back t f = (let less : length t + 1 - 1 ≡ length t = omega arith in (length t + 1, t, may_measure bound t f, (f.0, sym less), refl))
+    back t f = (let less : length t + 1 - 1 ≡ length t = omega arith in (length t + 1, t, may_measure bound t f, (f.0, sym less, f.3), refl))
 
 -- ---- sequences and arrays
 

@@ -1,8 +1,5 @@
 // Records against octets that another ORB made, and each refusal.
-ghost use Rattle.std.specs.Prelude.{◌≡◌, ◌<◌, IsTrue, map};
-ghost use Rattle.type_layout.specs.Members.{plain_member};
-ghost use Rattle.type_layout.specs.Views.{plain_value};
-ghost use Rattle.type_layout.specs.Values.{IsRecord};
+ghost use Rattle.std.specs.Prelude.{◌≡◌, ◌<◌};
 
 mod flips;
 
@@ -15,7 +12,7 @@ use std::sync::ledger::{Blank, Ledger};
 use std::test::Fail;
 use type_layout::{
     Field, Fields, HomeNo, HomeNos, Layout, Member, Members, Names, Record, Ty, Value, Values,
-    is_of,
+    is_record,
 };
 
 // Types and values in words of a letter, numbers and `;`. Of types: `h` short, `l` long, `q` long long,
@@ -209,30 +206,6 @@ fn record(alloc: Global, text: &[u8]) -> Result<Record, Unread> {
         values.push(value(alloc, &mut words, 20)?)?;
     }
     Ok(Record(values))
-}
-
-fn are_of(members: &[Member], values: &[Value]) -> bool
-    ensures { IsTrue result → IsRecord (map plain_member members.now) (map plain_value values.now) }
-{
-    let mut remaining = values;
-    for member in members {
-        match remaining {
-            [value, others @ ..] => {
-                if !is_of(value, &member.ty) {
-                    return false;
-                }
-                remaining = others;
-            }
-            [] => return false,
-        }
-    }
-    remaining.is_empty()
-}
-
-fn is_record(layout: &Layout, values: &Record) -> bool
-    ensures { IsTrue result → IsRecord layout.now.members values.now }
-{
-    are_of(layout.members.as_slice(), values.0.as_slice())
 }
 
 fn digit(letter: u8) -> u8

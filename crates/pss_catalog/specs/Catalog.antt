@@ -1,5 +1,5 @@
 -- The objects by serial, and what holds of them.
-use Rattle.std.specs.Prelude.{ℕ, ◌+◌, ◌≡◌, ◌<◌, ◌≤◌, ◌==◌, ◌&&◌, Bool, false, List, [], ◌∷◌, ◌++◌, map, filter, length, sum, Some, IsTrue}
+use Rattle.std.specs.Prelude.{ℕ, ◌+◌, ◌≡◌, ◌<◌, ◌≤◌, ◌==◌, ◌&&◌, not, nat_lt, if◌then◌else◌, Bool, false, List, [], ◌∷◌, ◌++◌, map, filter, length, sum, Some, IsTrue}
 use Rattle.std.specs.List.{flat_map}
 use Rattle.std.specs.Ordering.{nat_cmp}
 use Rattle.std.specs.FinMap.{FinMap, get, entries}
@@ -46,13 +46,30 @@ holders S M k bytes = pids_where (holds S k bytes) M
 abbrev pub IsUnique : Schema → Catalog → Type 0
 IsUnique S M = (k : KeyNo) (bytes : List ℕ) (s t : ℕ) (x y : Object) → get M s ≡ Some x → get M t ≡ Some y → IsTrue (holds S k bytes x) → IsTrue (holds S k bytes y) → s ≡ t
 
+-- all of them but that with a serial
+abbrev pub without : ℕ → List Pid → List Pid
+without s pids = filter (λ p. not (p.serial == s)) pids
+
+-- with one more, in front of the first with a higher serial
+abbrev pub placed : Pid → List Pid → List Pid
+placed p [] = p ∷ []
+placed p (q ∷ qs) = if nat_lt p.serial q.serial then p ∷ q ∷ qs else q ∷ placed p qs
+
 -- the octets of an object's record
 abbrev pub object_spelling : Schema → Object → List ℕ
 object_spelling S object = record_spelling (members_at S object.home) object.values
 
--- the sum over the objects of 16 and their record's length
+-- 16 and the length of an object's record
+abbrev pub weight : Schema → Object → ℕ
+weight S object = 16 + length (object_spelling S object)
+
+-- the sum of the objects' weights
 abbrev pub total : Schema → Catalog → ℕ
-total S M = sum (map (λ e. 16 + length (object_spelling S e.1)) (entries M))
+total S M = sum (map (λ e. weight S e.1) (entries M))
+
+-- the weight of the object with a serial, 0 where there is none
+abbrev pub weight_at : Schema → Catalog → ℕ → ℕ
+weight_at S M s = given (get M s) 0 (weight S)
 
 abbrev mutual
   -- the objects that a value refers to

@@ -2,7 +2,7 @@
 ghost use Rattle.std.specs.Prelude.{◌≡◌, ◌<◌};
 
 use crate::digits::{append_octets, octets_of};
-use crate::values::{LineFault, append_record, is_record, read_record};
+use crate::values::{LineFault, append_record, read_record};
 use cdr_codec::{RecordFault, decode_record, encode_record};
 use psdl_check::check;
 use psdl_syntax::parse;
@@ -10,7 +10,7 @@ use pss_base::{Bytes, NoMemory, Steps};
 use std::alloc::Global;
 use std::marker::Brand;
 use std::sync::ledger::{Blank, Ledger};
-use type_layout::{Layout, Schema};
+use type_layout::{Layout, Schema, is_record};
 
 // The schema of a text, none where the text is refused.
 fn schema_of(alloc: Global, text: &[u8]) -> Option<Schema> {

@@ -1,9 +1,4 @@
 // The values of a record on a line.
-ghost use Rattle.std.specs.Prelude.{◌≡◌, map, IsTrue};
-ghost use Rattle.type_layout.specs.Members.{plain_member};
-ghost use Rattle.type_layout.specs.Views.{plain_value};
-ghost use Rattle.type_layout.specs.Values.{IsRecord};
-
 use pss_base::{Bytes, NoMemory};
 use std::alloc::Global;
 use type_layout::{Layout, Member, Record, Value, Values, is_of};
@@ -64,31 +59,6 @@ pub fn read_record(alloc: Global, layout: &Layout, text: &[u8]) -> Result<Record
     } else {
         Err(LineFault::BadValue(rest.len()))
     }
-}
-
-fn are_of(members: &[Member], values: &[Value]) -> bool
-    ensures { IsTrue result → IsRecord (map plain_member members.now) (map plain_value values.now) }
-{
-    let mut remaining = values;
-    for member in members {
-        match remaining {
-            [value, others @ ..] => {
-                if !is_of(value, &member.ty) {
-                    return false;
-                }
-                remaining = others;
-            }
-            [] => return false,
-        }
-    }
-    remaining.is_empty()
-}
-
-/// Whether values are a record of a layout. Only of one that is are the octets asked for.
-pub fn is_record(layout: &Layout, values: &Record) -> bool
-    ensures { IsTrue result → IsRecord layout.now.members values.now }
-{
-    are_of(layout.members.as_slice(), values.0.as_slice())
 }
 
 // Puts the text of a member's value behind what is there. Only of a value of the type is the text asked for.

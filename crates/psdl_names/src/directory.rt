@@ -5,13 +5,12 @@ ghost use Rattle.psdl_names.specs.Wholes.{HoldsWhole};
 
 use crate::declaration::{Declaration, What};
 use crate::flat::Flat;
+use crate::indexes::{NameTables, name_tables};
 use crate::kind::kind_of;
 use crate::lookup::{first_before, number_of};
-use crate::scoped::{ScopedName, exact_names, lower_names};
+use crate::scoped::ScopedName;
 use crate::scopes::Scopes;
 use crate::spelling::Spelling;
-use crate::table::table_of;
-use crate::whole::whole_names;
 use indexmap::IndexMap;
 use psdl_tree::{Name, NamePart};
 use pss_base::{NoMemory, Place};
@@ -52,17 +51,14 @@ impl<'a> Directory<'a> {
         ensures { IfOk result (λ d. all_of d ≡ all_in flat.entry) }
     {
         let _ = flat.scopes.len();
-        let exact = table_of(alloc, &exact_names(alloc, &flat.declarations)?)?;
-        let lowered = lower_names(alloc, &flat.declarations, lowered)?;
-        let lower = table_of(alloc, &lowered)?;
-        let wholes = table_of(alloc, &whole_names(alloc, &flat.declarations)?)?;
+        let NameTables { exact, lower } = name_tables(alloc, &flat.declarations, lowered)?;
         Ok(Directory {
             scopes: flat.scopes,
             declarations: flat.declarations,
-            exact,
-            lower,
-            wholes,
-            lowered,
+            exact: exact.firsts,
+            lower: lower.firsts,
+            wholes: exact.wholes,
+            lowered: lower.names,
         })
     }
 

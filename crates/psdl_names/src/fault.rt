@@ -6,67 +6,49 @@ use pss_base::Place;
 use thiserror::Error;
 
 /// What is wrong with a text.
-#[derive(Clone, Copy, Debug, PartialEq, Eq, Drop, Error)]
+#[derive(Clone, Copy, Debug, PartialEq, Eq, Drop)]
 pub enum CheckKind {
     /// An identifier equals, but for case, an earlier one of its scope.
-    #[error("Redefined")]
     Redefined,
     /// A name stands for nothing, also where case is ignored.
-    #[error("Unknown")]
     Unknown,
     /// A name stands for something only where case is ignored.
-    #[error("WrongCase")]
     WrongCase,
     /// A name stands for another kind than its place needs, or a string or an expression stands where it may not.
-    #[error("WrongKind")]
     WrongKind,
     /// A base, or what is implemented or managed, is only declared so far; or a forward declaration is never defined.
-    #[error("Incomplete")]
     Incomplete,
     /// A struct names itself, or a type or home names itself as base, behind `of` or behind `implements`.
-    #[error("Cycle")]
     Cycle,
     /// Two members of a type, or two keys or factories of a home with different lists, have names that are equal but for case.
-    #[error("MemberClash")]
     MemberClash,
     /// A key names no member of the home's type, or names one twice.
-    #[error("KeyMember")]
     KeyMember,
     /// A key's member is a struct, sequence, array or reference.
-    #[error("KeyType")]
     KeyType,
     /// A factory names no member of the home's type, or names one twice.
-    #[error("FactoryMember")]
     FactoryMember,
     /// A home implements an abstract home to whose type its own does not conform.
-    #[error("NotImplemented")]
     NotImplemented,
     /// A home's type does not go with that of its base, or is abstract where it has to be concrete, or the other way round.
-    #[error("HomeType")]
     HomeType,
     /// A home's type is that of another home of its family before it.
-    #[error("FamilyType")]
     FamilyType,
     /// A value leaves its range.
-    #[error("ConstRange")]
     ConstRange,
     /// A divisor is 0.
-    #[error("ConstZero")]
     ConstZero,
     /// No storage home implements what a catalog provides.
-    #[error("Provides")]
     Provides,
     /// There are too many members or homes, or a type nests too deep, or a record or the shape is too long.
-    #[error("Limit")]
     Limit,
     /// There was no memory. It may come in place of any other answer.
-    #[error("NoMemory")]
     NoMemory,
 }
 
 /// What is wrong, and where.
 #[derive(Clone, Copy, Debug, PartialEq, Eq, Drop, Error)]
-#[error("{kind} at {line}:{column}", line = .place.line, column = .place.column)]
+#[error("{kind:?} at {line}:{column}", line = .place.line, column = .place.column)]
 pub struct CheckFault {
     pub place: Place,
     pub kind: CheckKind,

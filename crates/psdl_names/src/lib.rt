@@ -7,6 +7,7 @@ pub mod directory;
 pub mod fault;
 pub mod flat;
 pub mod forward;
+mod indexes;
 mod kind;
 mod lookup;
 pub mod meant;

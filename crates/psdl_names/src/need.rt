@@ -1,7 +1,7 @@
 // What the place of a name needs.
 
 /// What the declaration must be that a name stands for.
-#[derive(Clone, Copy, Debug, PartialEq, Eq, Drop)]
+#[derive(Clone, Copy)]
 pub(crate) enum Need {
     /// A typedef, a struct or an enum.
     OfType,

@@ -48,10 +48,6 @@ no_at all numbers o n same is there =
 pub cut_behind : (a b : ℕ) → cut (a + cut b) ≡ cut (a + b)
 cut_behind a b = omega arith
 
--- one part more behind what stands in front
-pub cut_more : (front line part so_far : ℕ) → so_far ≡ cut (front + part) → cut (so_far + line) ≡ cut (front + (part + line))
-cut_more front line part so_far is = omega (arith, is)
-
 -- with the line of a key
 pub key_added : (front line : ℕ) (keys : List Key) (n : ℕ) (key : Key) → slice_get keys n ≡ Some key → line ≡ length_of_key key.name key.home.0 key.members
     → cut (front + line) ≡ cut (front + length (given (slice_get keys n) [] key_text))

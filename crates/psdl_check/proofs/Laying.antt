@@ -30,9 +30,6 @@ laid_out m t = record { name = m.name.name; type = t; readonly = m.readonly }
 
 -- ---- types that stay
 
-pub extends_same : (types : List PlainType) → Extends types types
-extends_same types n lt = (lt, refl)
-
 pub extends_further : (first next last : List PlainType) → Extends first next → Extends next last → Extends first last
 extends_further first next last one two n lt =
     let a = one n lt in

@@ -115,7 +115,8 @@ impl Contributors {
         Ok(Contributors { kept })
     }
 
-    /// The lists of all declarations but of those in circles of bases and below such.
+    /// The lists of all declarations but of those in circles of bases and below such, and of those whose list, or that of
+    /// one above them, is longer than 255.
     pub(crate) fn new(
         alloc: Global,
         lineage: &Lineage,

@@ -12,7 +12,7 @@ use pss_base::{Bytes, NoMemory};
 use std::alloc::Global;
 
 /// What a token leaves to the one behind it.
-#[derive(Clone, Copy, Debug, PartialEq, Eq, Drop)]
+#[derive(Clone, Copy, Drop)]
 pub(crate) enum Edge {
     /// A line begins.
     Line,

@@ -11,7 +11,9 @@ use super::stores::{
     abstract_home_of, abstract_type_of, catalog_of, storage_home_of, storage_type_of,
 };
 use super::types::{at_integer_type, declarators_of, fields_of, integer_type_of, type_spec_of};
-use super::words::{Read, at_keyword, before_brace, identifier_of, keyword_of, mark_of, open_of};
+use super::words::{
+    Read, at_keyword, before, before_brace, identifier_of, keyword_of, mark_of, open_of,
+};
 use psdl_tokens::{Keyword, Mark, Token};
 use psdl_tree::{
     Constant, ConstantType, Definition, Enumeration, Field, Identifier, Identifiers, Module,
@@ -71,7 +73,7 @@ fn braced_fields_of(alloc: Global, depth: u32, tokens: &[Token]) -> Read<'_, (Fi
 {
     let rest = open_of(Mark::LeftBrace, depth, tokens)?;
     let (fields, rest) = fields_of(alloc, depth - 1, rest)?;
-    let rest = mark_of(Mark::RightBrace, rest)?;
+    let (fields, rest) = before(Mark::RightBrace, fields, rest)?;
     Ok((fields, rest))
 }
 
@@ -95,7 +97,7 @@ fn braced_identifiers_of(alloc: Global, depth: u32, tokens: &[Token]) -> Read<'_
 {
     let rest = open_of(Mark::LeftBrace, depth, tokens)?;
     let (names, rest) = identifiers_of(alloc, rest)?;
-    let rest = mark_of(Mark::RightBrace, rest)?;
+    let (names, rest) = before(Mark::RightBrace, names, rest)?;
     Ok((names, rest))
 }
 
@@ -118,8 +120,8 @@ fn module_of(alloc: Global, depth: u32, tokens: &[Token]) -> Read<'_, (Identifie
     let (name, rest) = identifier_of(rest)?;
     let rest = open_of(Mark::LeftBrace, depth, rest)?;
     let (definitions, rest) = definitions_of(alloc, depth - 1, rest)?;
-    let rest = mark_of(Mark::RightBrace, rest)?;
-    Ok(((name, definitions), rest))
+    let (parts, rest) = before(Mark::RightBrace, (name, definitions), rest)?;
+    Ok((parts, rest))
 }
 
 #[cycle(definitions)]
@@ -145,7 +147,7 @@ pub(super) fn definition_of(alloc: Global, depth: u32, tokens: &[Token]) -> Read
     ensures { Gives (λ x. (definition_view x.0, map seen x.1.now)) result (definition_at depth (map seen tokens.now)) }
 {
     let (definition, rest) = body_of(alloc, depth, tokens)?;
-    let rest = mark_of(Mark::Semicolon, rest)?;
+    let (definition, rest) = before(Mark::Semicolon, definition, rest)?;
     Ok((definition, rest))
 }
 

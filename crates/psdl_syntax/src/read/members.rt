@@ -1,20 +1,21 @@
 // Members of storage types and homes.
 ghost use Rattle.std.specs.Prelude.{◌≡◌, ◌-◌, map, option_map};
-ghost use Rattle.part_readers.specs.Reading.{Gives, starts, optional, many};
+ghost use Rattle.part_readers.specs.Reading.{Gives, starts, both, optional, many};
 ghost use Rattle.psdl_syntax.specs.Seen.{seen};
 ghost use Rattle.psdl_tree.specs.Views.{state_view, parameter_view, parameters_view, operation_result_view, operation_view, key_members_view, key_view, factory_view, identifiers_view};
-ghost use Rattle.psdl_syntax.specs.Productions.{is_mark, is_state, is_direction, is_identifier, behind_sign, state_at, readonly_at, direction_at, parameter_at, parameters_at, operation_result_at, operation_parameters_at, operation_at, key_members_at, key_at, factory_members_at, factory_at, identifiers_at};
+ghost use Rattle.psdl_syntax.specs.Productions.{is_mark, is_state, is_direction, is_identifier, behind_sign, state_at, readonly_at, direction_at, parameter_at, parameters_at, operation_result_at, operation_parameters_at, operation_at, key_members_at, key_at, factory_members_at, factory_at, identifiers_at, identifier_at, sign_at};
 ghost use Rattle.psdl_tokens.specs.declared.token.Mark.TheVariants as marks;
 
 use super::names::identifiers_of;
 use super::types::state_type_of;
 use super::words::{
-    Read, at_identifier, at_keyword, at_mark, identifier_of, keyword_of, mark_of, open_paren_of,
+    Read, at_identifier, at_keyword, at_mark, before, identifier_of, keyword_of, mark_of,
+    open_paren_of,
 };
 use psdl_tokens::{Keyword, Mark, Token};
 use psdl_tree::{
-    Direction, Factory, Identifiers, Key, KeyMembers, Operation, OperationResult, Parameter,
-    Parameters, State,
+    Direction, Factory, Identifier, Identifiers, Key, KeyMembers, Operation, OperationResult,
+    Parameter, Parameters, State,
 };
 use pss_base::Place;
 use std::alloc::Global;
@@ -45,12 +46,12 @@ pub(super) fn state_of(alloc: Global, depth: u32, tokens: &[Token]) -> Read<'_, 
     let rest = keyword_of(Keyword::State, rest)?;
     let (state_type, rest) = state_type_of(alloc, depth, rest)?;
     let (names, rest) = identifiers_of(alloc, rest)?;
-    let rest = mark_of(Mark::Semicolon, rest)?;
     let state = State {
         readonly,
         state_type,
         names,
     };
+    let (state, rest) = before(Mark::Semicolon, state, rest)?;
     Ok((state, rest))
 }
 
@@ -149,7 +150,7 @@ fn operation_parameters_of(
 {
     let (place, rest) = open_paren_of(depth, tokens)?;
     let (parameters, rest) = optional_parameters_of(alloc, depth - 1, rest)?;
-    let rest = mark_of(Mark::RightParen, rest)?;
+    let (parameters, rest) = before(Mark::RightParen, parameters, rest)?;
     Ok(((place, parameters), rest))
 }
 
@@ -165,14 +166,26 @@ fn operation_result_of(alloc: Global, depth: u32, tokens: &[Token]) -> Read<'_, 
     Ok((OperationResult::State(state_type), rest))
 }
 
+// An operation without what it returns, up to its end.
+fn signature_of(
+    alloc: Global,
+    depth: u32,
+    tokens: &[Token],
+) -> Read<'_, (Identifier, (Place, Option<Parameters>))>
+    ensures { Gives (λ x. ((x.0.0, ((x.0.1.0, option_map parameters_view x.0.1.1), tt)), map seen x.1.now)) result (both identifier_at (both (operation_parameters_at depth) (sign_at marks.Semicolon)) (map seen tokens.now)) }
+{
+    let (name, rest) = identifier_of(tokens)?;
+    let (parameters, rest) = operation_parameters_of(alloc, depth, rest)?;
+    let (signature, rest) = before(Mark::Semicolon, (name, parameters), rest)?;
+    Ok((signature, rest))
+}
+
 #[tactic(auto, unfolding(crate::specs::Productions::operation_at))]
 pub(super) fn operation_of(alloc: Global, depth: u32, tokens: &[Token]) -> Read<'_, Operation>
     ensures { Gives (λ x. (operation_view x.0, map seen x.1.now)) result (operation_at depth (map seen tokens.now)) }
 {
     let (returned, rest) = operation_result_of(alloc, depth, tokens)?;
-    let (name, rest) = identifier_of(rest)?;
-    let ((place, parameters), rest) = operation_parameters_of(alloc, depth, rest)?;
-    let rest = mark_of(Mark::Semicolon, rest)?;
+    let ((name, (place, parameters)), rest) = signature_of(alloc, depth, rest)?;
     let operation = Operation {
         returned,
         name,
@@ -188,7 +201,7 @@ fn key_members_of(alloc: Global, depth: u32, tokens: &[Token]) -> Read<'_, KeyMe
 {
     let (place, rest) = open_paren_of(depth, tokens)?;
     let (names, rest) = identifiers_of(alloc, rest)?;
-    let rest = mark_of(Mark::RightParen, rest)?;
+    let (names, rest) = before(Mark::RightParen, names, rest)?;
     Ok((KeyMembers { place, names }, rest))
 }
 
@@ -213,8 +226,9 @@ pub(super) fn key_of(alloc: Global, depth: u32, tokens: &[Token]) -> Read<'_, Ke
     let rest = keyword_of(Keyword::Key, tokens)?;
     let (name, rest) = identifier_of(rest)?;
     let (members, rest) = optional_key_members_of(alloc, depth, rest)?;
-    let rest = mark_of(Mark::Semicolon, rest)?;
-    Ok((Key { name, members }, rest))
+    let key = Key { name, members };
+    let (key, rest) = before(Mark::Semicolon, key, rest)?;
+    Ok((key, rest))
 }
 
 fn optional_identifiers_of(alloc: Global, tokens: &[Token]) -> Read<'_, Option<Identifiers>>
@@ -237,7 +251,7 @@ fn factory_members_of(
 {
     let (place, rest) = open_paren_of(depth, tokens)?;
     let (members, rest) = optional_identifiers_of(alloc, rest)?;
-    let rest = mark_of(Mark::RightParen, rest)?;
+    let (members, rest) = before(Mark::RightParen, members, rest)?;
     Ok(((place, members), rest))
 }
 
@@ -248,11 +262,11 @@ pub(super) fn factory_of(alloc: Global, depth: u32, tokens: &[Token]) -> Read<'_
     let rest = keyword_of(Keyword::Factory, tokens)?;
     let (name, rest) = identifier_of(rest)?;
     let ((place, members), rest) = factory_members_of(alloc, depth, rest)?;
-    let rest = mark_of(Mark::Semicolon, rest)?;
     let factory = Factory {
         name,
         place,
         members,
     };
+    let (factory, rest) = before(Mark::Semicolon, factory, rest)?;
     Ok((factory, rest))
 }

@@ -8,7 +8,7 @@ ghost use Rattle.psdl_syntax.specs.Productions.{is_inside, is_abstract_type_body
 use super::members::{at_state, factory_of, key_of, operation_of, state_of};
 use super::names::{name_of, names_of};
 use super::words::{
-    Read, at_keyword, at_mark, before_brace, identifier_of, keyword_of, mark_of, open_of,
+    Read, at_keyword, at_mark, before, before_brace, identifier_of, keyword_of, mark_of, open_of,
 };
 use psdl_tokens::{Keyword, Mark, Token};
 use psdl_tree::{
@@ -100,7 +100,7 @@ fn braced_type_members_of(
 {
     let rest = open_of(Mark::LeftBrace, depth, tokens)?;
     let (items, rest) = abstract_type_members_of(alloc, depth - 1, rest)?;
-    let rest = mark_of(Mark::RightBrace, rest)?;
+    let (items, rest) = before(Mark::RightBrace, items, rest)?;
     Ok((items, rest))
 }
 
@@ -159,7 +159,7 @@ fn braced_states_of(alloc: Global, depth: u32, tokens: &[Token]) -> Read<'_, Vec
 {
     let rest = open_of(Mark::LeftBrace, depth, tokens)?;
     let (items, rest) = states_of(alloc, depth - 1, rest)?;
-    let rest = mark_of(Mark::RightBrace, rest)?;
+    let (items, rest) = before(Mark::RightBrace, items, rest)?;
     Ok((items, rest))
 }
 
@@ -250,7 +250,7 @@ fn braced_abstract_members_of(
 {
     let rest = open_of(Mark::LeftBrace, depth, tokens)?;
     let (items, rest) = abstract_home_members_of(alloc, depth - 1, rest)?;
-    let rest = mark_of(Mark::RightBrace, rest)?;
+    let (items, rest) = before(Mark::RightBrace, items, rest)?;
     Ok((items, rest))
 }
 
@@ -334,7 +334,7 @@ fn braced_home_members_of(alloc: Global, depth: u32, tokens: &[Token]) -> Read<'
 {
     let rest = open_of(Mark::LeftBrace, depth, tokens)?;
     let (items, rest) = home_members_of(alloc, depth - 1, rest)?;
-    let rest = mark_of(Mark::RightBrace, rest)?;
+    let (items, rest) = before(Mark::RightBrace, items, rest)?;
     Ok((items, rest))
 }
 
@@ -366,8 +366,9 @@ fn provision_of(alloc: Global, tokens: &[Token]) -> Read<'_, Provision>
     let rest = keyword_of(Keyword::Provides, tokens)?;
     let (home, rest) = name_of(alloc, rest)?;
     let (name, rest) = identifier_of(rest)?;
-    let rest = mark_of(Mark::Semicolon, rest)?;
-    Ok((Provision { home, name }, rest))
+    let provision = Provision { home, name };
+    let (provision, rest) = before(Mark::Semicolon, provision, rest)?;
+    Ok((provision, rest))
 }
 
 fn provisions_of(alloc: Global, tokens: &[Token]) -> Read<'_, Vec<Provision>>
@@ -392,7 +393,7 @@ fn braced_provisions_of(alloc: Global, depth: u32, tokens: &[Token]) -> Read<'_,
 {
     let rest = open_of(Mark::LeftBrace, depth, tokens)?;
     let (items, rest) = provisions_of(alloc, rest)?;
-    let rest = mark_of(Mark::RightBrace, rest)?;
+    let (items, rest) = before(Mark::RightBrace, items, rest)?;
     Ok((items, rest))
 }
 

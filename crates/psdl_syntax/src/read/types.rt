@@ -9,7 +9,7 @@ ghost use Rattle.psdl_tokens.specs.declared.token.Mark.TheVariants as marks;
 use super::expressions::expression_of;
 use super::names::name_of;
 use super::words::{
-    Read, at_keyword, at_mark, before_brace, identifier_of, keyword_of, mark_of, open_of,
+    Read, at_keyword, at_mark, before, before_brace, identifier_of, keyword_of, mark_of, open_of,
 };
 use psdl_tokens::{Keyword, Mark, Token};
 use psdl_tree::{
@@ -70,7 +70,7 @@ fn bound_of(alloc: Global, depth: u32, tokens: &[Token]) -> Read<'_, Expression>
 {
     let rest = open_of(Mark::Less, depth, tokens)?;
     let (bound, rest) = expression_of(alloc, depth - 1, rest)?;
-    let rest = mark_of(Mark::Greater, rest)?;
+    let (bound, rest) = before(Mark::Greater, bound, rest)?;
     Ok((bound, rest))
 }
 
@@ -152,7 +152,7 @@ fn sequence_of(
     let rest = keyword_of(Keyword::Sequence, tokens)?;
     let rest = open_of(Mark::Less, depth, rest)?;
     let (inner, rest) = sequence_inner_of(alloc, depth - 1, rest)?;
-    let rest = mark_of(Mark::Greater, rest)?;
+    let (inner, rest) = before(Mark::Greater, inner, rest)?;
     Ok((inner, rest))
 }
 
@@ -176,7 +176,7 @@ fn reference_of(alloc: Global, depth: u32, tokens: &[Token]) -> Read<'_, Name>
     let rest = keyword_of(Keyword::Ref, tokens)?;
     let rest = open_of(Mark::Less, depth, rest)?;
     let (name, rest) = name_of(alloc, rest)?;
-    let rest = mark_of(Mark::Greater, rest)?;
+    let (name, rest) = before(Mark::Greater, name, rest)?;
     Ok((name, rest))
 }
 
@@ -198,7 +198,7 @@ fn dimension_of(alloc: Global, depth: u32, tokens: &[Token]) -> Read<'_, Express
 {
     let rest = open_of(Mark::LeftBracket, depth, tokens)?;
     let (size, rest) = expression_of(alloc, depth - 1, rest)?;
-    let rest = mark_of(Mark::RightBracket, rest)?;
+    let (size, rest) = before(Mark::RightBracket, size, rest)?;
     Ok((size, rest))
 }
 
@@ -265,8 +265,9 @@ fn field_of(alloc: Global, depth: u32, tokens: &[Token]) -> Read<'_, Field>
 {
     let (spec, rest) = type_spec_of(alloc, depth, tokens)?;
     let (declarators, rest) = declarators_of(alloc, depth, rest)?;
-    let rest = mark_of(Mark::Semicolon, rest)?;
-    Ok((Field { spec, declarators }, rest))
+    let field = Field { spec, declarators };
+    let (field, rest) = before(Mark::Semicolon, field, rest)?;
+    Ok((field, rest))
 }
 
 fn more_fields_of(alloc: Global, depth: u32, tokens: &[Token]) -> Read<'_, Vec<Field>>

@@ -1,5 +1,5 @@
 // One token, and whether it is the next.
-ghost use Rattle.std.specs.Prelude.{◌≡◌, ◌<◌, OnOk, false, true, map, length};
+ghost use Rattle.std.specs.Prelude.{◌≡◌, ◌<◌, IfOk, OnOk, false, true, map, length};
 ghost use Rattle.part_readers.specs.Reading.{Gives, starts};
 ghost use Rattle.psdl_syntax.specs.Codes.{same_keyword, same_mark};
 ghost use Rattle.psdl_syntax.specs.Seen.{seen, keeps_place};
@@ -116,6 +116,18 @@ pub(super) fn mark_of(mark: Mark, tokens: &[Token]) -> Result<&[Token], Refusal<
             _ => unexpected(tokens),
         },
         [] => unexpected(tokens),
+    }
+}
+
+/// What was read, in front of a sign whose place the tree does not keep.
+pub(super) fn before<T: Drop>(mark: Mark, read: T, tokens: &[Token]) -> Read<'_, T>
+    requires { keeps_place mark ≡ false }
+    ensures kept { IfOk result (λ x. x.0 ≡ read) }
+    ensures sign { Gives (λ x. (tt, map seen x.1.now)) result (sign_at mark (map seen tokens.now)) }
+{
+    match mark_of(mark, tokens) {
+        Ok(rest) => Ok((read, rest)),
+        Err(refusal) => Err(refusal),
     }
 }
 

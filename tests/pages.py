@@ -15,7 +15,7 @@ import glob
 import os
 import re
 
-from running import cells, contents, each, ended, expect, expect_answer, program, record_cases, shortened, tell, top, written
+from running import cells, contents, each, ended, expect, expect_answer, lines_of, program, record_cases, shortened, tell, top, written
 
 BLOCK = re.compile(r"^```([^\n]*)\n(.*?)^```$", re.M | re.S)
 EXAMPLE = re.compile(r"^\.EX\n(.*?)^\.EE$", re.M | re.S)
@@ -163,3 +163,42 @@ def pages(folder):
     found = glob.glob(os.path.join(top, "*.md")) + glob.glob(os.path.join(top, "docs", "*"))
     for path in each("the pages", sorted(found)):
         try_page(folder, path)
+
+
+# ---- what the pages say of the crates
+
+
+def rows(page, heading):
+    """The cells of the rows of the first table behind a heading."""
+    behind = contents(os.path.join(top, page)).decode().partition(f"\n## {heading}\n")[2]
+    table = re.search(r"^\|[^\n]*\n\|[-| ]*\n((?:\|[^\n]*\n)+)", behind, re.M)
+    return [[cell.strip() for cell in line.strip("|").split(" | ")] for line in table[1].splitlines()] if table else []
+
+
+def listed():
+    """The crates of crates.txt, each with the libraries that it stands on."""
+    lines = [line.partition(":") for line in lines_of(os.path.join(top, "crates.txt"))]
+    return [(name, libraries.split()) for name, _, libraries in lines]
+
+
+def crates_with(pattern):
+    """The crates of which there is an edit: `*` stands for their names."""
+    before = os.path.join(top, pattern.partition("*")[0])
+    return {path[len(before) :].partition(os.sep)[0] for path in glob.glob(os.path.join(top, pattern))}
+
+
+def tables(_):
+    """The tables of crates are in the order of crates.txt, and those of edits name the crates that have some."""
+    crates = listed()
+    names = [name for name, _ in crates]
+    seen = [(row[0], row[2].strip(" |").replace("`", "").replace(",", "").split()) for row in rows("docs/ARCHITECTURE.md", "Crates, lowest first")]
+    tell("docs/ARCHITECTURE.md has the crates of crates.txt", seen == crates, [row for row in seen if row not in crates] + [row for row in crates if row not in seen])
+    seen = [row[0] for row in rows("README.md", "What is proved")]
+    in_order = sorted(seen, key=lambda name: names.index(name) if name in names else -1)
+    tell("README.md has the crates in the order of crates.txt", seen == in_order and set(seen) <= set(names), seen)
+    text = contents(os.path.join(top, "README.md")).decode()
+    for folder, pattern in [("crates/NAME/must-fail/", "crates/*/must-fail/*.edit"), ("tests/edits/NAME/", "tests/edits/*/*.edit")]:
+        row = re.search(rf"^\| `{folder}` \|[^|]*\| ([^|]*) \|$", text, re.M)
+        seen = row[1].split(", ") if row else []
+        in_order = [name for name in names if name in crates_with(pattern)]
+        tell(f"README.md has the crates with edits in {folder}", seen == in_order, seen)

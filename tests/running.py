@@ -63,6 +63,10 @@ def ended(words, script=b"", **how):
     except subprocess.TimeoutExpired:
         kill(child)
         return OVER, *child.communicate()
+    finally:
+        # Also where the tests themselves are ended.
+        if child.poll() is None:
+            kill(child)
 
 
 def shortened(run):

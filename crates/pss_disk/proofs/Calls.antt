@@ -1,65 +1,95 @@
--- One call more.
-use Rattle.std.proofs.Common.{◌≡◌, ◌⊎◌, ⊎_elim, ℕ, zero, List, [], ◌∷◌, ◌++◌, refl, ap, sym, ◌∙◌, length, append_assoc, append-nil}
+-- One call more of a station in memory.
+use Rattle.std.proofs.Common.{◌≡◌, ◌⊎◌, ⊎_elim, inl, inr, ℕ, zero, ◌+◌, ◌/◌, ◌≤◌, List, [], ◌∷◌, ◌++◌, length, refl, sym, ap, ◌∙◌, subst, arith, append-nil, length-append}
 use Rattle.std.proofs.Math.Seq.{take-length}
-use Rattle.pss_disk.specs.Moments.{Through, DuringSpeak, spoke}
-use Rattle.pss_disk.specs.Tape.{Tape, spoken_in, moment_at, moments_from, moments_of, now_of, recorded, uncounted}
-use Rattle.pss_disk.specs.declared.memory.Call.{Call}
-use Rattle.pss_disk.specs.declared.memory.Call.TheVariants.{Failed, Spoke}
+use Rattle.std.specs.Prelude.{Result, Ok, Err, OnErr}
+use Rattle.pss_base.specs.Causes.{one_more}
+use Rattle.pss_disk.specs.Moments.{Moment, Through, DuringSpeak, spoke}
+use Rattle.pss_disk.specs.Tape.{Tape, State, half, after, after_all, moment_of, moments_from, moments_of, recorded, start, state_of, FailedDisk, FailedSpeech}
+use Rattle.pss_disk.specs.declared.call.Call.{Call}
+use Rattle.pss_disk.specs.declared.call.Call.TheVariants.{Spoke}
 
-pub spoken_in-append : (calls more : List Call) → spoken_in (calls ++ more) ≡ spoken_in calls ++ spoken_in more
-spoken_in-append [] more = refl
-spoken_in-append (Failed ∷ calls) more = spoken_in-append calls more
-spoken_in-append (Spoke bytes ∷ calls) more = ap (λ l. bytes ++ l) (spoken_in-append calls more) ∙ sym (append_assoc bytes (spoken_in calls) (spoken_in more))
+pub on_err : {T E : Type 0} (r : Result T E) (P : Type 0) → P → OnErr r P
+on_err (Ok t) P p = tt
+on_err (Err e) P p = p
 
--- the moments of the calls so far, and then those of the further ones
-pub moments_from-append : (first said : List ℕ) (calls more : List Call) → moments_from first said (calls ++ more) ≡ moments_from first said calls ++ moments_from first (said ++ spoken_in calls) more
-moments_from-append first said [] more = ap (λ l. moments_from first l more) (sym (append-nil said))
-moments_from-append first said (Failed ∷ calls) more = ap (λ l. moment_at first said ∷ l) (moments_from-append first said calls more)
-moments_from-append first said (Spoke bytes ∷ calls) more =
-    ap (λ l. moment_at first (said ++ bytes) ∷ l)
-    (moments_from-append first (said ++ bytes) calls more ∙ ap (λ l. moments_from first (said ++ bytes) calls ++ moments_from first l more) (append_assoc said bytes (spoken_in calls)))
+pub after_all-push : (s : State) (calls : List Call) (call : Call) → after_all s (calls ++ call ∷ []) ≡ after call (after_all s calls)
+after_all-push s [] call = refl
+after_all-push s (c ∷ calls) call = after_all-push (after c s) calls call
 
-pub spoken_in-failed : (calls : List Call) → spoken_in (calls ++ Failed ∷ []) ≡ spoken_in calls
-spoken_in-failed calls = spoken_in-append calls (Failed ∷ []) ∙ append-nil (spoken_in calls)
+pub moments_from-push : (s : State) (calls : List Call) (call : Call) → moments_from s (calls ++ call ∷ []) ≡ moments_from s calls ++ moment_of (after call (after_all s calls)) ∷ []
+moments_from-push s [] call = refl
+moments_from-push s (c ∷ calls) call = ap (λ ms. moment_of (after c s) ∷ ms) (moments_from-push (after c s) calls call)
 
-pub spoken_in-spoke : (calls : List Call) (bytes : List ℕ) → spoken_in (calls ++ Spoke bytes ∷ []) ≡ spoken_in calls ++ bytes
-spoken_in-spoke calls bytes = spoken_in-append calls (Spoke bytes ∷ []) ∙ ap (λ l. spoken_in calls ++ l) (append-nil bytes)
+pub ruleset one_more_call = (after_all-push, moments_from-push)
 
-pub ruleset one_more = (spoken_in-failed, spoken_in-spoke)
+-- the call came, or none did
+pub record Stepped (call : Call) (old new : Tape) : Type 0 where
+  pub first : new.first ≡ old.first
+  pub calls : (new.calls ≡ old.calls ++ call ∷ []) ⊎ (new.calls ≡ old.calls)
 
--- nothing more was spoken
-still : (tape : Tape) → now_of tape ≡ spoke [] (now_of tape)
-still tape = ap (moment_at tape.first) (sym (append-nil (spoken_in tape.calls)))
+pub step_of : (call : Call) (old new : Tape) → new ≡ recorded call old → Stepped call old new
+step_of call old new e = record { first = ap (λ (t : Tape). t.first) e; calls = inl (ap (λ (t : Tape). t.calls) e) }
 
--- a call that failed came, or none did
-module _ (tape old new : Tape) (faults : ℕ) (bytes : List ℕ) (same : old ≡ tape) (is : (new ≡ recorded Failed faults old) ⊎ (new ≡ uncounted faults old)) where
-  from_here : (new ≡ recorded Failed faults tape) ⊎ (new ≡ uncounted faults tape)
-  from_here = rw same at is
+pub failed_disk : (call : Call) (old new : Tape) → FailedDisk call old new → Stepped call old new
+failed_disk call old new f =
+    ⊎_elim (λ e. record { first = ap (λ (t : Tape). t.first) e; calls = inl (ap (λ (t : Tape). t.calls) e) })
+    (λ e. record { first = ap (λ (t : Tape). t.first) e; calls = inr (ap (λ (t : Tape). t.calls) e) }) f
 
-  pub failed_now : DuringSpeak bytes (now_of tape) (now_of new)
-  failed_now = (zero, ⊎_elim (λ e. ap now_of e ∙ ap (moment_at tape.first) (spoken_in-failed tape.calls)) (λ e. ap now_of e) from_here ∙ still tape)
+pub failed_speech : (call : Call) (old new : Tape) → FailedSpeech call old new → Stepped call old new
+failed_speech call old new f =
+    ⊎_elim (λ e. record { first = ap (λ (t : Tape). t.first) e; calls = inl (ap (λ (t : Tape). t.calls) e) })
+    (λ e. record { first = ap (λ (t : Tape). t.first) e; calls = inr (ap (λ (t : Tape). t.calls) e) }) f
 
-  pub failed_time : Through (moments_of tape) (moments_of new) (DuringSpeak bytes (now_of tape))
-  failed_time = ⊎_elim (λ e. one e) (λ e. none e) from_here
+-- the state after a call
+pub state_recorded : (call : Call) (old new : Tape) → new ≡ recorded call old → state_of new ≡ after call (state_of old)
+state_recorded call old new e = ap state_of e ∙ after_all-push (start old.first) old.calls call
+
+module _ (call : Call) (old new : Tape) (s : Stepped call old new) where
+  -- what holds before and after the call holds now
+  pub now_or_after : (P : State → Type 0) → P (state_of old) → P (after call (state_of old)) → P (state_of new)
+  now_or_after P before later =
+      let here : state_of new ≡ after_all (start old.first) new.calls = ap (λ f. after_all (start f) new.calls) s.first in
+      subst P (sym here) (⊎_elim (λ e. subst P (sym (ap (after_all (start old.first)) e ∙ after_all-push (start old.first) old.calls call)) later) (λ e. subst P (sym (ap (after_all (start old.first)) e)) before) s.calls)
+
+  same_first : moments_of new ≡ moment_of (start old.first) ∷ moments_from (start old.first) new.calls
+  same_first = ap (λ f. moment_of (start f) ∷ moments_from (start f) new.calls) s.first
+
+  pub time_of : (P : Moment → Type 0) → P (moment_of (after call (state_of old))) → Through (moments_of old) (moments_of new) P
+  time_of P later = ⊎_elim one none s.calls
     where
-      one : new ≡ recorded Failed faults tape → Through (moments_of tape) (moments_of new) (DuringSpeak bytes (now_of tape))
+      one : new.calls ≡ old.calls ++ call ∷ [] → Through (moments_of old) (moments_of new) P
       one e = record {
-        came = now_of tape ∷ [];
-        grown = ap moments_of e ∙ ap (λ l. moment_at tape.first [] ∷ l) (moments_from-append tape.first [] tape.calls (Failed ∷ []));
-        each = ((zero, still tape), tt);
+        came = moment_of (after call (state_of old)) ∷ [];
+        grown = same_first ∙ ap (λ cs. moment_of (start old.first) ∷ moments_from (start old.first) cs) e ∙ ap (λ ms. moment_of (start old.first) ∷ ms) (moments_from-push (start old.first) old.calls call);
+        each = (later, tt);
       }
 
-      none : new ≡ uncounted faults tape → Through (moments_of tape) (moments_of new) (DuringSpeak bytes (now_of tape))
-      none e = record { came = []; grown = ap moments_of e ∙ sym (append-nil (moments_of tape)); each = tt }
+      none : new.calls ≡ old.calls → Through (moments_of old) (moments_of new) P
+      none e = record { came = []; grown = same_first ∙ ap (λ cs. moment_of (start old.first) ∷ moments_from (start old.first) cs) e ∙ sym (append-nil (moments_of old)); each = tt }
 
--- the bytes were spoken
-module _ (tape new : Tape) (bytes : List ℕ) (is : new ≡ recorded (Spoke bytes) tape.speak_faults tape) where
-  pub spoke_now : now_of new ≡ spoke bytes (now_of tape)
-  spoke_now = ap now_of is ∙ ap (moment_at tape.first) (spoken_in-spoke tape.calls bytes)
+  pub once_of : length (moments_of new) ≤ length (moments_of old) + 1
+  once_of = ⊎_elim
+      (λ e. omega (arith, ap length (same_first ∙ ap (λ cs. moment_of (start old.first) ∷ moments_from (start old.first) cs) e), ap length (moments_from-push (start old.first) old.calls call), length-append (moments_from (start old.first) old.calls) (moment_of (after call (state_of old)) ∷ [])))
+      (λ e. omega (arith, ap length (same_first ∙ ap (λ cs. moment_of (start old.first) ∷ moments_from (start old.first) cs) e))) s.calls
 
-  pub spoke_time : Through (moments_of tape) (moments_of new) (DuringSpeak bytes (now_of tape))
-  spoke_time = record {
-    came = spoke bytes (now_of tape) ∷ [];
-    grown = ap moments_of is ∙ ap (λ l. moment_at tape.first [] ∷ l) (moments_from-append tape.first [] tape.calls (Spoke bytes ∷ []));
-    each = ((length bytes, ap (λ said. spoke said (now_of tape)) (sym (take-length bytes))), tt);
-  }
+pub disk_rose : (call : Call) (old new : Tape) → FailedDisk call old new → new.disk_faults ≡ one_more old.disk_faults
+disk_rose call old new f = ⊎_elim (λ e. ap (λ (t : Tape). t.disk_faults) e) (λ e. ap (λ (t : Tape). t.disk_faults) e) f
+
+pub disk_kept : (call : Call) (old new : Tape) → FailedSpeech call old new → new.disk_faults ≡ old.disk_faults
+disk_kept call old new f = ⊎_elim (λ e. ap (λ (t : Tape). t.disk_faults) e) (λ e. ap (λ (t : Tape). t.disk_faults) e) f
+
+pub speech_rose : (call : Call) (old new : Tape) → FailedSpeech call old new → new.speak_faults ≡ one_more old.speak_faults
+speech_rose call old new f = ⊎_elim (λ e. ap (λ (t : Tape). t.speak_faults) e) (λ e. ap (λ (t : Tape). t.speak_faults) e) f
+
+pub speech_kept : (call : Call) (old new : Tape) → FailedDisk call old new → new.speak_faults ≡ old.speak_faults
+speech_kept call old new f = ⊎_elim (λ e. ap (λ (t : Tape). t.speak_faults) e) (λ e. ap (λ (t : Tape). t.speak_faults) e) f
+
+-- no bytes, the first half of them, all of them were spoken
+pub spoke_none : (bytes : List ℕ) (s : State) → DuringSpeak bytes (moment_of s) (moment_of s)
+spoke_none bytes s = (zero, ap (λ said. moment_of (record s { spoken = said })) (sym (append-nil s.spoken)))
+
+pub spoke_part : (bytes : List ℕ) (s : State) → DuringSpeak bytes (moment_of s) (moment_of (after (Spoke (half bytes)) s))
+spoke_part bytes s = (length bytes / 2, refl)
+
+pub spoke_whole : (bytes : List ℕ) (s : State) → DuringSpeak bytes (moment_of s) (moment_of (after (Spoke bytes) s))
+spoke_whole bytes s = (length bytes, ap (λ said. spoke said (moment_of s)) (sym (take-length bytes)))

@@ -1,4 +1,7 @@
 pub mod Moments
+pub mod Octets
+pub mod Images
+pub mod Parts
 pub mod Tape
 pub mod Outside
-pub mod Told
+pub mod inner

@@ -1,12 +1,18 @@
 //! The station: what a service speaks and what it writes, on one clock, so that a contract can say what was on the disk
-//! when a word was spoken. For now it speaks alone.
+//! when a word was spoken.
 #![tactic(auto)]
 
+mod call;
+mod gate;
+mod image;
 mod memory;
 mod real;
+mod record;
 mod station;
 
-pub use memory::{Call, MemStation};
+pub use call::Call;
+pub use gate::set_gate;
+pub use memory::MemStation;
 pub use real::RealStation;
 pub use station::Station;
 

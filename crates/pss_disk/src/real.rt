@@ -1,41 +1,104 @@
 // The station of the system: a file and a writer. It tells nothing but its counts.
-ghost use Rattle.std.specs.Prelude.{◌≡◌, [], None, OnOk, OnErr, is_err};
+ghost use Rattle.std.specs.Prelude.{◌≡◌, ◌+◌, ◌≤◌, ℕ, [], None, IsErr, IsNone, OnOk, OnErr, is_err, length, take};
 ghost use Rattle.std.specs.Io.KnownBytes.{Appends};
 ghost use Rattle.pss_base.specs.Causes.{HasCause, counted};
-ghost use Rattle.pss_disk.specs.Moments.{Through, DuringSpeak, spoke};
+ghost use Rattle.pss_disk.specs.Moments.{spoke, synced, wrote};
+ghost use Rattle.pss_disk.specs.Octets.{disk_end, range_of};
 
-use crate::Station;
+use crate::station::Station;
 use pss_base::Failed;
-use std::io::Write;
+use std::fs::OpenFile;
+use std::io;
+use std::io::{ErrorKind, Write};
+use std::os::unix::fs::FileExt;
 
 /// A file as disk and a writer of std as speech. It tells no moment; that the system keeps what it is given is the
-/// premise of those who use it.
+/// premise of those who use it. Without a file, as for one that could not be opened, each call of the disk fails.
 #[derive(Drop)]
 pub struct RealStation<F, O> {
     file: Option<F>,
     out: O,
+    disk_faults: u64,
     speak_faults: u64,
 }
 
-impl<F: Drop, O: Write + Drop> RealStation<F, O> {
-    ghost use Rattle.pss_disk.specs.Outside.{speech_faults, writer_of};
+impl<F: FileExt + OpenFile + Drop, O: Write + Drop> RealStation<F, O> {
+    ghost use Rattle.pss_disk.specs.Outside.{file_faults, file_of, speech_faults, writer_of};
 
     /// The station of a file, or of none, and a writer.
     pub fn new(file: Option<F>, out: O) -> RealStation<F, O>
-        ensures faults { speech_faults result ≡ 0 }
+        ensures disk { file_faults result ≡ 0 }
+        ensures speech { speech_faults result ≡ 0 }
+        ensures file { file_of result ≡ file }
         ensures writer { writer_of result ≡ out }
     {
         RealStation {
             file,
             out,
+            disk_faults: 0,
             speak_faults: 0,
         }
     }
 }
 
-impl<F: Drop, O: Write + Drop> Station for RealStation<F, O> {
+// Fills a buffer from a place of a file on. Past the file's end it is filled with zero octets.
+fn read_all_at<F: FileExt>(file: &F, at: u64, buf: &mut [u8]) -> Result<(), Failed>
+    requires { at + length buf.old ≤ disk_end }
+{
+    let mut filled = 0;
+    for _ in 0..u64::MAX {
+        if filled >= buf.len() {
+            return Ok(());
+        }
+        match file.read_at(&mut buf[filled..], at + filled as u64) {
+            Ok(0) => {
+                buf[filled..].fill(0);
+                return Ok(());
+            }
+            Ok(count) => filled += count,
+            Err(error) if error.kind() == ErrorKind::Interrupted => {}
+            Err(_) => return Err(Failed),
+        }
+    }
+    Err(Failed)
+}
+
+// Makes sure of a file's octets and of its length.
+fn sync_file<F: OpenFile>(file: &F) -> Result<(), Failed> {
+    for _ in 0..u64::MAX {
+        match file.sync_data() {
+            Ok(()) => return Ok(()),
+            Err(error) if error.kind() == ErrorKind::Interrupted => {}
+            Err(_) => return Err(Failed),
+        }
+    }
+    Err(Failed)
+}
+
+// Writes bytes until none is left or the writer fails, and answers how many were written.
+fn write_front<O: Write>(out: &mut O, bytes: &[u8]) -> usize
+    ensures bound { result ≤ length bytes.now }
+    ensures written { Appends (O.contents out.old) (O.contents out.new) (take result bytes.now) }
+{
+    let mut count = 0;
+    for _ in 0..u64::MAX {
+        if count >= bytes.len() {
+            return count;
+        }
+        match out.write(&bytes[count..]) {
+            Ok(0) => return count,
+            Ok(more) => count += more,
+            Err(error) if error.kind() == ErrorKind::Interrupted => {}
+            Err(_) => return count,
+        }
+    }
+    count
+}
+
+impl<F: FileExt + OpenFile + Drop, O: Write + Drop> Station for RealStation<F, O> {
     ghost use Rattle.std.proofs.lemmas.Bool.{false≢true};
-    ghost use Rattle.pss_disk.specs.Outside.{speech_faults, writer_of};
+    ghost use Rattle.pss_disk.specs.Outside.{file_faults, file_of, speech_faults, writer_of};
+    ghost use Rattle.pss_disk.specs.inner.Told.{tells_nothing};
 
     ghost now = { λ _. record { spoken = None; disk = None } };
 
@@ -43,19 +106,89 @@ impl<F: Drop, O: Write + Drop> Station for RealStation<F, O> {
 
     ghost content = { λ _. None };
 
+    ghost disk_faults = { file_faults };
+
     ghost speak_faults = { speech_faults };
 
-    ghost last_is_now = { λ s told. absurd (false≢true told) };
+    ghost last_is_now = { λ s told. tells_nothing told };
+
+    ghost content_is_image = { λ s. tt };
+
+    fn len(&mut self) -> Result<u64, Failed>
+        ensures cause { HasCause (file_faults self.old) (file_faults self.new) result }
+        ensures other { speech_faults self.new ≡ speech_faults self.old }
+        // The count rises at each failure, and stands still at its last value.
+        ensures count { file_faults self.new ≡ counted (is_err result) (file_faults self.old) }
+        ensures none { IsNone (file_of self.old) → IsErr result }
+    {
+        if let Some(file) = &self.file {
+            if let Ok(metadata) = file.metadata() {
+                return Ok(metadata.len());
+            }
+        }
+        self.disk_faults = self.disk_faults.saturating_add(1);
+        Err(Failed)
+    }
+
+    fn read_at(&mut self, at: u64, buf: &mut [u8]) -> Result<(), Failed>
+        requires within { at + length buf.old ≤ disk_end }
+        ensures cause { HasCause (file_faults self.old) (file_faults self.new) result }
+        ensures other { speech_faults self.new ≡ speech_faults self.old }
+        ensures count { file_faults self.new ≡ counted (is_err result) (file_faults self.old) }
+        ensures none { IsNone (file_of self.old) → IsErr result }
+    {
+        if let Some(file) = &self.file {
+            if read_all_at(file, at, buf).is_ok() {
+                return Ok(());
+            }
+        }
+        self.disk_faults = self.disk_faults.saturating_add(1);
+        Err(Failed)
+    }
+
+    fn write_at(&mut self, at: u64, bytes: &[u8]) -> Result<(), Failed>
+        requires within { at + length bytes.now ≤ disk_end }
+        ensures now { OnOk result (record { spoken = None; disk = None } ≡ wrote (range_of at bytes.now) (record { spoken = None; disk = None })) }
+        ensures cause { HasCause (file_faults self.old) (file_faults self.new) result }
+        ensures other { speech_faults self.new ≡ speech_faults self.old }
+        ensures count { file_faults self.new ≡ counted (is_err result) (file_faults self.old) }
+        ensures none { IsNone (file_of self.old) → IsErr result }
+    {
+        if let Some(file) = &self.file {
+            if file.write_all_at(bytes, at).is_ok() {
+                return Ok(());
+            }
+        }
+        self.disk_faults = self.disk_faults.saturating_add(1);
+        Err(Failed)
+    }
+
+    fn sync(&mut self) -> Result<(), Failed>
+        ensures cause { HasCause (file_faults self.old) (file_faults self.new) result }
+        ensures other { speech_faults self.new ≡ speech_faults self.old }
+        ensures count { file_faults self.new ≡ counted (is_err result) (file_faults self.old) }
+        ensures none { IsNone (file_of self.old) → IsErr result }
+    {
+        if let Some(file) = &self.file {
+            if sync_file(file).is_ok() {
+                return Ok(());
+            }
+        }
+        self.disk_faults = self.disk_faults.saturating_add(1);
+        Err(Failed)
+    }
 
     fn speak(&mut self, bytes: &[u8]) -> Result<(), Failed>
         ensures spoken { OnOk result (spoke bytes.now (record { spoken = None; disk = None }) ≡ record { spoken = None; disk = None }) }
         ensures cause { HasCause (speech_faults self.old) (speech_faults self.new) result }
-        // Where it succeeds, a writer that tells its bytes has these behind them.
+        ensures other { file_faults self.new ≡ file_faults self.old }
+        // A writer that tells its bytes has these behind them; where the call fails, some first ones and no others.
         ensures written { OnOk result (Appends (O.contents (writer_of self.old)) (O.contents (writer_of self.new)) bytes.now) }
-        // The count rises at each failure, and stands still at its last value.
+        ensures part { OnErr result ((k : ℕ) × Appends (O.contents (writer_of self.old)) (O.contents (writer_of self.new)) (take k bytes.now)) }
         ensures count { speech_faults self.new ≡ counted (is_err result) (speech_faults self.old) }
     {
-        if self.out.write_all(bytes).is_ok() && self.out.flush().is_ok() {
+        let count = write_front(&mut self.out, bytes);
+        if count == bytes.len() && self.out.flush().is_ok() {
             return Ok(());
         }
         self.speak_faults = self.speak_faults.saturating_add(1);

@@ -1,0 +1,3 @@
+pub mod Crash
+pub mod Writing
+pub mod Told

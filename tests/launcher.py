@@ -44,11 +44,24 @@ echo "6 passed, 0 failed"
 """
 
 
+def programs_in(folder):
+    """A folder with the programs of the machine, but for any `rt`."""
+    programs = os.path.join(folder, "programs")
+    if not os.path.isdir(programs):
+        os.mkdir(programs)
+        for place in ("/usr/bin", "/bin"):
+            for name in os.listdir(place):
+                if name != "rt" and not os.path.lexists(os.path.join(programs, name)):
+                    os.symlink(os.path.join(place, name), os.path.join(programs, name))
+    return programs
+
+
 class Copy:
-    """A copy of the launcher over four small crates, and a folder of programs with that `rt`, or without any."""
+    """A copy of the launcher over four small crates, with a folder where that `rt` stands."""
 
     def __init__(self, folder, name):
         self.at = os.path.join(folder, name)
+        self.programs = programs_in(folder)
         self.bin = os.path.join(self.at, "bin")
         os.makedirs(self.bin)
         shutil.copy(os.path.join(top, "pssd"), self.at)
@@ -83,15 +96,7 @@ class Copy:
         return self.has("runs").count("ci\n")
 
     def environment(self):
-        """`rt` stands in front of the machine's programs, none of which is an `rt`."""
-        kept = self.path("programs")
-        if not os.path.isdir(kept):
-            os.mkdir(kept)
-            for folder in ("/usr/bin", "/bin"):
-                for name in os.listdir(folder):
-                    if name != "rt" and not os.path.lexists(os.path.join(kept, name)):
-                        os.symlink(os.path.join(folder, name), os.path.join(kept, name))
-        return {**os.environ, "PATH": f"{self.bin}:{kept}", "TMPDIR": self.at}
+        return {**os.environ, "PATH": f"{self.bin}:{self.programs}", "TMPDIR": self.at}
 
     def start(self, script=b"", words=("a", "b c"), **how):
         return ended([self.path("pssd"), *words], script, env=self.environment(), cwd="/", **how)
@@ -201,9 +206,12 @@ def does_without_rt(folder):
 
 
 def rewrites_one_line(folder):
-    """On a terminal."""
+    """On a terminal, where the machine gives one."""
     copy = Copy(folder, "terminal")
-    master, slave = pty.openpty()
+    try:
+        master, slave = pty.openpty()
+    except OSError as error:
+        return print(f"note: no terminal, so that is not tried: {error}")
     status, spoken, _ = copy.start(b"script", stderr=slave)
     os.close(slave)
     seen = b""

@@ -181,6 +181,11 @@ def listed():
     return [(name, libraries.split()) for name, _, libraries in lines]
 
 
+def below(name, crates):
+    """A crate of the repository with all that it stands on."""
+    return {name}.union(*(below(library, crates) for library in crates[name] if library in crates))
+
+
 def crates_with(pattern):
     """The crates of which there is an edit: `*` stands for their names."""
     before = os.path.join(top, pattern.partition("*")[0])
@@ -197,6 +202,10 @@ def tables(_):
     in_order = sorted(seen, key=lambda name: names.index(name) if name in names else -1)
     tell("README.md has the crates in the order of crates.txt", seen == in_order and set(seen) <= set(names), seen)
     text = contents(os.path.join(top, "README.md")).decode()
+    sentence = re.search(r"The program does not run ([^.]*)\.", text)
+    seen = re.findall(r"`(\w+)`", sentence[1]) if sentence else []
+    run = below("pssd", dict(crates)) | {"record_cases"}
+    tell("README.md has the crates that the program does not run", seen == [name for name in names if name not in run], seen)
     for folder, pattern in [("crates/NAME/must-fail/", "crates/*/must-fail/*.edit"), ("tests/edits/NAME/", "tests/edits/*/*.edit")]:
         row = re.search(rf"^\| `{folder}` \|[^|]*\| ([^|]*) \|$", text, re.M)
         seen = row[1].split(", ") if row else []

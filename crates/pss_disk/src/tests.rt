@@ -80,6 +80,7 @@ fn a_crash_leaves_what_was_synced_and_anything_where_a_write_was(
     ];
     for (moment, wanted) in images {
         for (pick, want) in wanted.iter().enumerate() {
+            assert!(rt; moment <= station.calls());
             let image = station.crash(moment, pick as u8)?;
             assert_eq!(rt; image.as_slice(), *want, "{moment} {pick}");
         }

@@ -1,5 +1,5 @@
 -- The text that a value is printed as.
-use Rattle.std.specs.Prelude.{ℕ, suc, zero, ◌/◌, ◌%◌, List, [], ◌∷◌, ◌++◌, codes, Option, Some, None, unwrap_or, Bool, ◌&&◌, nat_lt, if◌then◌else◌}
+use Rattle.std.specs.Prelude.{ℕ, suc, zero, ◌/◌, ◌%◌, ◌<◌, slice_index, List, [], ◌∷◌, ◌++◌, codes, Option, Some, None, unwrap_or, Bool, ◌&&◌, nat_lt, if◌then◌else◌}
 use Rattle.std.specs.List.{slice_get, flat_map}
 use Rattle.std.specs.Char.{digit_char}
 use Rattle.std.specs.Fmt.{signed_decimal}
@@ -60,3 +60,15 @@ abbrev mutual
   fields_printed no_fields no_values = []
   fields_printed (field_and name type fields) (value_and v vs) = printed type v ∷ fields_printed fields vs
   fields_printed _ _ = []
+
+abbrev mutual
+  -- each byte of each string in the value is below 256
+  pub HasBytes : PlainValue → Type 0
+  HasBytes (Text bytes) = (i : ℕ) → slice_index bytes i < 256
+  HasBytes (Items vs) = HaveBytes vs
+  HasBytes (Parts vs) = HaveBytes vs
+  HasBytes _ = Unit {0}
+
+  pub HaveBytes : PlainValues → Type 0
+  HaveBytes no_values = Unit {0}
+  HaveBytes (value_and v vs) = HasBytes v × HaveBytes vs

@@ -1,20 +1,21 @@
 // From values to texts.
-ghost use Rattle.std.specs.Prelude.{◌≡◌, ◌++◌, ◌∷◌, ◌<◌, [], map, length, IfOk, OnOk, unwrap_or};
+ghost use Rattle.std.specs.Prelude.{◌≡◌, ◌++◌, ◌<◌, [], map, length, IfOk, OnOk, unwrap_or};
 ghost use Rattle.std.specs.List.{flat_map, slice_get};
 ghost use Rattle.std.specs.Char.{digit_char};
 ghost use Rattle.std.specs.Fmt.{signed_decimal};
-ghost use Rattle.type_layout.specs.Types.{Ordinal, Items, Parts, fields_of, values_of};
-ghost use Rattle.type_layout.specs.Views.{plain_type, plain_field, plain_value};
+ghost use Rattle.type_layout.specs.Types.{Short, Long, LongLong, UShort, ULong, ULongLong, Char, Boolean, Octet, Str, Seq, Arr, Struct, Enum, RefTo, Text, fields_of, values_of};
+ghost use Rattle.type_layout.specs.Views.{plain_type, plain_field, plain_fields, plain_value};
 ghost use Rattle.type_layout.specs.Values.{Of, AreOf, EachOf};
 ghost use Rattle.type_layout.specs.ShapeText.{listed};
 ghost use Rattle.value_text.specs.Words.{truth_text};
-ghost use Rattle.value_text.specs.Printed.{byte_text, hex_digits, reference_text, each_printed, printed, fields_printed};
+ghost use Rattle.value_text.specs.Letters.{is_escaped};
+ghost use Rattle.value_text.specs.Printed.{byte_text, hex_digits, reference_text, each_printed, printed, fields_printed, HasBytes, HaveBytes};
 ghost use Rattle.value_text.specs.Texts.{Spells};
 
 use itoa::Buffer;
 use pss_base::{Bytes, NoMemory, Pid};
 use std::alloc::Global;
-use type_layout::{Field, Names, Ty, Value};
+use type_layout::{Field, Fields, HomeNos, Names, Ty, Value};
 
 /// The text of a value of the type: numbers without leading zeros, bytes from a space to `~` as they are,
 /// but the quote and `\` behind a `\`, and other bytes as `\x` and two digits with small letters. It is a
@@ -54,7 +55,8 @@ fn put_byte(out: &mut Bytes, quote: u8, byte: u8) -> Result<(), NoMemory>
 }
 
 fn put_bytes(out: &mut Bytes, quote: u8, bytes: &[u8]) -> Result<(), NoMemory>
-    ensures { OnOk result (out.new ≡ out.old ++ flat_map (byte_text quote) bytes.now) }
+    ensures text { OnOk result (out.new ≡ out.old ++ flat_map (byte_text quote) bytes.now) }
+    ensures bytes { HasBytes (Text bytes.now) }
 {
     for byte in bytes {
         put_byte(out, quote, *byte)?;
@@ -96,14 +98,124 @@ fn put_number(out: &mut Bytes, number: i128) -> Result<(), NoMemory>
     out.extend(Buffer::new().format(number).as_bytes())
 }
 
-// Bytes between two quotes.
-fn put_quoted(out: &mut Bytes, quote: u8, bytes: &[u8]) -> Result<(), NoMemory>
-    ensures { OnOk result (out.new ≡ out.old ++ quote ∷ (flat_map (byte_text quote) bytes.now ++ quote ∷ [])) }
+fn put_short(out: &mut Bytes, value: &Value) -> Result<(), NoMemory>
+    requires { Of Short (plain_value value.now) }
+    ensures text { OnOk result (out.new ≡ out.old ++ printed Short (plain_value value.now)) }
+    ensures bytes { OnOk result (HasBytes (plain_value value.now)) }
 {
-    out.push(quote)?;
-    put_bytes(out, quote, bytes)?;
-    out.push(quote)?;
-    Ok(())
+    match value {
+        Value::Int(number) => put_number(out, *number),
+        _ => unreachable!(),
+    }
+}
+
+fn put_long(out: &mut Bytes, value: &Value) -> Result<(), NoMemory>
+    requires { Of Long (plain_value value.now) }
+    ensures text { OnOk result (out.new ≡ out.old ++ printed Long (plain_value value.now)) }
+    ensures bytes { OnOk result (HasBytes (plain_value value.now)) }
+{
+    match value {
+        Value::Int(number) => put_number(out, *number),
+        _ => unreachable!(),
+    }
+}
+
+fn put_long_long(out: &mut Bytes, value: &Value) -> Result<(), NoMemory>
+    requires { Of LongLong (plain_value value.now) }
+    ensures text { OnOk result (out.new ≡ out.old ++ printed LongLong (plain_value value.now)) }
+    ensures bytes { OnOk result (HasBytes (plain_value value.now)) }
+{
+    match value {
+        Value::Int(number) => put_number(out, *number),
+        _ => unreachable!(),
+    }
+}
+
+fn put_ushort(out: &mut Bytes, value: &Value) -> Result<(), NoMemory>
+    requires { Of UShort (plain_value value.now) }
+    ensures text { OnOk result (out.new ≡ out.old ++ printed UShort (plain_value value.now)) }
+    ensures bytes { OnOk result (HasBytes (plain_value value.now)) }
+{
+    match value {
+        Value::Int(number) => put_number(out, *number),
+        _ => unreachable!(),
+    }
+}
+
+fn put_ulong(out: &mut Bytes, value: &Value) -> Result<(), NoMemory>
+    requires { Of ULong (plain_value value.now) }
+    ensures text { OnOk result (out.new ≡ out.old ++ printed ULong (plain_value value.now)) }
+    ensures bytes { OnOk result (HasBytes (plain_value value.now)) }
+{
+    match value {
+        Value::Int(number) => put_number(out, *number),
+        _ => unreachable!(),
+    }
+}
+
+fn put_ulong_long(out: &mut Bytes, value: &Value) -> Result<(), NoMemory>
+    requires { Of ULongLong (plain_value value.now) }
+    ensures text { OnOk result (out.new ≡ out.old ++ printed ULongLong (plain_value value.now)) }
+    ensures bytes { OnOk result (HasBytes (plain_value value.now)) }
+{
+    match value {
+        Value::Int(number) => put_number(out, *number),
+        _ => unreachable!(),
+    }
+}
+
+fn put_octet(out: &mut Bytes, value: &Value) -> Result<(), NoMemory>
+    requires { Of Octet (plain_value value.now) }
+    ensures text { OnOk result (out.new ≡ out.old ++ printed Octet (plain_value value.now)) }
+    ensures bytes { OnOk result (HasBytes (plain_value value.now)) }
+{
+    match value {
+        Value::Int(number) => put_number(out, *number),
+        _ => unreachable!(),
+    }
+}
+
+fn put_char(out: &mut Bytes, value: &Value) -> Result<(), NoMemory>
+    requires { Of Char (plain_value value.now) }
+    ensures text { OnOk result (out.new ≡ out.old ++ printed Char (plain_value value.now)) }
+    ensures bytes { OnOk result (HasBytes (plain_value value.now)) }
+{
+    match value {
+        Value::Char(byte) => {
+            out.push(b'\'')?;
+            put_byte(out, b'\'', *byte)?;
+            out.push(b'\'')?;
+            Ok(())
+        }
+        _ => unreachable!(),
+    }
+}
+
+fn put_boolean(out: &mut Bytes, value: &Value) -> Result<(), NoMemory>
+    requires { Of Boolean (plain_value value.now) }
+    ensures text { OnOk result (out.new ≡ out.old ++ printed Boolean (plain_value value.now)) }
+    ensures bytes { OnOk result (HasBytes (plain_value value.now)) }
+{
+    match value {
+        Value::Bool(truth) => put_truth(out, *truth),
+        _ => unreachable!(),
+    }
+}
+
+fn put_string(out: &mut Bytes, bound: u32, value: &Value) -> Result<(), NoMemory>
+    requires { Of (Str bound) (plain_value value.now) }
+    ensures text { OnOk result (out.new ≡ out.old ++ printed (Str bound) (plain_value value.now)) }
+    ensures bytes { OnOk result (HasBytes (plain_value value.now)) }
+{
+    match value {
+        Value::Str(bytes) => {
+            out.push(b'"')?;
+            put_bytes(out, b'"', bytes.as_slice())?;
+            out.push(b'"')?;
+            Ok(())
+        }
+        _ => unreachable!(),
+    }
 }
 
 fn put_name(out: &mut Bytes, names: &Names, ordinal: u32) -> Result<(), NoMemory>
@@ -114,12 +226,24 @@ fn put_name(out: &mut Bytes, names: &Names, ordinal: u32) -> Result<(), NoMemory
     Ok(())
 }
 
-fn put_enumerator(out: &mut Bytes, ty: &Ty, ordinal: u32) -> Result<(), NoMemory>
-    requires { Of (plain_type ty.now) (Ordinal ordinal) }
-    ensures { OnOk result (out.new ≡ out.old ++ printed (plain_type ty.now) (Ordinal ordinal)) }
+fn put_enumerator(out: &mut Bytes, names: &Names, value: &Value) -> Result<(), NoMemory>
+    requires { Of (Enum names.now) (plain_value value.now) }
+    ensures text { OnOk result (out.new ≡ out.old ++ printed (Enum names.now) (plain_value value.now)) }
+    ensures bytes { OnOk result (HasBytes (plain_value value.now)) }
 {
-    match ty {
-        Ty::Enum(names) => put_name(out, names, ordinal),
+    match value {
+        Value::Enum(ordinal) => put_name(out, names, *ordinal),
+        _ => unreachable!(),
+    }
+}
+
+fn put_object(out: &mut Bytes, homes: &HomeNos, value: &Value) -> Result<(), NoMemory>
+    requires { Of (RefTo homes.now) (plain_value value.now) }
+    ensures text { OnOk result (out.new ≡ out.old ++ printed (RefTo homes.now) (plain_value value.now)) }
+    ensures bytes { OnOk result (HasBytes (plain_value value.now)) }
+{
+    match value {
+        Value::Ref(pid) => put_reference(out, *pid),
         _ => unreachable!(),
     }
 }
@@ -127,49 +251,69 @@ fn put_enumerator(out: &mut Bytes, ty: &Ty, ordinal: u32) -> Result<(), NoMemory
 #[cycle(put)]
 fn put(out: &mut Bytes, ty: &Ty, value: &Value) -> Result<(), NoMemory>
     requires { Of (plain_type ty.now) (plain_value value.now) }
-    ensures { OnOk result (out.new ≡ out.old ++ printed (plain_type ty.now) (plain_value value.now)) }
+    ensures text { OnOk result (out.new ≡ out.old ++ printed (plain_type ty.now) (plain_value value.now)) }
+    ensures bytes { OnOk result (HasBytes (plain_value value.now)) }
 {
-    match value {
-        Value::Int(number) => put_number(out, *number),
-        Value::Char(byte) => put_quoted(out, b'\'', &[*byte]),
-        Value::Bool(truth) => put_truth(out, *truth),
-        Value::Enum(ordinal) => put_enumerator(out, ty, *ordinal),
-        Value::Str(bytes) => put_quoted(out, b'"', bytes.as_slice()),
-        Value::List(items) => put_list(out, ty, items.as_slice()),
-        Value::Struct(parts) => put_struct(out, ty, parts.as_slice()),
-        Value::Ref(pid) => put_reference(out, *pid),
+    match ty {
+        Ty::Short => put_short(out, value),
+        Ty::Long => put_long(out, value),
+        Ty::LongLong => put_long_long(out, value),
+        Ty::UShort => put_ushort(out, value),
+        Ty::ULong => put_ulong(out, value),
+        Ty::ULongLong => put_ulong_long(out, value),
+        Ty::Char => put_char(out, value),
+        Ty::Boolean => put_boolean(out, value),
+        Ty::Octet => put_octet(out, value),
+        Ty::Str(bound) => put_string(out, *bound, value),
+        Ty::Seq(item, bound) => put_sequence(out, item, *bound, value),
+        Ty::Arr(item, count) => put_array(out, item, *count, value),
+        Ty::Struct(fields) => put_struct(out, fields, value),
+        Ty::Enum(names) => put_enumerator(out, names, value),
+        Ty::Ref(homes) => put_object(out, homes, value),
     }
 }
 
 #[cycle(put)]
-fn put_list(out: &mut Bytes, ty: &Ty, items: &[Value]) -> Result<(), NoMemory>
-    requires { Of (plain_type ty.now) (Items (values_of (map plain_value items.now))) }
-    ensures { OnOk result (out.new ≡ out.old ++ printed (plain_type ty.now) (Items (values_of (map plain_value items.now)))) }
+fn put_sequence(out: &mut Bytes, item: &Ty, bound: u32, value: &Value) -> Result<(), NoMemory>
+    requires { Of (Seq (plain_type item.now) bound) (plain_value value.now) }
+    ensures text { OnOk result (out.new ≡ out.old ++ printed (Seq (plain_type item.now) bound) (plain_value value.now)) }
+    ensures bytes { OnOk result (HasBytes (plain_value value.now)) }
 {
-    match ty {
-        Ty::Seq(item, _) => put_items(out, item, items),
-        Ty::Arr(item, _) => put_items(out, item, items),
+    match value {
+        Value::List(values) => {
+            out.push(b'[')?;
+            put_items(out, item, values.as_slice())?;
+            out.push(b']')?;
+            Ok(())
+        }
         _ => unreachable!(),
     }
 }
 
 #[cycle(put)]
-fn put_items(out: &mut Bytes, item: &Ty, items: &[Value]) -> Result<(), NoMemory>
-    requires { EachOf (Of (plain_type item.now)) (values_of (map plain_value items.now)) }
-    ensures { OnOk result (out.new ≡ out.old ++ 91 ∷ (listed (each_printed (printed (plain_type item.now)) (values_of (map plain_value items.now))) ++ 93 ∷ [])) }
+fn put_array(out: &mut Bytes, item: &Ty, count: u32, value: &Value) -> Result<(), NoMemory>
+    requires { Of (Arr (plain_type item.now) count) (plain_value value.now) }
+    ensures text { OnOk result (out.new ≡ out.old ++ printed (Arr (plain_type item.now) count) (plain_value value.now)) }
+    ensures bytes { OnOk result (HasBytes (plain_value value.now)) }
 {
-    out.push(b'[')?;
-    put_each(out, item, items)?;
-    out.push(b']')?;
-    Ok(())
+    match value {
+        Value::List(values) => {
+            out.push(b'[')?;
+            put_items(out, item, values.as_slice())?;
+            out.push(b']')?;
+            Ok(())
+        }
+        _ => unreachable!(),
+    }
 }
 
 #[cycle(put)]
-fn put_each(out: &mut Bytes, item: &Ty, items: &[Value]) -> Result<(), NoMemory>
-    requires { EachOf (Of (plain_type item.now)) (values_of (map plain_value items.now)) }
-    ensures { OnOk result (out.new ≡ out.old ++ listed (each_printed (printed (plain_type item.now)) (values_of (map plain_value items.now)))) }
+fn put_items(out: &mut Bytes, item: &Ty, values: &[Value]) -> Result<(), NoMemory>
+    requires { EachOf (Of (plain_type item.now)) (values_of (map plain_value values.now)) }
+    ensures text { OnOk result (out.new ≡ out.old ++ listed (each_printed (printed (plain_type item.now)) (values_of (map plain_value values.now)))) }
+    ensures bytes { OnOk result (HaveBytes (values_of (map plain_value values.now))) }
 {
-    let [first, others @ ..] = items else {
+    let [first, others @ ..] = values else {
         return Ok(());
     };
     put(out, item, first)?;
@@ -181,14 +325,15 @@ fn put_each(out: &mut Bytes, item: &Ty, items: &[Value]) -> Result<(), NoMemory>
 }
 
 #[cycle(put)]
-fn put_struct(out: &mut Bytes, ty: &Ty, parts: &[Value]) -> Result<(), NoMemory>
-    requires { Of (plain_type ty.now) (Parts (values_of (map plain_value parts.now))) }
-    ensures { OnOk result (out.new ≡ out.old ++ printed (plain_type ty.now) (Parts (values_of (map plain_value parts.now)))) }
+fn put_struct(out: &mut Bytes, fields: &Fields, value: &Value) -> Result<(), NoMemory>
+    requires { Of (Struct (fields_of (plain_fields fields.now))) (plain_value value.now) }
+    ensures text { OnOk result (out.new ≡ out.old ++ printed (Struct (fields_of (plain_fields fields.now))) (plain_value value.now)) }
+    ensures bytes { OnOk result (HasBytes (plain_value value.now)) }
 {
-    match ty {
-        Ty::Struct(fields) => {
+    match value {
+        Value::Struct(values) => {
             out.push(b'{')?;
-            put_fields(out, fields.as_slice(), parts)?;
+            put_fields(out, fields.as_slice(), values.as_slice())?;
             out.push(b'}')?;
             Ok(())
         }
@@ -199,7 +344,8 @@ fn put_struct(out: &mut Bytes, ty: &Ty, parts: &[Value]) -> Result<(), NoMemory>
 #[cycle(put)]
 fn put_field(out: &mut Bytes, field: &Field, value: &Value) -> Result<(), NoMemory>
     requires { Of (plain_field field.now).type (plain_value value.now) }
-    ensures { OnOk result (out.new ≡ out.old ++ printed (plain_field field.now).type (plain_value value.now)) }
+    ensures text { OnOk result (out.new ≡ out.old ++ printed (plain_field field.now).type (plain_value value.now)) }
+    ensures bytes { OnOk result (HasBytes (plain_value value.now)) }
 {
     put(out, &field.ty, value)
 }
@@ -207,7 +353,8 @@ fn put_field(out: &mut Bytes, field: &Field, value: &Value) -> Result<(), NoMemo
 #[cycle(put)]
 fn put_fields(out: &mut Bytes, fields: &[Field], values: &[Value]) -> Result<(), NoMemory>
     requires { AreOf (fields_of (map plain_field fields.now)) (values_of (map plain_value values.now)) }
-    ensures { OnOk result (out.new ≡ out.old ++ listed (fields_printed (fields_of (map plain_field fields.now)) (values_of (map plain_value values.now)))) }
+    ensures text { OnOk result (out.new ≡ out.old ++ listed (fields_printed (fields_of (map plain_field fields.now)) (values_of (map plain_value values.now)))) }
+    ensures bytes { OnOk result (HaveBytes (values_of (map plain_value values.now))) }
 {
     let [first, other_fields @ ..] = fields else {
         return Ok(());

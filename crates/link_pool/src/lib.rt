@@ -2,6 +2,7 @@
 #![tactic(auto)]
 
 mod cells;
+mod counted;
 mod names;
 mod pool;
 

@@ -21,7 +21,7 @@ compared (suc a) (suc b) = by (compared a b)
 
 -- what stands at another place after a change at one
 pub other_place : {A : Type 0} (i j : ℕ) (x y : A) → (j ≡ i → ⊥) → cond (j == i) x y ≡ y
-other_place i j x y no = ap (λ (b : Bool). cond b x y) (ne_eqb j i no)
+other_place i j x y never = ap (λ (b : Bool). cond b x y) (ne_eqb j i never)
 
 pub same_place : {A : Type 0} (i j : ℕ) (x y : A) → j ≡ i → cond (j == i) x y ≡ x
 same_place i j x y is = ap (λ (b : Bool). cond b x y) (eq-eqb j i is)
@@ -43,17 +43,21 @@ kids_first : (p s : ℕ → ℕ) (b k n : ℕ) → k ≤ n → kids p s b k (n +
 unfolding kids
 kids_first p s b k n le = (let more : n + 1 - k ≡ suc (n + 1 - (k + 1)) = omega arith in ap (kids p s b k) more)
 
+nothing : (x : ℕ) → 0 + x ≡ x
+nothing x = omega arith
+
 -- the first c are not directly below b
 kids_skip : (p s : ℕ → ℕ) (b k m c : ℕ) → ((j : ℕ) → k ≤ j → j < k + c → p j ≡ b → ⊥) → kids p s b k (c + m) ≡ kids p s b (k + c) m
 unfolding kids
-kids_skip p s b k m zero no = (let k0 : k ≡ k + 0 = omega arith in let m0 : 0 + m ≡ m = omega arith in λ i. kids p s b (k0 i) (m0 i))
-kids_skip p s b k m (suc c) no =
+kids_skip p s b k m zero never = (let k0 : k ≡ k + 0 = omega arith in let m0 : 0 + m ≡ m = omega arith in λ i. kids p s b (k0 i) (m0 i))
+kids_skip p s b k m (suc c) never =
     let more : suc c + m ≡ suc (c + m) = omega arith in
     let place : k + 1 + c ≡ k + suc c = omega arith in
-    let first : cond (p k == b) (s k) 0 ≡ 0 = other_place b (p k) (s k) 0 (no k (omega arith) (omega arith)) in
+    let first : cond (p k == b) (s k) 0 ≡ 0 = other_place b (p k) (s k) 0 (never k (omega arith) (omega arith)) in
     ap (kids p s b k) more
     ∙ ap (λ (x : ℕ). x + kids p s b (k + 1) (c + m)) first
-    ∙ kids_skip p s b (k + 1) m c (λ j le lt. no j (omega (arith, le)) (omega (arith, lt)))
+    ∙ nothing (kids p s b (k + 1) (c + m))
+    ∙ kids_skip p s b (k + 1) m c (λ j le lt. never j (omega (arith, le)) (omega (arith, lt)))
     ∙ ap (λ (x : ℕ). kids p s b x m) place
 
 -- the sizes up to a number
@@ -74,28 +78,28 @@ upto_ones s (suc m) ones = omega (arith, ones (suc m) (omega arith), upto_ones s
 upto_least : (s : ℕ → ℕ) (m j : ℕ) → j ≤ m → s j ≤ upto s m
 unfolding upto
 upto_least s zero j le = (let is : j ≡ 0 = omega arith in let e : s j ≡ s 0 = ap s is in omega (arith, e))
-upto_least s (suc m) j le = by (compared j (suc m))
+upto_least s (suc m) j le = by (compared j (suc m)) (λ low. upto_least s m j low)
   where
-    by : Compared j (suc m) → s j ≤ s (suc m) + upto s m
-    by (inl lt) = (let low = upto_least s m j (omega (arith, lt)) in omega (arith, low))
-    by (inr (inl is)) = (let e : s j ≡ s (suc m) = ap s is in omega (arith, e))
-    by (inr (inr gt)) = absurd (omega (arith, gt, le))
+    by : Compared j (suc m) → (j ≤ m → s j ≤ upto s m) → s j ≤ s (suc m) + upto s m
+    by (inl lt) before = (let low = before (omega (arith, lt)) in omega (arith, low))
+    by (inr (inl is)) before = (let e : s j ≡ s (suc m) = ap s is in omega (arith, e))
+    by (inr (inr gt)) before = absurd (omega (arith, gt, le))
 
 upto_more : (s t : ℕ → ℕ) (b x m : ℕ) → b ≤ m → t b ≡ s b + x → ((j : ℕ) → (j ≡ b → ⊥) → t j ≡ s j) → upto t m ≡ upto s m + x
 unfolding upto
 upto_more s t b x zero le it others = (let is : b ≡ 0 = omega arith in let e = subst (λ (k : ℕ). t k ≡ s k + x) is it in e)
-upto_more s t b x (suc m) le it others = by (compared b (suc m))
+upto_more s t b x (suc m) le it others = by (compared b (suc m)) (λ low. upto_more s t b x m low it others)
   where
-    by : Compared b (suc m) → t (suc m) + upto t m ≡ s (suc m) + upto s m + x
-    by (inl lt) =
-        let here : t (suc m) ≡ s (suc m) = others (suc m) (λ e. omega (arith, e, lt)) in
-        let rest = upto_more s t b x m (omega (arith, lt)) it others in
-        omega (arith, here, rest)
-    by (inr (inl is)) =
-        let here = subst (λ (k : ℕ). t k ≡ s k + x) is it in
+    by : Compared b (suc m) → (b ≤ m → upto t m ≡ upto s m + x) → t (suc m) + upto t m ≡ s (suc m) + upto s m + x
+    by (inl lt) before =
+        let new : t (suc m) ≡ s (suc m) = others (suc m) (λ e. omega (arith, e, lt)) in
+        let rest = before (omega (arith, lt)) in
+        omega (arith, new, rest)
+    by (inr (inl is)) before =
+        let new = subst (λ (k : ℕ). t k ≡ s k + x) is it in
         let rest : upto t m ≡ upto s m = upto_same t s m (λ j low. others j (λ e. omega (arith, e, low, is))) in
-        omega (arith, here, rest)
-    by (inr (inr gt)) = absurd (omega (arith, gt, le))
+        omega (arith, new, rest)
+    by (inr (inr gt)) before = absurd (omega (arith, gt, le))
 
 -- all above m have given their size to the one that they are below
 pub record Counted (n : ℕ) (p s : ℕ → ℕ) (m : ℕ) : Type 0 where
@@ -110,7 +114,7 @@ none_counted n p s ones = record {
 }
 
 pub one_counted : (n : ℕ) (p s t : ℕ → ℕ) (m : ℕ) → AreLower n p → suc m ≤ n → Counted n p s (suc m) → ((j : ℕ) → t j ≡ cond (j == p (suc m)) (s j + s (suc m)) (s j)) → Counted n p t m
-unfolding (kids, upto)
+unfolding kids upto
 one_counted n p s t m lower le counted changed = record { total = total; sizes = sizes }
   where
     b : ℕ
@@ -123,7 +127,7 @@ one_counted n p s t m lower le counted changed = record { total = total; sizes =
     it = changed (p (suc m)) ∙ same_place (p (suc m)) (p (suc m)) _ _ refl
 
     others : (j : ℕ) → (j ≡ p (suc m) → ⊥) → t j ≡ s j
-    others j no = changed j ∙ other_place (p (suc m)) j _ _ no
+    others j never = changed j ∙ other_place (p (suc m)) j _ _ never
 
     total : upto t m ≡ n + 1
     total = (let more = upto_more s t (p (suc m)) (s (suc m)) m (omega (arith, low)) it others in let all = counted.total in omega (arith, more, all))
@@ -143,9 +147,9 @@ one_counted n p s t m lower le counted changed = record { total = total; sizes =
         before = counted.sizes c within
 
         apart : (c ≡ p (suc m) → ⊥) → t c ≡ 1 + kids p t c (m + 1) (n - m)
-        apart no =
-            let none : cond (p (suc m) == c) (s (suc m)) 0 ≡ 0 = other_place c (p (suc m)) (s (suc m)) 0 (λ e. no (sym e)) in
-            let same = others c no in
+        apart never =
+            let none : cond (p (suc m) == c) (s (suc m)) 0 ≡ 0 = other_place c (p (suc m)) (s (suc m)) 0 (λ e. never (sym e)) in
+            let same = others c never in
             let all = behind c in
             let was = before in
             omega (arith, none, same, all, was)
@@ -225,13 +229,13 @@ one_placed n p s pl en ql fn h lower pos le sized placing places stops = record 
     it_stops = stops h ∙ same_place h h _ _ refl
 
     other : (j : ℕ) → (j ≡ h → ⊥) → ql j ≡ pl j
-    other j no = places j ∙ other_place h j _ _ no
+    other j never = places j ∙ other_place h j _ _ never
 
     above_stops : fn (p h) ≡ en (p h) + s h
     above_stops = stops (p h) ∙ other_place h (p h) _ _ (λ e. omega (arith, e, low)) ∙ same_place (p h) (p h) _ _ refl
 
     other_stops : (j : ℕ) → (j ≡ h → ⊥) → (j ≡ p h → ⊥) → fn j ≡ en j
-    other_stops j no not_above = stops j ∙ other_place h j _ _ no ∙ other_place (p h) j _ _ not_above
+    other_stops j never not_above = stops j ∙ other_place h j _ _ never ∙ other_place (p h) j _ _ not_above
 
     front : (b : ℕ) → kids p s b h (n + 1 - h) ≡ cond (p h == b) (s h) 0 + kids p s b (h + 1) (n + 1 - (h + 1))
     front b = kids_first p s b h n le
@@ -261,11 +265,11 @@ one_placed n p s pl en ql fn h lower pos le sized placing places stops = record 
         place = other b (λ e. omega (arith, e, less))
 
         apart_from : (b ≡ p h → ⊥) → fn b + kids p s b (h + 1) (n + 1 - (h + 1)) ≡ ql b + s b
-        apart_from no =
-            let none : cond (p h == b) (s h) 0 ≡ 0 = other_place b (p h) (s h) 0 (λ e. no (sym e)) in
+        apart_from never =
+            let none : cond (p h == b) (s h) 0 ≡ 0 = other_place b (p h) (s h) 0 (λ e. never (sym e)) in
             let all = front b in
             let end = placing.ends b less in
-            let stop = other_stops b (λ e. omega (arith, e, less)) no in
+            let stop = other_stops b (λ e. omega (arith, e, less)) never in
             let at = place in
             omega (arith, none, all, end, stop, at)
 
@@ -286,7 +290,7 @@ one_placed n p s pl en ql fn h lower pos le sized placing places stops = record 
     not_less b less = at (compared b (p h))
       where
         same : (b ≡ p h → ⊥) → en b ≤ fn b
-        same no = (let stop = other_stops b (λ e. omega (arith, e, less)) no in omega (arith, stop))
+        same never = (let stop = other_stops b (λ e. omega (arith, e, less)) never in omega (arith, stop))
 
         at : Compared b (p h) → en b ≤ fn b
         at (inl l) = same (λ e. omega (arith, e, l))
@@ -365,7 +369,7 @@ one_placed n p s pl en ql fn h lower pos le sized placing places stops = record 
             (found.0, found.1, omega (arith, l), found.3, omega (arith, f, same), omega (arith, t, same))
 
         elsewhere : (b ≡ p h → ⊥) → (k : ℕ) × (0 < k) × (k < h + 1) × (p k ≡ b) × (ql k ≤ q) × (q < ql k + s k)
-        elsewhere no = (let stop = other_stops b (λ e. omega (arith, e, less)) no in old (omega (arith, to, stop)))
+        elsewhere never = (let stop = other_stops b (λ e. omega (arith, e, less)) never in old (omega (arith, to, stop)))
 
         at : Compared b (p h) → (k : ℕ) × (0 < k) × (k < h + 1) × (p k ≡ b) × (ql k ≤ q) × (q < ql k + s k)
         at (inl l) = elsewhere (λ e. omega (arith, e, l))
@@ -387,7 +391,7 @@ one_placed n p s pl en ql fn h lower pos le sized placing places stops = record 
 
 -- with all placed, each has its end
 pub all_placed : (n : ℕ) (p s pl en : ℕ → ℕ) → Counted n p s 0 → Placing n p s (n + 1) pl en → IsPlaced n p pl en
-unfolding (kids, upto)
+unfolding kids upto
 all_placed n p s pl en counted placing = record {
   first = placing.first;
   whole = (let all = counted.total in let end = ends 0 (omega arith) in let zero_place = placing.first in omega (arith, all, end, zero_place));

@@ -1,3 +1,4 @@
 pub mod Listing
 pub mod Uniqueness
 mod Rows
+pub mod Forest

@@ -1,14 +1,14 @@
 -- Numbered nodes, each below one with a lower number and all below 0: the places at which they and what is below them stand together.
-use Rattle.std.proofs.Common.{ℕ, zero, suc, ◌≡◌, ◌+◌, ◌-◌, ◌<◌, ◌≤◌, Bool, true, false, cond, ◌==◌, ◌⊎◌, inl, inr, refl, sym, ap, subst, ◌∙◌, arith}
-use Rattle.std.proofs.lemmas.Bool.{eqb-true, eq-eqb, ne_eqb}
-use Rattle.std.proofs.lemmas.Bool.Decides.{nat_tests}
-use Rattle.pss_catalog.specs.inner.Table.{Up, here, up, Child, IsPlaced, AreLower}
+use Rattle.std.proofs.Common.{ℕ, zero, suc, ◌≡◌, ◌+◌, ◌-◌, ◌<◌, ◌≤◌, Bool, cond, ◌==◌, ◌⊎◌, inl, inr, refl, sym, ap, subst, ◌∙◌, arith}
+use Rattle.std.proofs.lemmas.Bool.{eq-eqb, ne_eqb}
+use Rattle.pss_catalog.specs.inner.Table.{IsPlaced, AreLower}
+use Rattle.pss_catalog.specs.inner.Sizes.{kids, upto, Counted, Placing}
 
 -- one of three
-abbrev Compared : ℕ → ℕ → Type 0
+abbrev pub Compared : ℕ → ℕ → Type 0
 Compared a b = (a < b) ⊎ ((a ≡ b) ⊎ (b < a))
 
-compared : (a b : ℕ) → Compared a b
+pub compared : (a b : ℕ) → Compared a b
 compared zero zero = inr (inl refl)
 compared zero (suc b) = inl (omega arith)
 compared (suc a) zero = inr (inr (omega arith))
@@ -28,19 +28,12 @@ same_place i j x y is = ap (λ (b : Bool). cond b x y) (eq-eqb j i is)
 
 -- ---- sizes
 
--- the sizes of those directly below b, among so many from number k on
-pub kids : (ℕ → ℕ) → (ℕ → ℕ) → ℕ → ℕ → ℕ → ℕ
-kids p s b k zero = 0
-kids p s b k (suc m) = cond (p k == b) (s k) 0 + kids p s b (k + 1) m
-
 kids_same : (p s t : ℕ → ℕ) (b k m : ℕ) → ((j : ℕ) → k ≤ j → s j ≡ t j) → kids p s b k m ≡ kids p t b k m
-unfolding kids
 kids_same p s t b k zero same = refl
 kids_same p s t b k (suc m) same =
     λ i. cond (p k == b) (same k (omega arith) i) 0 + kids_same p s t b (k + 1) m (λ j le. same j (omega (arith, le))) i
 
 kids_first : (p s : ℕ → ℕ) (b k n : ℕ) → k ≤ n → kids p s b k (n + 1 - k) ≡ cond (p k == b) (s k) 0 + kids p s b (k + 1) (n + 1 - (k + 1))
-unfolding kids
 kids_first p s b k n le = (let more : n + 1 - k ≡ suc (n + 1 - (k + 1)) = omega arith in ap (kids p s b k) more)
 
 nothing : (x : ℕ) → 0 + x ≡ x
@@ -48,7 +41,6 @@ nothing x = omega arith
 
 -- the first c are not directly below b
 kids_skip : (p s : ℕ → ℕ) (b k m c : ℕ) → ((j : ℕ) → k ≤ j → j < k + c → p j ≡ b → ⊥) → kids p s b k (c + m) ≡ kids p s b (k + c) m
-unfolding kids
 kids_skip p s b k m zero never = (let k0 : k ≡ k + 0 = omega arith in let m0 : 0 + m ≡ m = omega arith in λ i. kids p s b (k0 i) (m0 i))
 kids_skip p s b k m (suc c) never =
     let more : suc c + m ≡ suc (c + m) = omega arith in
@@ -60,23 +52,15 @@ kids_skip p s b k m (suc c) never =
     ∙ kids_skip p s b (k + 1) m c (λ j le lt. never j (omega (arith, le)) (omega (arith, lt)))
     ∙ ap (λ (x : ℕ). kids p s b x m) place
 
--- the sizes up to a number
-pub upto : (ℕ → ℕ) → ℕ → ℕ
-upto s zero = s 0
-upto s (suc m) = s (suc m) + upto s m
-
 upto_same : (s t : ℕ → ℕ) (m : ℕ) → ((j : ℕ) → j ≤ m → s j ≡ t j) → upto s m ≡ upto t m
-unfolding upto
 upto_same s t zero same = same 0 (omega arith)
 upto_same s t (suc m) same = λ i. same (suc m) (omega arith) i + upto_same s t m (λ j le. same j (omega (arith, le))) i
 
 upto_ones : (s : ℕ → ℕ) (m : ℕ) → ((j : ℕ) → j ≤ m → s j ≡ 1) → upto s m ≡ m + 1
-unfolding upto
 upto_ones s zero ones = ones 0 (omega arith)
 upto_ones s (suc m) ones = omega (arith, ones (suc m) (omega arith), upto_ones s m (λ j le. ones j (omega (arith, le))))
 
 upto_least : (s : ℕ → ℕ) (m j : ℕ) → j ≤ m → s j ≤ upto s m
-unfolding upto
 upto_least s zero j le = (let is : j ≡ 0 = omega arith in let e : s j ≡ s 0 = ap s is in omega (arith, e))
 upto_least s (suc m) j le = by (compared j (suc m)) (λ low. upto_least s m j low)
   where
@@ -86,7 +70,6 @@ upto_least s (suc m) j le = by (compared j (suc m)) (λ low. upto_least s m j lo
     by (inr (inr gt)) before = absurd (omega (arith, gt, le))
 
 upto_more : (s t : ℕ → ℕ) (b x m : ℕ) → b ≤ m → t b ≡ s b + x → ((j : ℕ) → (j ≡ b → ⊥) → t j ≡ s j) → upto t m ≡ upto s m + x
-unfolding upto
 upto_more s t b x zero le it others = (let is : b ≡ 0 = omega arith in let e = subst (λ (k : ℕ). t k ≡ s k + x) is it in e)
 upto_more s t b x (suc m) le it others = by (compared b (suc m)) (λ low. upto_more s t b x m low it others)
   where
@@ -101,20 +84,13 @@ upto_more s t b x (suc m) le it others = by (compared b (suc m)) (λ low. upto_m
         omega (arith, new, rest)
     by (inr (inr gt)) before = absurd (omega (arith, gt, le))
 
--- all above m have given their size to the one that they are below
-pub record Counted (n : ℕ) (p s : ℕ → ℕ) (m : ℕ) : Type 0 where
-  pub total : upto s m ≡ n + 1
-  pub sizes : (b : ℕ) → b ≤ n → s b ≡ 1 + kids p s b (m + 1) (n - m)
-
 pub none_counted : (n : ℕ) (p s : ℕ → ℕ) → ((j : ℕ) → j ≤ n → s j ≡ 1) → Counted n p s n
-unfolding kids
 none_counted n p s ones = record {
   total = upto_ones s n ones;
   sizes = λ b le. (let none : n - n ≡ 0 = omega arith in ones b le ∙ sym (ap (λ (m : ℕ). 1 + kids p s b (n + 1) m) none));
 }
 
 pub one_counted : (n : ℕ) (p s t : ℕ → ℕ) (m : ℕ) → AreLower n p → suc m ≤ n → Counted n p s (suc m) → ((j : ℕ) → t j ≡ cond (j == p (suc m)) (s j + s (suc m)) (s j)) → Counted n p t m
-unfolding kids upto
 one_counted n p s t m lower le counted changed = record { total = total; sizes = sizes }
   where
     b : ℕ
@@ -166,7 +142,6 @@ one_counted n p s t m lower le counted changed = record { total = total; sizes =
 
 -- so a size never passes the number of all
 pub sum_fits : (n : ℕ) (p s : ℕ → ℕ) (m : ℕ) → AreLower n p → suc m ≤ n → Counted n p s (suc m) → s (p (suc m)) + s (suc m) ≤ n + 1
-unfolding upto
 sum_fits n p s m lower le counted =
     let low = lower (suc m) (omega arith) le in
     let least = upto_least s m (p (suc m)) (omega (arith, low)) in
@@ -175,18 +150,7 @@ sum_fits n p s m lower le counted =
 
 -- ---- places
 
--- those below h have their places; `en` is where the next one below each goes
-pub record Placing (n : ℕ) (p s : ℕ → ℕ) (h : ℕ) (pl en : ℕ → ℕ) : Type 0 where
-  pub first : pl 0 ≡ 0
-  pub ends : (b : ℕ) → b < h → en b + kids p s b h (n + 1 - h) ≡ pl b + s b
-  pub starts : (b : ℕ) → b < h → pl b < en b
-  pub bound : (b : ℕ) → b < h → pl b + s b ≤ n + 1
-  pub inside : (k : ℕ) → 0 < k → k < h → (pl (p k) < pl k) × (pl k + s k ≤ en (p k))
-  pub apart : (j k : ℕ) → 0 < j → j < k → k < h → p j ≡ p k → pl j + s j ≤ pl k
-  pub filled : (b q : ℕ) → b < h → pl b < q → q < en b → (k : ℕ) × (0 < k) × (k < h) × (p k ≡ b) × (pl k ≤ q) × (q < pl k + s k)
-
 pub none_placed : (n : ℕ) (p s pl en : ℕ → ℕ) → Counted n p s 0 → pl 0 ≡ 0 → en 0 ≡ 1 → Placing n p s 1 pl en
-unfolding upto
 none_placed n p s pl en counted zero_place zero_end = record {
   first = zero_place;
   ends = λ b lt.
@@ -389,9 +353,15 @@ one_placed n p s pl en ql fn h lower pos le sized placing places stops = record 
                 not_before (inl e) = omega (arith, e)
                 not_before (inr e) = omega (arith, e)
 
+-- the size of a node fits behind what its base had
+pub has_room : (n : ℕ) (p s : ℕ → ℕ) (h : ℕ) → h ≤ n → s h ≤ kids p s (p h) h (n + 1 - h)
+has_room n p s h le =
+    let one : cond (p h == p h) (s h) 0 ≡ s h = same_place (p h) (p h) (s h) 0 refl in
+    let all = kids_first p s (p h) h n le in
+    omega (arith, one, all)
+
 -- with all placed, each has its end
 pub all_placed : (n : ℕ) (p s pl en : ℕ → ℕ) → Counted n p s 0 → Placing n p s (n + 1) pl en → IsPlaced n p pl en
-unfolding kids upto
 all_placed n p s pl en counted placing = record {
   first = placing.first;
   whole = (let all = counted.total in let end = ends 0 (omega arith) in let zero_place = placing.first in omega (arith, all, end, zero_place));

@@ -1,12 +1,12 @@
 -- The definitions on people.
-use Rattle.std.proofs.Common.{ℕ, ◌≡◌, ◌+◌, List, [], ◌∷◌, map, refl, ap, ◌∙◌, sum}
-use Rattle.std.specs.Prelude.{filter, codes, Some, None}
+use Rattle.std.proofs.Common.{ℕ, ◌≡◌, List, [], ◌∷◌, map, ap, sum}
+use Rattle.std.specs.Prelude.{filter, codes, Some}
 use Rattle.std.specs.Ordering.{nat_cmp}
 use Rattle.std.specs.FinMap.{from_sorted, entries-from_sorted}
 use Rattle.pss_base.specs.declared.pid.Pid.{Pid}
 use Rattle.type_layout.specs.Types.{PlainValue, Text, Ref}
 use Rattle.type_layout.specs.People.{home_1, key_0, people, ann}
-use Rattle.pss_catalog.specs.Catalog.{Object, Catalog, pid_of, holds, holders, weight, total, references}
+use Rattle.pss_catalog.specs.Catalog.{Object, Catalog, pid_of, holds, holders, weight, total}
 use Rattle.pss_catalog.proofs.Listing.{Entries}
 
 abbrev person_pid : ℕ → Pid

@@ -7,7 +7,7 @@ use Rattle.std.proofs.lemmas.Bool.{eqb-true, eq-eqb}
 use Rattle.type_layout.specs.declared.key.KeyNo.{KeyNo}
 use Rattle.type_layout.specs.declared.schema.Schema.{Schema}
 use Rattle.type_layout.specs.Schemas.{given}
-use Rattle.pss_catalog.specs.Catalog.{Object, Catalog, pid_of, holds, holders, without, IsUnique}
+use Rattle.pss_catalog.specs.Catalog.{Object, Catalog, pid_of, holds, holders, IsUnique}
 use Rattle.pss_catalog.specs.Changes.{Change, with_state, over, last_state}
 use Rattle.pss_catalog.specs.Laws.{HasNoRival}
 use Rattle.pss_catalog.proofs.Listing.{tie, only_listed, lists_one}

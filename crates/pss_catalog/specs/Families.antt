@@ -1,5 +1,5 @@
 -- Storage homes by what they derive from.
-use Rattle.std.specs.Prelude.{ℕ, ◌≡◌, ◌↔◌, List, map, Some, None, IsSome}
+use Rattle.std.specs.Prelude.{ℕ, ◌≡◌, List, map, Some, None, IsSome}
 use Rattle.std.specs.List.{slice_get}
 use Rattle.type_layout.specs.declared.home.HomeNo.{HomeNo}
 use Rattle.type_layout.specs.declared.schema.Schema.{Schema}

@@ -27,3 +27,11 @@ pub record IsPlaced (n : ℕ) (p pl en : ℕ → ℕ) : Type 0 where
   pub inside : (k : ℕ) → 0 < k → k ≤ n → (pl (p k) < pl k) × (en k ≤ en (p k))
   pub apart : (j k : ℕ) → 0 < j → j < k → k ≤ n → p j ≡ p k → en j ≤ pl k
   pub filled : (b q : ℕ) → b ≤ n → pl b < q → q < en b → Child n p pl en b q
+
+-- in the order of places stands each node with a lower number than h
+abbrev pub IsOrdered : ℕ → (ℕ → ℕ) → (ℕ → ℕ) → Type 0
+IsOrdered h pl od = (k : ℕ) → 0 < k → k < h → od (pl k - 1) ≡ k
+
+-- the node that is above this one, or is it, and is directly below 0
+abbrev pub IsTop : (ℕ → ℕ) → ℕ → ℕ → Type 0
+IsTop p k r = (0 < r) × (r ≤ k) × Up p k r × (p r ≡ 0)

@@ -1,28 +1,41 @@
--- What is spoken where no script is served.
-use Rattle.std.proofs.Common.{◌≡◌, inl, inr, ℕ, List, ap}
+-- What is spoken by what the words ask for.
+use Rattle.std.proofs.Common.{◌≡◌, ◌⊎◌, ⊎_elim, inl, inr, ℕ, List}
 use Rattle.std.specs.declared.option.Option.{Option}
-use Rattle.pss_disk.specs.Moments.{Moment, Through, DuringSpeak}
+use Rattle.std.specs.Io.KnownBytes.{append_known}
+use Rattle.pss_disk.specs.Moments.{Moment, Through}
 use Rattle.pss_disk.proofs.Passing.{weaker}
-use Rattle.pss_daemon.specs.Ends.{IsNoPlan, IsNotBuilt, IsOther, IsRefused, IsChecked, SaidSome, usage_line, not_built_line}
-use Rattle.pss_daemon.specs.Checked.{checked_text}
-use Rattle.pss_daemon.specs.Refusals.{refusal_line}
-use Rattle.psdl_tree.specs.Trees.{Definitions}
-use Rattle.pss_daemon.specs.declared.schema_fault.SchemaFault.{SchemaFault}
+use Rattle.pss_daemon.specs.Ends.{IsNoPlan, IsUnbuilt, IsCheck, IsRun, IsOther, SaidWhole, usage_line}
 use Rattle.pss_daemon.specs.declared.forms.Plan.{Plan}
 use Rattle.pss_daemon.specs.declared.forms.Plan.TheVariants.{Check, Init, Run, Demo}
+use Rattle.pss_serving.specs.Outcomes.{OfText, WholeServing, not_built_line}
+use Rattle.pss_serving.specs.Spoken.{HasSpoken, IsCut, IsWhole}
+use Rattle.pss_serving.specs.declared.status.Status.{Status}
+use Rattle.pss_serving.specs.declared.status.Status.TheVariants as status
+use Rattle.pss_serving.proofs.AtMoments.{of_call, all_whole, cut_there}
 
-module _ (words : List (List ℕ)) (schema script : Option (List ℕ)) (hist hist' : List Moment) (now : Moment) where
-  pub usage_moments : IsNoPlan words → Through hist hist' (DuringSpeak usage_line now) → Through hist hist' (λ m. SaidSome words schema script now.spoken m.spoken)
-  usage_moments is during = weaker hist hist' (DuringSpeak usage_line now) (λ m. SaidSome words schema script now.spoken m.spoken) (λ m d. inl (is, (d.0, ap (λ (x : Moment). x.spoken) d.1))) during
+module _ (words : List (List ℕ)) (schema script before after : Option (List ℕ)) (hist hist' : List Moment) where
+  abbrev Whole : Option (List ℕ) → Type 0
+  Whole spoken = SaidWhole words schema script before spoken
 
-  pub not_built_moments : IsNotBuilt words schema → Through hist hist' (DuringSpeak not_built_line now) → Through hist hist' (λ m. SaidSome words schema script now.spoken m.spoken)
-  not_built_moments is during = weaker hist hist' (DuringSpeak not_built_line now) (λ m. SaidSome words schema script now.spoken m.spoken) (λ m d. inr (inl (is, (d.0, ap (λ (x : Moment). x.spoken) d.1)))) during
+  whole : (ending : Status) → Whole after → Through hist hist' (HasSpoken after) → Through hist hist' (λ m. Whole m.spoken ⊎ IsCut ending after m.spoken)
+  whole ending told call = all_whole hist hist hist' after Whole ending (of_call hist hist hist' after Whole told call)
 
-  pub refused_moments : (fault : SchemaFault) → IsRefused words schema fault → Through hist hist' (DuringSpeak (refusal_line fault) now) → Through hist hist' (λ m. SaidSome words schema script now.spoken m.spoken)
-  refused_moments fault is during = weaker hist hist' (DuringSpeak (refusal_line fault) now) (λ m. SaidSome words schema script now.spoken m.spoken) (λ m d. inr (inr (inl (fault, is, (d.0, ap (λ (x : Moment). x.spoken) d.1))))) during
+  pub usage_moments : IsNoPlan words → after ≡ append_known before usage_line → Through hist hist' (HasSpoken after) → Through hist hist' (λ m. Whole m.spoken ⊎ IsCut status.Usage after m.spoken)
+  usage_moments is told = whole status.Usage (inl (is, inr told))
 
-  pub checked_moments : (tree : Definitions) → IsChecked words schema tree → Through hist hist' (DuringSpeak (checked_text tree) now) → Through hist hist' (λ m. SaidSome words schema script now.spoken m.spoken)
-  checked_moments tree is during = weaker hist hist' (DuringSpeak (checked_text tree) now) (λ m. SaidSome words schema script now.spoken m.spoken) (λ m d. inr (inr (inr (inl (tree, is, (d.0, ap (λ (x : Moment). x.spoken) d.1)))))) during
+  pub unbuilt_moments : IsUnbuilt words → after ≡ append_known before not_built_line → Through hist hist' (HasSpoken after) → Through hist hist' (λ m. Whole m.spoken ⊎ IsCut status.NotBuilt after m.spoken)
+  unbuilt_moments is told = whole status.NotBuilt (inr (inl (is, inr told)))
+
+  pub cut_moments : Through hist hist' (HasSpoken after) → Through hist hist' (λ m. Whole m.spoken ⊎ IsCut status.SpeakFault after m.spoken)
+  cut_moments = cut_there hist hist hist' after Whole
+
+  pub check_moments : (ending : Status) → IsCheck words → Through hist hist' (λ m. OfText (λ told. IsWhole told before m.spoken) schema ⊎ IsCut ending after m.spoken) → Through hist hist' (λ m. Whole m.spoken ⊎ IsCut ending after m.spoken)
+  check_moments ending is = weaker hist hist' (λ m. OfText (λ told. IsWhole told before m.spoken) schema ⊎ IsCut ending after m.spoken) (λ m. Whole m.spoken ⊎ IsCut ending after m.spoken)
+      (λ m said. ⊎_elim (λ text. inl (inr (inr (inl (is, text))))) (λ cut. inr cut) said)
+
+  pub run_moments : (ending : Status) → IsRun words → Through hist hist' (λ m. WholeServing schema script before m.spoken ⊎ IsCut ending after m.spoken) → Through hist hist' (λ m. Whole m.spoken ⊎ IsCut ending after m.spoken)
+  run_moments ending is = weaker hist hist' (λ m. WholeServing schema script before m.spoken ⊎ IsCut ending after m.spoken) (λ m. Whole m.spoken ⊎ IsCut ending after m.spoken)
+      (λ m said. ⊎_elim (λ lines. inl (inr (inr (inr (is, lines))))) (λ cut. inr cut) said)
 
 -- a plan neither to check a text nor to serve a script is another one
 pub other_of : (plan : Plan) → ((schema : ℕ) → plan ≡ Check schema → ⊥) → ((schema store : ℕ) → plan ≡ Run schema store → ⊥) → IsOther plan

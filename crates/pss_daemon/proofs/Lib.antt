@@ -1,17 +1,3 @@
-pub mod WordLaws
-pub mod Numbers
-pub mod ByPlace
-pub mod Keeping
-pub mod Hex
-pub mod CommandLaws
-pub mod Refusals
 pub mod Rounds
 pub mod Shapes
-pub mod Said
-pub mod Progress
-pub mod Exits
-pub mod AtMoments
 pub mod Ending
-pub mod Overlong
-pub mod Told
-pub mod Found

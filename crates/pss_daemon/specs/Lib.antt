@@ -1,15 +1,2 @@
-pub mod Words
-pub mod Command
-pub mod Asked
-pub mod Machine
-pub mod Texts
-pub mod Refusals
-pub mod State
-pub mod View
 pub mod Forms
-pub mod Turns
-pub mod Runs
-pub mod Checked
 pub mod Ends
-pub mod Schema
-pub mod Codes

@@ -1,7 +1,7 @@
 // What the program may be asked for.
 
 /// What to do, and where among the words its names stand. The first word is at 0.
-#[derive(Clone, Copy, Debug, PartialEq, Eq, Drop)]
+#[derive(Clone, Copy, Drop)]
 pub enum Plan {
     /// `check SCHEMA`
     Check { schema: usize },
@@ -14,5 +14,5 @@ pub enum Plan {
 }
 
 /// The words are of no form.
-#[derive(Clone, Copy, Debug, PartialEq, Eq, Drop)]
+#[derive(Clone, Copy, Drop)]
 pub struct Usage;

@@ -1,7 +1,6 @@
 // The standard streams, some of which may have been closed when the program was started.
-use std::fs;
-use std::io;
 use std::os::fd::{AsRawFd, IntoRawFd, RawFd};
+use std::{fs, io};
 
 /// It is opened to be read: nothing comes from it, and writing to it fails.
 const NULL_DEVICE: &str = "/dev/null";

@@ -1,0 +1,16 @@
+pub mod Words
+pub mod Command
+pub mod Asked
+pub mod Machine
+pub mod Texts
+pub mod Refusals
+pub mod State
+pub mod View
+pub mod Turns
+pub mod Spoken
+pub mod Runs
+pub mod Checked
+pub mod Outcomes
+pub mod Counts
+pub mod Schema
+pub mod Codes

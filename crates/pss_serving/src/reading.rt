@@ -1,0 +1,79 @@
+// The schema's text is read and checked.
+ghost use Rattle.std.specs.Prelude.{◌≡◌, false, Some};
+ghost use Rattle.pss_base.specs.Causes.{HasCauseIf};
+ghost use Rattle.psdl_tree.specs.Views.{tree_view};
+ghost use Rattle.psdl_syntax.specs.Syntax.{IsTextOf};
+ghost use Rattle.pss_serving.specs.Schema.{IsFound, has_failed};
+
+use crate::schema_fault::SchemaFault;
+use psdl_check::{CheckKind, check};
+use psdl_syntax::{MOST_BYTES, SyntaxKind, parse};
+use psdl_tree::Tree;
+use pss_base::{Bytes, ReadAll, Source, read_all};
+use std::alloc::Global;
+use type_layout::Schema;
+
+/// Of a text one byte more than it may have is read, by which a longer text is told.
+const MOST_READ: u32 = MOST_BYTES as u32 + 1;
+
+/// A text in which nothing is wrong, its tree and its schema.
+#[derive(Drop)]
+pub struct SoundText {
+    pub text: Bytes,
+    pub tree: Tree,
+    pub schema: Schema,
+}
+
+/// What the schema's source gave.
+#[derive(Drop)]
+pub enum Checked {
+    Sound(SoundText),
+    /// A text that has a fault.
+    Refused(SchemaFault),
+    /// The source failed.
+    ReadFault,
+    /// There was no memory.
+    NoMemory,
+}
+
+// What a text with that tree is.
+fn check_tree(alloc: Global, text: Bytes, tree: Tree) -> Checked
+    requires { IsTextOf (tree_view tree) text }
+    ensures found { IsFound result (Some text) }
+    ensures fault { has_failed result ≡ false }
+{
+    match check(alloc, &tree) {
+        Ok(schema) => Checked::Sound(SoundText { text, tree, schema }),
+        Err(fault) => match fault.kind {
+            CheckKind::NoMemory => Checked::NoMemory,
+            _ => Checked::Refused(SchemaFault::Check(fault)),
+        },
+    }
+}
+
+// What a text is.
+fn check_text(alloc: Global, text: Bytes) -> Checked
+    ensures found { IsFound result (Some text) }
+    ensures fault { has_failed result ≡ false }
+{
+    match parse(alloc, text.as_slice()) {
+        Ok(tree) => check_tree(alloc, text, tree),
+        Err(fault) => match fault.kind {
+            SyntaxKind::NoMemory => Checked::NoMemory,
+            _ => Checked::Refused(SchemaFault::Syntax(fault)),
+        },
+    }
+}
+
+/// Reads a text and checks it.
+pub fn read_checked<P: Source>(alloc: Global, schema: &mut P) -> Checked
+    ensures found { IsFound result (P.left schema.old) }
+    ensures cause { HasCauseIf (P.faults schema.old) (P.faults schema.new) (has_failed result) }
+{
+    match read_all(alloc, schema, MOST_READ) {
+        Ok(text) => check_text(alloc, text),
+        Err(ReadAll::OverLimit(text)) => check_text(alloc, text),
+        Err(ReadAll::ReadFault) => Checked::ReadFault,
+        Err(ReadAll::NoMemory) => Checked::NoMemory,
+    }
+}

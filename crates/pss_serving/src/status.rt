@@ -1,0 +1,43 @@
+// How a call of the service ended.
+ghost use Rattle.std.specs.Prelude.{◌≡◌};
+
+/// How a call of the service ended. Its number is the exit status of the program.
+#[derive(Clone, Copy, Debug, PartialEq, Eq, Drop)]
+pub enum Status {
+    /// All was done: the script was read to its end, and each reply was spoken.
+    Ok,
+    /// The words are none of the forms.
+    Usage,
+    /// The schema's text has a fault.
+    SchemaRefused,
+    /// There was no memory.
+    NoMemory,
+    /// The schema's source or the script's failed.
+    ReadFault,
+    /// Speech failed.
+    SpeakFault,
+    /// The script has more lines or bytes than are served.
+    ScriptTooLong,
+    /// What the words or the schema ask for is not built yet.
+    NotBuilt,
+}
+
+impl Status {
+    ghost use Rattle.pss_serving.specs.Codes.{code_of};
+
+    /// The exit status of the program, from 0 to 9.
+    pub fn code(self) -> u8
+        ensures { result ≡ code_of self }
+    {
+        match self {
+            Status::Ok => 0,
+            Status::Usage => 1,
+            Status::SchemaRefused => 2,
+            Status::NoMemory => 4,
+            Status::ReadFault => 5,
+            Status::SpeakFault => 7,
+            Status::ScriptTooLong => 8,
+            Status::NotBuilt => 9,
+        }
+    }
+}

@@ -74,7 +74,7 @@ module _ {T : Type 0} (col : Col) (row : Row) where
       let change = option_map (in_row row) in
       let s = cut change k (seats_of_col old col) (omega (arith, lt, length-map (list_in old.cols col) (map.get old.nodes))) in
       let e : [] ≡ s.at ∷ (s.rest ++ map change (take k (seats_of_col old col))) =
-        ap (map (map.get now.nodes)) (sym none) ∙ g.seats ∙ ap (λ l. l ++ map change (take k (seats_of_col old col))) s.from in
+      ap (map (map.get now.nodes)) (sym none) ∙ g.seats ∙ ap (λ l. l ++ map change (take k (seats_of_col old col))) s.from in
       cc
 
   -- all of them
@@ -135,8 +135,8 @@ module _ {T : Type 0} (col : Col) (row : Row) where
       col_there = col_stays-inserted left came here col (col_stays-unlinked now node seat col g.col_there);
       row_there = row_stays-inserted left came here row (row_stays-unlinked now node seat row g.row_there);
       seats =
-        seats_again ∙ (λ i. map (map.get now.nodes) rest ++ Some (record { row = row; col = sym own i; item = told i }) ∷ [])
-        ∙ turned-more (option_map (in_row row)) k (seats_of_col old col) (Some seat) (map (map.get now.nodes) rest) (omega (arith, lt, length-map (list_in old.cols col) (map.get old.nodes))) (sym seats_now ∙ g.seats);
+          seats_again ∙ (λ i. map (map.get now.nodes) rest ++ Some (record { row = row; col = sym own i; item = told i }) ∷ [])
+          ∙ turned-more (option_map (in_row row)) k (seats_of_col old col) (Some seat) (map (map.get now.nodes) rest) (omega (arith, lt, length-map (list_in old.cols col) (map.get old.nodes))) (sym seats_now ∙ g.seats);
       others = λ other ne. others_again other ne ∙ g.others other ne;
       room = omega (arith, g.room);
     }

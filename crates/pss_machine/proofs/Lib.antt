@@ -1,0 +1,10 @@
+pub mod Running
+pub mod Cases
+pub mod Maps
+pub mod Refusing
+pub mod Allowing
+pub mod NeedSets
+pub mod Telling
+pub mod Parting
+pub mod Distinct
+pub mod Fruitless

@@ -1,0 +1,38 @@
+// Laws over the definitions, for those that prove something above them.
+ghost use Rattle.pss_machine.specs.Allowed.{EffectsAreAllowed, StepsAreOfOwners};
+ghost use Rattle.pss_machine.specs.Entries.{BodiesAreAlwaysRight};
+ghost use Rattle.pss_machine.specs.Laws.{RunsGoOn, RefusalsChangeNothing, FruitlessChangesNoObject};
+ghost use Rattle.pss_machine.specs.Owning.{OwnersAreAlwaysTold, LocksAreAlwaysApart};
+
+/// A run goes on from where it has come.
+pub fn runs_go_on()
+    ensures { RunsGoOn }
+{}
+
+/// A command that is refused before the catalog is asked changes nothing, nor does a commit without room. One that
+/// the catalog does not grant changes no object, no session and no entry, nor what any owner has changed.
+pub fn refusals_change_nothing()
+    ensures refused { RefusalsChangeNothing }
+    ensures fruitless { FruitlessChangesNoObject }
+{}
+
+/// A step is taken by an owner that is there, within the limits, where no other holds it up, and a create carries
+/// the next serial; a commit has room. Each step is that of the operation on the owner's view, or answers a basic
+/// owner from a copy.
+pub fn effects_are_allowed()
+    ensures allowed { EffectsAreAllowed }
+    ensures steps { StepsAreOfOwners }
+{}
+
+/// In every run an owner has locked what its steps needed and changed what they changed, and no lock of an owner
+/// clashes with one of another.
+pub fn owners_are_told()
+    ensures told { OwnersAreAlwaysTold }
+    ensures apart { LocksAreAlwaysApart }
+{}
+
+/// Each name of a body that an entry stands on is that of one body, no two bodies have one name, and none is without
+/// entries.
+pub fn bodies_are_right()
+    ensures { BodiesAreAlwaysRight }
+{}

@@ -28,6 +28,12 @@ home 1 0 Cells
 member v long
 ";
 
+// Half of its bytes.
+const HALF_CHECKED: &str = "storagetype Cell {
+  state long v;
+};
+storagehome ";
+
 fn words_of(alloc: Global, texts: &[&str]) -> Result<Vec<Bytes>, NoMemory> {
     let mut words = Vec::new(alloc);
     for text in texts {
@@ -49,13 +55,28 @@ const BROKEN: [(&[&str], &[u32], &[u32], &[u32], Status, &str); 10] = [
     (RUN, &[], &[0], &[], Status::ReadFault, ""),
     // The lines whose line feed was read are answered, the last one not.
     (RUN, &[], &[1], &[], Status::ReadFault, "OK\n"),
-    (RUN, &[], &[], &[0], Status::SpeakFault, ""),
-    (RUN, &[], &[], &[1], Status::SpeakFault, "OK\n"),
+    // A call of speech that fails speaks half of its bytes.
+    (RUN, &[], &[], &[0], Status::SpeakFault, "O"),
+    (
+        RUN,
+        &[],
+        &[],
+        &[1],
+        Status::SpeakFault,
+        "OK\nOK i1 000000010",
+    ),
     (CHECK, &[0], &[], &[], Status::ReadFault, ""),
-    (CHECK, &[], &[0], &[0], Status::SpeakFault, ""),
+    (CHECK, &[], &[0], &[0], Status::SpeakFault, HALF_CHECKED),
     // The script is not read.
     (CHECK, &[], &[0], &[], Status::Ok, CHECKED),
-    (&["go"], &[], &[], &[0], Status::SpeakFault, ""),
+    (
+        &["go"],
+        &[],
+        &[],
+        &[0],
+        Status::SpeakFault,
+        "usage: pssd check SCHEMA | init SCHEMA ",
+    ),
 ];
 
 #[test]

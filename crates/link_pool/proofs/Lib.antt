@@ -10,7 +10,3 @@ pub mod Added
 pub mod Heads
 pub mod Told
 pub mod Whole
-pub mod Bounds
-pub mod NodeLists
-pub mod RingChanges
-pub mod Refills

@@ -2,7 +2,6 @@
 #![tactic(auto)]
 
 mod cells;
-mod counted;
 mod names;
 mod pool;
 

@@ -1,10 +1,10 @@
 -- The pieces of a line are taken one after the other.
-use Rattle.std.proofs.Common.{◌≡◌, ℕ, zero, suc, ◌+◌, ◌-◌, ◌<◌, List, [], ◌∷◌, ◌++◌, length, take, drop, get_or, true, false, None, Some, IfSome, refl, sym, ◌∙◌, ap, subst, arith, append_assoc, length-append, take-append-drop}
+use Rattle.std.proofs.Common.{◌≡◌, ℕ, zero, suc, ◌+◌, ◌-◌, ◌<◌, List, [], ◌∷◌, ◌++◌, length, take, drop, get_or, true, false, None, Some, IfSome, sym, ◌∙◌, ap, subst, arith, append_assoc, length-append, take-append-drop}
 use Rattle.std.proofs.lemmas.Grind.{common_steps}
 use Rattle.std.proofs.lemmas.List.{drop_more, length-take-le, take_at}
 use Rattle.std.specs.declared.option.Option.{Option}
-use Rattle.std.specs.Io.KnownBytes.{Consumes, IsAtEnd, Keeps, prepend_known}
-use Rattle.std.proofs.KnownBytes.{Consumes-trans, Consumes-nil, Consumes-kept}
+use Rattle.std.specs.Io.KnownBytes.{Consumes, Keeps, prepend_known}
+use Rattle.std.proofs.KnownBytes.{Consumes-trans, Consumes-kept}
 use Rattle.pss_base.specs.Lines.{has_lf, bytes_of}
 use Rattle.pss_base.specs.Parts.{SoFar, PartOf, TakesPiece, StopsIn, StopsAt}
 use Rattle.pss_base.specs.declared.part.Part.{Part}
@@ -29,20 +29,6 @@ from_ahead bytes before after (Some rest) is = ap (λ l. l ++ rest) is ∙ appen
 -- what the loop knows
 abbrev pub Taken : Option (List ℕ) → Option (List ℕ) → List ℕ → ℕ → ℕ → Type 0
 Taken a b kept n most = (taken : List ℕ) × Consumes a b taken × SoFar taken kept n most
-
-pub none_yet : (a : Option (List ℕ)) (most : ℕ) → Taken a a [] 0 most
-none_yet a most = ([], Consumes-nil a, record { one = refl; text = refl; count = refl; within = omega arith })
-
-pub at_end : (a b c : Option (List ℕ)) (kept : List ℕ) (n most : ℕ) → Taken a b kept n most → Keeps b c → IsAtEnd c
-    → let part : Part = record { text = kept; count = n; size = n; ended = false } in PartOf part most a c
-at_end a b c kept n most so_far keeps there = record {
-  body = so_far.0;
-  so_far = so_far.2;
-  taken = Consumes-kept a b c so_far.0 so_far.1 keeps;
-  size = so_far.2.count;
-  fits = so_far.2.within;
-  last = λ _. there;
-}
 
 pub stopped : (a b c : Option (List ℕ)) (kept : List ℕ) (n most : ℕ) → Taken a b kept n most → Keeps b c → (part : List ℕ) × Consumes a c part × (has_lf part ≡ false)
 stopped a b c kept n most so_far keeps = (so_far.0, Consumes-kept a b c so_far.0 so_far.1 keeps, so_far.2.one)

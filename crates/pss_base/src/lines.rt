@@ -72,10 +72,10 @@ impl LineReader {
         self.live
     }
 
-    /// The next line of what is to come: of the bytes that the reader has ahead, and then of the source that is given.
-    /// So give the same source at each call. The first byte past a limit is told as `Limit`; a failure of the source at
-    /// once, without any line of which a byte is missing. Where the next step shows in what the reader has ahead, it
-    /// does not read.
+    /// The next line of what is to come: first the bytes that the reader has ahead, then those of the source given.
+    /// Pass the same source at each call. The first byte past a limit is told as `Limit`, and a failure of the source
+    /// at once, without any line of which a byte is missing. The source is not read where what is ahead shows the
+    /// next step: a whole line, a byte past a limit, or the end.
     pub fn next<C: Source>(&mut self, src: &mut C) -> LineStep
         requires { IsTrue self.old.live }
         ensures step { NextLine self.old self.new (to_come self.old (C.left src.old)) (to_come self.new (C.left src.new)) result }

@@ -20,8 +20,8 @@ pub enum ReadAll {
     NoMemory,
 }
 
-/// All bytes of a source, where they are no more than the limit. Of the source after a refusal nothing is said:
-/// it is read in large pieces.
+/// All bytes of a source, where they are no more than the limit. It is read in large pieces, so after a refusal nothing
+/// is said of what the source has left.
 pub fn read_all<C: Source>(alloc: Global, src: &mut C, limit: u32) -> Result<Bytes, ReadAll>
     ensures ok { IfOk result (λ bytes. (length bytes ≤ limit) × IfSome (C.left src.old) (λ all. bytes ≡ all)) }
     ensures end { OnOk result (IsAtEnd (C.left src.new)) }

@@ -6,3 +6,4 @@ pub mod Spoken
 pub mod Images
 pub mod Stretches
 pub mod Parts
+pub mod Reading

@@ -2,7 +2,7 @@
 use Rattle.std.proofs.Common.{ℕ, zero, suc, ◌≡◌, ◌<◌, ◌≤◌, ◌+◌, ◌-◌, ◌⊎◌, ⊎_elim, List, [], ◌∷◌, ◌++◌, length, take, drop, replicate, get_or, slice_get, None, Some, refl, sym, ap, ◌∙◌, subst, arith, length-append, length-drop}
 use Rattle.std.proofs.lemmas.Bool.{cases_lt}
 use Rattle.std.proofs.lemmas.Grind.{common_steps}
-use Rattle.std.proofs.lemmas.List.{get_or_past, get_or-drop, get_or-replicate, get_or-take, length-replicate}
+use Rattle.std.proofs.lemmas.List.{get_or_past, get_or-drop, get_or-replicate, get_or-take, length-replicate, length-take-le}
 use Rattle.std.proofs.lemmas.Option.{get_or_from_slice_get, slice_get-get_or, unwrap_or-slice_get}
 use Rattle.std.specs.Option.{unwrap_or}
 use Rattle.pss_disk.specs.Images.{Agrees}
@@ -33,7 +33,7 @@ right (x ∷ xs) ys i (suc k) e = right xs ys i k (omega (arith, e))
 pub in_part : (range : Range) (image : List ℕ) (i : ℕ) → i < range.count → get_or (octets_in range image) i 0 ≡ octet_at image (range.at + i)
 in_part range image i lt =
     let rest = drop range.at image in
-    let zeros = replicate range.count 0 in
+    let zeros : List ℕ = replicate range.count 0 in
     get_or-take range.count (rest ++ zeros) i 0 lt ∙ ⊎_elim
     (λ less. left rest zeros i less ∙ get_or-drop range.at image i 0)
     (λ more.
@@ -109,3 +109,17 @@ agrees_at S content image i same s lt = sym (unwrap_or-slice_get image i 0) ∙ 
 pub stands_still : (S : ℕ → Type 0) (content image xs : List ℕ) (at : ℕ) → Agrees S content image → ((i : ℕ) → at ≤ i → i < at + length xs → S i) → at + length xs ≤ length content → Stands content at xs → Stands image at xs
 stands_still S content image xs at same inside le s =
     stands_by image xs at (λ i lt. agrees_at S content image (at + i) same (inside (at + i) (omega arith) (omega (arith, lt))) (omega (arith, lt, le)) ∙ stands_at content xs at i s lt)
+
+-- a part of a part
+pub part_of_part : (at n k m : ℕ) (image : List ℕ) → k + m ≤ n → take m (drop k (octets_in (record { at = at; count = n }) image)) ≡ octets_in (record { at = at + k; count = m }) image
+part_of_part at n k m image le =
+    let whole = octets_in (record { at = at; count = n }) image in
+    let part = octets_in (record { at = at + k; count = m }) image in
+    let l : length whole ≡ n = length-octets_in (record { at = at; count = n }) image in
+    let lp : length part ≡ m = length-octets_in (record { at = at + k; count = m }) image in
+    let lt0 : length (take m (drop k whole)) ≡ m = length-take-le m (drop k whole) (omega (arith, le, l, length-drop k whole)) in
+    same_by_place (take m (drop k whole)) part (lt0 ∙ sym lp)
+    (λ i lt.
+        let few : i < m = omega (arith, lt, lt0) in
+        get_or-take m (drop k whole) i 0 few ∙ get_or-drop k whole i 0 ∙ in_part (record { at = at; count = n }) image (k + i) (omega (arith, few, le))
+        ∙ ap (octet_at image) (let e : at + (k + i) ≡ at + k + i = omega arith in e) ∙ sym (in_part (record { at = at + k; count = m }) image i few))

@@ -120,6 +120,6 @@ part_of_part at n k m image le =
     let lt0 : length (take m (drop k whole)) ≡ m = length-take-le m (drop k whole) (omega (arith, le, l, length-drop k whole)) in
     same_by_place (take m (drop k whole)) part (lt0 ∙ sym lp)
     (λ i lt.
-        let few : i < m = omega (arith, lt, lt0) in
-        get_or-take m (drop k whole) i 0 few ∙ get_or-drop k whole i 0 ∙ in_part (record { at = at; count = n }) image (k + i) (omega (arith, few, le))
-        ∙ ap (octet_at image) (let e : at + (k + i) ≡ at + k + i = omega arith in e) ∙ sym (in_part (record { at = at + k; count = m }) image i few))
+    let few : i < m = omega (arith, lt, lt0) in
+    get_or-take m (drop k whole) i 0 few ∙ get_or-drop k whole i 0 ∙ in_part (record { at = at; count = n }) image (k + i) (omega (arith, few, le))
+    ∙ ap (octet_at image) (let e : at + (k + i) ≡ at + k + i = omega arith in e) ∙ sym (in_part (record { at = at + k; count = m }) image i few))

@@ -3,7 +3,8 @@ use Rattle.std.proofs.Common.{◌≡◌, ℕ, suc, ◌+◌, ◌-◌, ◌<◌, Li
 use Rattle.std.proofs.lemmas.Grind.{common_steps}
 use Rattle.std.proofs.lemmas.List.Folds.{length-prefix_len}
 use Rattle.std.specs.List.{prefix_len, take_while}
-use Rattle.pss_serving.specs.Words.{is_blank, begins_word, words}
+use Rattle.pss_base.specs.Blanks.{is_blank, behind_blanks}
+use Rattle.pss_serving.specs.Words.{begins_word, words}
 
 one_add : (n : ℕ) → 1 + n ≡ suc n
 one_add n = omega arith
@@ -46,22 +47,19 @@ begins_by [] h = absurd (omega arith)
 begins_by (x ∷ xs) h = grind (arith, common_steps)
 
 -- the first word stands behind the blanks, up to the next blank
-pub next_found : (text behind : List ℕ) (start len : ℕ) → start ≡ length (take_while is_blank text) → behind ≡ drop start text → len ≡ length (take_while no_blank behind) → 0 < len
+pub next_found : (text behind : List ℕ) (len : ℕ) → behind ≡ behind_blanks text → len ≡ length (take_while no_blank behind) → 0 < len
     → words text ≡ take len behind ∷ words (drop len behind)
-next_found text behind start len at_start is at_len some =
-    let s : start ≡ prefix_len is_blank text = at_start ∙ length-prefix_len is_blank text in
+next_found text behind len is at_len some =
     let l : len ≡ prefix_len no_blank behind = at_len ∙ length-prefix_len no_blank behind in
     let some' : 0 < prefix_len no_blank behind = omega arith in
     let first = word_first behind (begins_by behind some') in
-    let same : words text ≡ words behind = blanks_gone text ∙ ap words (ap (λ n. drop n text) (sym s) ∙ sym is) in
+    let same : words text ≡ words behind = blanks_gone text ∙ ap words (sym is) in
     same ∙ (rw l first)
 
-pub none_found : (text behind : List ℕ) (start len : ℕ) → start ≡ length (take_while is_blank text) → behind ≡ drop start text → len ≡ length (take_while no_blank behind) → len ≡ 0 → words text ≡ []
-none_found text behind start len at_start is at_len none =
-    let s : start ≡ prefix_len is_blank text = at_start ∙ length-prefix_len is_blank text in
+pub none_found : (text behind : List ℕ) (len : ℕ) → behind ≡ behind_blanks text → len ≡ length (take_while no_blank behind) → len ≡ 0 → words text ≡ []
+none_found text behind len is at_len none =
     let l : len ≡ prefix_len no_blank behind = at_len ∙ length-prefix_len no_blank behind in
-    let all : behind ≡ drop (prefix_len is_blank text) text = is ∙ ap (λ n. drop n text) s in
-    let gone : drop (prefix_len is_blank text) text ≡ [] = blanks_end text (ap (prefix_len no_blank) (sym all) ∙ sym l ∙ none) in
+    let gone : behind_blanks text ≡ [] = blanks_end text (ap (prefix_len no_blank) (sym is) ∙ sym l ∙ none) in
     blanks_gone text ∙ ap words gone
 
 -- a part up to the end is all that is left

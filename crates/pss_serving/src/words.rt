@@ -3,26 +3,15 @@ ghost use Rattle.std.specs.Prelude.{◌≡◌, ◌≤◌, ◌<◌, ◌^◌, ◌-
 ghost use Rattle.std.specs.Option.{option_map};
 ghost use Rattle.std.specs.List.{take_while, list_all};
 ghost use Rattle.std.specs.Str.Parse.{digits_value};
+ghost use Rattle.pss_base.specs.Blanks.{is_blank};
 ghost use Rattle.pss_serving.specs.Words as spec;
 ghost use Rattle.pss_serving.specs.Words.{words};
 
-fn is_blank(byte: u8) -> bool
-    ensures { result ≡ spec.is_blank byte }
-{
-    byte == b' ' || byte == b'\t'
-}
-
-// How many blanks a text begins with.
-fn count_blanks(text: &[u8]) -> usize
-    ensures count { result ≡ length (take_while spec.is_blank text.now) }
-    ensures within { result ≤ length text.now }
-{
-    text.iter().take_while(|b| is_blank(**b)).count()
-}
+use pss_base::{is_blank, skip_blanks};
 
 // How many bytes of a word a text begins with.
 fn count_word(text: &[u8]) -> usize
-    ensures count { result ≡ length (take_while (λ b. not (spec.is_blank b)) text.now) }
+    ensures count { result ≡ length (take_while (λ b. not (is_blank b)) text.now) }
     ensures within { result ≤ length text.now }
 {
     text.iter().take_while(|b| !is_blank(**b)).count()
@@ -32,7 +21,7 @@ fn count_word(text: &[u8]) -> usize
 pub fn next_word(text: &[u8]) -> Option<(&[u8], &[u8])>
     ensures first { MatchOption result (words text.now ≡ []) (λ found. words text.now ≡ found.0.now ∷ words found.1.now) }
 {
-    let behind = &text[count_blanks(text)..];
+    let behind = skip_blanks(text);
     let len = count_word(behind);
     if len == 0 {
         return None;

@@ -18,7 +18,7 @@ use pss_base::NoMemory;
 use std::alloc::Global;
 use type_layout::{HomeNo, HomeNos, Member, Members, Ty};
 
-// Of the text of a member's type.
+// How long the text of a member's type is.
 fn type_length(types: &Types<'_>, referents: &Referents, member_type: MemberType) -> TextLength
     requires { IsTrue (is_there (length types.now) referents.now.targets member_type) }
     ensures { result.0 ≡ text_length (type_by types.now (homes_in referents.now.lists) member_type) }
@@ -29,7 +29,7 @@ fn type_length(types: &Types<'_>, referents: &Referents, member_type: MemberType
     }
 }
 
-// Of a member's line.
+// How long a member's line is.
 fn line_length(types: &Types<'_>, referents: &Referents, member: &TypedMember<'_>) -> TextLength
     requires { IsTrue (is_there (length types.now) referents.now.targets member.now.member_type) }
     ensures { result.0 ≡ line_length (member_line (typed_view types.now (homes_in referents.now.lists) member.now)) }

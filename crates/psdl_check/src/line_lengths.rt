@@ -18,7 +18,7 @@ fn with_homes(homes: &[HomeNo], front: TextLength) -> TextLength
     whole
 }
 
-/// Of a type of references to these homes.
+/// How long the text of a type of references to these homes is.
 pub(crate) fn reference_length(homes: &[HomeNo]) -> TextLength
     ensures { result.0 ≡ text_length (RefTo homes.now) }
 {
@@ -28,14 +28,14 @@ pub(crate) fn reference_length(homes: &[HomeNo]) -> TextLength
     with_homes(homes, TextLength::of(b"ref("))
 }
 
-/// Of a member's line, by its name and the length of its type.
+/// How long a member's line is, by the member's name and the length of its type.
 pub(crate) fn member_line_length(name: &[u8], member_type: TextLength) -> TextLength
     ensures { result.0 ≡ length_of_member name.now member_type.0 }
 {
     member_type.with(name.len()).with(9)
 }
 
-/// Of a home's line, by its number, that of its base or 0, and its name.
+/// How long a home's line is, by the home's number, that of its base or 0, and its name.
 pub(crate) fn home_line_length(number: u32, base: u32, name: &[u8]) -> TextLength
     ensures { result.0 ≡ length_of_home number base name.now }
 {
@@ -56,7 +56,7 @@ fn with_numbers(numbers: &[u32], front: TextLength) -> TextLength
     whole
 }
 
-/// Of a key's line, by its name, the number of its home and those of its members.
+/// How long a key's line is, by the key's name, the number of its home and those of its members.
 pub(crate) fn key_line_length(name: &[u8], home: HomeNo, members: &[u32]) -> TextLength
     ensures { result.0 ≡ length_of_key name.now home.0 members.now }
 {

@@ -31,7 +31,7 @@ use psdl_types::spec_lengths::plain_lengths;
 use pss_base::NoMemory;
 use std::alloc::Global;
 
-// Of a member of a type without brackets in the body of a declaration, where the type is there.
+// The lengths of a member's default, for a type without brackets in the body of a declaration, if there is such a type.
 fn body_lengths(
     alloc: Global,
     directory: &Directory<'_>,
@@ -55,7 +55,7 @@ fn body_lengths(
     plain_lengths(alloc, &body, lengths, plain)
 }
 
-// Of a reference, where its name means a definition: the default is nil.
+// The lengths of a reference's default, which is nil, if its name means a definition.
 fn reference_lengths(
     alloc: Global,
     directory: &Directory<'_>,
@@ -71,7 +71,7 @@ fn reference_lengths(
     }
 }
 
-// Of a member, where its type is there.
+// The lengths of a member's default, if its type is there.
 fn member_lengths(
     alloc: Global,
     directory: &Directory<'_>,
@@ -92,7 +92,7 @@ fn member_lengths(
     }
 }
 
-// Of the default record of members, where their types are there: behind the octet for the order of octets.
+// The lengths of the default record of members, if their types are there. It begins behind the octet for the byte order.
 fn record_lengths(
     alloc: Global,
     directory: &Directory<'_>,

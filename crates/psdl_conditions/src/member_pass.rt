@@ -67,7 +67,7 @@ fn table_of_home<'a>(
     }
 }
 
-// Of a home.
+// The least fault of the keys and factories of a home.
 fn home_faults(
     alloc: Global,
     directory: &Directory<'_>,

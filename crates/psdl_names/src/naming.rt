@@ -23,7 +23,7 @@ use crate::told::{Told, told_at};
 use pss_base::NoMemory;
 use std::alloc::Global;
 
-// Of a name that means something.
+// The fault of a name that means something, but not what its place needs.
 fn kind_fault(
     directory: &Directory<'_>,
     told: &[Told],
@@ -42,7 +42,7 @@ fn kind_fault(
     })
 }
 
-// Of a name that means nothing.
+// What kind of fault a name has that means nothing: it may be spelled in another case.
 fn unknown_kind(
     alloc: Global,
     directory: &Directory<'_>,

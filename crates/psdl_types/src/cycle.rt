@@ -84,7 +84,7 @@ fn of_each_use(
     Ok(first)
 }
 
-// Of the names in a struct.
+// The least fault of the names in a struct.
 fn in_struct(
     alloc: Global,
     directory: &Directory<'_>,

@@ -22,8 +22,8 @@ use psdl_tree::Expression;
 use pss_base::NoMemory;
 use std::alloc::Global;
 
-// Of the type of the typedef that a declaration is of, by that of the one in front: each typedef's type is looked at
-// once.
+// The lengths for the type of the typedef that a declaration belongs to. They are taken from the declaration in front
+// where that is of the same typedef, so that each typedef's type is looked at once.
 fn alias_lengths(
     alloc: Global,
     directory: &Directory<'_>,
@@ -56,7 +56,7 @@ fn alias_lengths(
     }
 }
 
-// Of a declarator of a typedef, by those of the typedef's type.
+// The lengths for a declarator of a typedef, by those for the typedef's type.
 fn declarator_lengths(
     alloc: Global,
     sight: &Sight<'_, '_>,
@@ -72,7 +72,7 @@ fn declarator_lengths(
     }
 }
 
-// Of what a declaration stands for, by those before it.
+// The lengths for what a declaration stands for, by those for the declarations before it.
 fn lengths_of_one(
     alloc: Global,
     directory: &Directory<'_>,
@@ -102,7 +102,7 @@ fn lengths_of_one(
     }
 }
 
-/// Of what each declaration stands for, where it is a type.
+/// The lengths of the default of what each declaration stands for, if it is a type.
 pub fn default_lengths(
     alloc: Global,
     directory: &Directory<'_>,

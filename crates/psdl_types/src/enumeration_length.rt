@@ -17,7 +17,7 @@ fn with_names(names: &[Identifier], front: TextLength) -> TextLength
     whole
 }
 
-/// Of an enumeration.
+/// The length of an enumeration's text.
 pub(crate) fn enumeration_length(enumerators: &Identifiers) -> TextLength
     ensures { result.0 ≡ enumeration_length (identifiers_view enumerators.now) }
 {

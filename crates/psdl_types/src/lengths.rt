@@ -12,19 +12,19 @@ const MOST_OCTETS: u16 = 8000;
 pub struct Lengths([u16; 8]);
 
 impl Lengths {
-    /// Of nothing.
+    /// Nothing takes no octet.
     pub const NOTHING: Lengths = Lengths([0; 8]);
-    /// Of an octet, a character or a boolean.
+    /// The lengths of an octet, a character or a boolean.
     pub const OCTET: Lengths = Lengths([1; 8]);
-    /// Of a number of two octets.
+    /// The lengths of a number of two octets.
     pub const SHORT: Lengths = Lengths([2, 3, 2, 3, 2, 3, 2, 3]);
-    /// Of a number of four octets.
+    /// The lengths of a number of four octets.
     pub const LONG: Lengths = Lengths([4, 7, 6, 5, 4, 7, 6, 5]);
-    /// Of a number of eight octets.
+    /// The lengths of a number of eight octets.
     pub const LONG_LONG: Lengths = Lengths([8, 15, 14, 13, 12, 11, 10, 9]);
-    /// Of the empty string.
+    /// The lengths of the empty string.
     pub const TEXT: Lengths = Lengths([5, 8, 7, 6, 5, 8, 7, 6]);
-    /// Of nil.
+    /// The lengths of nil.
     pub const NIL: Lengths = Lengths([16, 15, 14, 13, 12, 19, 18, 17]);
 
     /// Those with others behind them.

@@ -20,7 +20,7 @@ use psdl_tree::{
 use pss_base::NoMemory;
 use std::alloc::Global;
 
-// Of what the declaration with that number stands for.
+// The lengths of the default of what the declaration with that number stands for.
 fn lengths_at(lengths: &[Option<Lengths>], number: usize) -> Option<Lengths>
     ensures { result ≡ get_or lengths.now number None }
 {
@@ -41,7 +41,7 @@ fn integer_lengths(integer: IntegerType) -> Lengths
     }
 }
 
-// Of what a name stands for.
+// The lengths of the default of what a name stands for.
 fn named_lengths(
     alloc: Global,
     sight: &Sight<'_, '_>,
@@ -64,7 +64,7 @@ fn named_lengths(
     }
 }
 
-// Of the empty string, where its bound is there.
+// The lengths of the empty string, if its bound is there.
 fn text_lengths(
     alloc: Global,
     sight: &Sight<'_, '_>,
@@ -80,7 +80,7 @@ fn text_lengths(
     }
 }
 
-/// Of a type without brackets, where it is there.
+/// The lengths of the default of a type without brackets, if it is there.
 pub fn plain_lengths(
     alloc: Global,
     sight: &Sight<'_, '_>,
@@ -100,7 +100,7 @@ pub fn plain_lengths(
     }
 }
 
-/// Of a type, where all its parts are there. Of an empty sequence it is the count.
+/// The lengths of the default of a type, if all its parts are there. An empty sequence has its count alone.
 pub(crate) fn spec_lengths(
     alloc: Global,
     sight: &Sight<'_, '_>,
@@ -119,7 +119,7 @@ pub(crate) fn spec_lengths(
     }
 }
 
-/// Of an array of items, where its dimensions are there.
+/// The lengths of the default of an array of items, if its dimensions are there.
 pub(crate) fn array_lengths(
     alloc: Global,
     sight: &Sight<'_, '_>,
@@ -139,7 +139,7 @@ pub(crate) fn array_lengths(
     Ok(Some(whole))
 }
 
-// Of the declarators of a field with items of these lengths, behind what stands in front.
+// Adds the declarators of a field, with items of these lengths, to what stands in front.
 fn with_declarators(
     alloc: Global,
     sight: &Sight<'_, '_>,
@@ -160,7 +160,7 @@ fn with_declarators(
     Ok(Some(whole))
 }
 
-// Of a field behind what stands in front.
+// Adds a field to what stands in front.
 fn with_field(
     alloc: Global,
     sight: &Sight<'_, '_>,
@@ -207,7 +207,7 @@ fn with_fields(
     Ok(Some(whole))
 }
 
-/// Of a struct, where all its parts are there.
+/// The lengths of the default of a struct, if all its parts are there.
 pub(crate) fn struct_lengths(
     alloc: Global,
     sight: &Sight<'_, '_>,

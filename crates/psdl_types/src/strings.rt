@@ -46,7 +46,7 @@ fn each_text_fault(texts: &[&TextLiteral]) -> Option<CheckFault>
     first
 }
 
-// Of each string of an expression.
+// The least fault of the strings in an expression.
 fn texts_fault(alloc: Global, expression: &Expression) -> Result<Option<CheckFault>, NoMemory>
     ensures { IfOk result (λ r. r ≡ least (naming.of_texts (expression_view expression.now))) }
 {
@@ -54,7 +54,7 @@ fn texts_fault(alloc: Global, expression: &Expression) -> Result<Option<CheckFau
     Ok(each_text_fault(&texts))
 }
 
-// Of the expression of a string constant.
+// The least fault of the expression of a string constant.
 fn text_value_fault(alloc: Global, value: &Expression) -> Result<Option<CheckFault>, NoMemory>
     ensures { IfOk result (λ r. r ≡ least (naming.of_text_value (expression_view value.now))) }
 {

@@ -24,7 +24,7 @@ fn digits(number: u128) -> u32
 pub struct TextLength(u32);
 
 impl TextLength {
-    /// Of this text.
+    /// The length of this text.
     pub fn of(text: &[u8]) -> TextLength
         ensures { result.0 ≡ cut (length text.now) }
     {
@@ -55,7 +55,7 @@ impl TextLength {
         self.0 > MOST_OCTETS
     }
 
-    /// Of a string type, whose bound is 0 where it has none.
+    /// The length of a string type's text. The bound is 0 where the type has none.
     pub(crate) fn of_string(bound: u128) -> TextLength
         ensures { result.0 ≡ length_of_string bound }
     {
@@ -66,7 +66,7 @@ impl TextLength {
         }
     }
 
-    /// Of a sequence of items of the type that has this length. Its bound is 0 where it has none.
+    /// The length of a sequence type's text, by that of its item type. The bound is 0 where the sequence has none.
     pub(crate) fn of_sequence(self, bound: u128) -> TextLength
         ensures { result.0 ≡ length_of_sequence self.0 bound }
     {
@@ -77,7 +77,7 @@ impl TextLength {
         }
     }
 
-    /// Of an array of so many items of the type that has this length.
+    /// The length of an array type's text, by that of its item type.
     pub(crate) fn of_array(self, count: u128) -> TextLength
         ensures { result.0 ≡ length_of_array self.0 count }
     {

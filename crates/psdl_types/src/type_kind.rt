@@ -109,7 +109,7 @@ pub(crate) fn spec_kind(
     }
 }
 
-// Of what a compound type is made of, with whether its sizes are there.
+// The kind of a compound type, by that of its item and by whether its sizes are there.
 fn compound_of(item: Option<Kind>, sized: bool) -> Option<Kind>
     ensures { result ≡ compound_of item sized }
 {

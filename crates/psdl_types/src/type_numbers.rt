@@ -24,7 +24,7 @@ use psdl_tree::{
 use pss_base::NoMemory;
 use std::alloc::Global;
 
-// Of what the declaration with that number stands for.
+// The number of the type that the declaration with that number stands for.
 fn entry_at(entries: &[Option<usize>], number: usize) -> Option<usize>
     ensures { result ≡ get_or entries.now number None }
 {
@@ -35,7 +35,7 @@ fn entry_at(entries: &[Option<usize>], number: usize) -> Option<usize>
     }
 }
 
-// Of what a name stands for.
+// The number of the type that a name stands for.
 fn named_entry(
     alloc: Global,
     sight: &Sight<'_, '_>,

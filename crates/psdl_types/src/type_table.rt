@@ -27,8 +27,8 @@ pub struct TypeTable<'a> {
     pub entries: Vec<Option<usize>>,
 }
 
-// Of the type of the typedef that a declaration is of, by that of the one in front: each typedef's type is looked at
-// once.
+// The number of the type of the typedef that a declaration belongs to. It is taken from the declaration in front where
+// that is of the same typedef, so that each typedef's type is looked at once.
 fn alias_number<'a>(
     alloc: Global,
     directory: &Directory<'a>,
@@ -66,7 +66,7 @@ fn alias_number<'a>(
     }
 }
 
-// Of the type that a declaration stands for, by those before it and by the type of its typedef.
+// The number of the type that a declaration stands for, by those of the declarations before it and by that of its typedef.
 fn declared_number<'a>(
     alloc: Global,
     directory: &Directory<'a>,

@@ -127,7 +127,7 @@ impl<'a> Types<'a> {
         self.with_fields(fields, TextLength::of(b"struct("))
     }
 
-    // Of the text of the type that a node makes.
+    // How long the text of the type is that a node makes.
     fn node_length(&self, node: &Node<'a>) -> TextLength
         requires { IsMadeOf (length self.now) node.now }
         ensures { result.0 ≡ text_length (node_type self.now node.now) }

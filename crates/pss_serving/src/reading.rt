@@ -13,7 +13,7 @@ use pss_base::{Bytes, ReadAll, Source, read_all};
 use std::alloc::Global;
 use type_layout::Schema;
 
-/// Of a text one byte more than it may have is read, by which a longer text is told.
+/// One byte past the limit is read, so that a longer text is noticed.
 const MOST_READ: u32 = MOST_BYTES as u32 + 1;
 
 /// A text in which nothing is wrong, its tree and its schema.

@@ -1,12 +1,23 @@
-//! Records of many layouts, from standard input, a command a line. `text PSDL` sets the layout to that of the text's first storage home, and
-//! has no answer. `encode V V ..` is answered by the octets of the record with these values, two hexadecimal digits for each, or by `BADVALUE`
-//! and the column of the first value that is none of its member's type, or that is one too many, or behind the line's end where one is missing.
-//! `decode HEX` is answered by the values of the record with these octets, a space between them, or by why they are no record, and where.
+//! Types, values and records, from standard input, a command a line. `text PSDL` sets the schema, and the layout to that of the text's first
+//! storage home; it has no answer, nor has an empty line. Each other line is answered by a line:
+//!
+//! | Command | Answer |
+//! |---|---|
+//! | `encode V V ..` | the octets of the record with these values, two hexadecimal digits for each; or `BADVALUE` and the column of the first value that is none of its member's type, or that is one too many, or behind the line's end where one is missing |
+//! | `decode OCTETS` | the values of the record with these octets, a space between them, or why they are no record, and where |
+//! | `default` | the values of a record in which nothing was set yet |
+//! | `value AT TEXT` | the place where the value ends that stands at a place of the text, counted from 0, and what is printed for it, or `BADVALUE`; its type is that of the first member |
+//! | `octets AT OCTETS` | the same, of a text that is given by its octets |
+//! | `is VALUE` | for each member, whether a value is of its type. The value is written by its kind: `int N`, `char N`, `bool TRUE`, `enum N`, `nil`, `ref HOME SERIAL`, `text OCTETS`, `list N N ..`, `struct N N ..` |
+//! | `descends HOME OF` | whether a storage home is another or derives from it, both by their numbers |
 #![tactic(auto)]
 
 mod answers;
-mod digits;
+mod line;
+mod records;
+mod types;
 mod values;
+mod words;
 
 use answers::answers;
 use pss_base::{StdSource, read_all};

@@ -1,0 +1,99 @@
+// Commands on records: `encode`, `decode` and `default`.
+use crate::line::{LineFault, read_record};
+use crate::values::append_value;
+use crate::words::{append_octets, octets_of};
+use cdr_codec::{RecordFault, decode_record, encode_record};
+use pss_base::{Bytes, NoMemory, Steps, skip_blanks};
+use std::alloc::Global;
+use std::sync::ledger::Ledger;
+use type_layout::{Layout, Record, Values, default_of, is_record};
+
+fn append_bad_value(
+    alloc: Global,
+    out: &mut Bytes,
+    line: &[u8],
+    left: usize,
+) -> Result<(), NoMemory> {
+    let column = line.len().saturating_sub(left) + 1;
+    out.extend(format!(in alloc; "BADVALUE {column}")?.as_bytes())
+}
+
+/// `encode V V ..`: the octets of the record with these values, which stand in the rest of the line.
+pub fn append_encoded(
+    alloc: Global,
+    out: &mut Bytes,
+    layout: &Layout,
+    line: &[u8],
+    rest: &[u8],
+) -> Result<(), NoMemory> {
+    match read_record(alloc, layout, rest) {
+        Ok(record) => {
+            if is_record(layout, &record) {
+                append_octets(out, encode_record(alloc, layout, &record)?.as_slice())
+            } else {
+                out.extend(b"no record of the layout")
+            }
+        }
+        Err(LineFault::BadValue(left)) => append_bad_value(alloc, out, line, left),
+        Err(LineFault::NoMemory) => Err(NoMemory),
+    }
+}
+
+fn append_refusal(alloc: Global, out: &mut Bytes, name: &str, place: u64) -> Result<(), NoMemory> {
+    out.extend(format!(in alloc; "{name}({place})")?.as_bytes())
+}
+
+fn append_fault(alloc: Global, out: &mut Bytes, fault: RecordFault) -> Result<(), NoMemory> {
+    match fault {
+        RecordFault::Short(place) => append_refusal(alloc, out, "Short", place),
+        RecordFault::BadFlag => out.extend(b"BadFlag"),
+        RecordFault::BadBool(place) => append_refusal(alloc, out, "BadBool", place),
+        RecordFault::BadEnum(place) => append_refusal(alloc, out, "BadEnum", place),
+        RecordFault::BadNul(place) => append_refusal(alloc, out, "BadNul", place),
+        RecordFault::BadPad(place) => append_refusal(alloc, out, "BadPad", place),
+        RecordFault::OverBound(place) => append_refusal(alloc, out, "OverBound", place),
+        RecordFault::BadRef(place) => append_refusal(alloc, out, "BadRef", place),
+        RecordFault::Rest(place) => append_refusal(alloc, out, "Rest", place),
+        RecordFault::NoMemory => Err(NoMemory),
+    }
+}
+
+/// `decode OCTETS`: the values of the record with these octets, or why they are no record, and where.
+pub fn append_decoded<L: Ledger>(
+    alloc: Global,
+    out: &mut Bytes,
+    layout: &Layout,
+    rest: &[u8],
+    steps: &mut Steps<L>,
+) -> Result<(), NoMemory> {
+    let octets = octets_of(alloc, skip_blanks(rest))?;
+    match decode_record(alloc, layout, octets.as_slice(), steps) {
+        Ok(record) => append_record(alloc, out, layout, &record),
+        Err(fault) => append_fault(alloc, out, fault),
+    }
+}
+
+/// `default`: the values that the members have until others are given.
+pub fn append_default(alloc: Global, out: &mut Bytes, layout: &Layout) -> Result<(), NoMemory> {
+    let mut values = Values::new(alloc);
+    for member in layout.members.as_slice() {
+        values.push(default_of(alloc, &member.ty)?)?;
+    }
+    append_record(alloc, out, layout, &Record(values))
+}
+
+// The texts of a record's values, a space between them.
+fn append_record(
+    alloc: Global,
+    out: &mut Bytes,
+    layout: &Layout,
+    record: &Record,
+) -> Result<(), NoMemory> {
+    let mut between: &[u8] = b"";
+    for (member, value) in layout.members.as_slice().iter().zip(record.0.as_slice()) {
+        out.extend(between)?;
+        append_value(alloc, out, &member.ty, value)?;
+        between = b" ";
+    }
+    Ok(())
+}

@@ -1,3 +1,4 @@
+pub mod Printing
 pub mod Valuing
 pub mod Sizes
 pub mod Looping
@@ -8,3 +9,4 @@ pub mod ListLaws
 pub mod ValueLaws
 pub mod Standing
 pub mod PrintLaws
+pub mod LineReading

@@ -1,27 +1,24 @@
 -- What is printed is a spelling.
-use Rattle.std.proofs.Common.{◌≡◌, ℕ, zero, suc, ◌+◌, ◌*◌, ◌/◌, ◌%◌, ◌^◌, ◌<◌, ◌≤◌, Bool, true, false, cond, List, [], ◌∷◌, ◌++◌, length, take, drop, map, Some, None, refl, sym, ap, subst, ◌∙◌, arith, ℤ, pos, negsuc, neg_ℤ, length-append}
-use Rattle.std.specs.Prelude.{decimal}
+use Rattle.std.proofs.Common.{◌≡◌, ℕ, suc, ◌+◌, ◌*◌, ◌/◌, ◌%◌, ◌^◌, ◌<◌, ◌≤◌, Bool, true, false, cond, List, [], ◌∷◌, ◌++◌, length, map, Some, None, refl, sym, ap, subst, ◌∙◌, arith, ℤ, pos, negsuc, neg_ℤ}
+use Rattle.std.specs.Prelude.{decimal, nat_lt, ◌&&◌}
 use Rattle.std.specs.List.{list_all, flat_map}
 use Rattle.std.specs.Char.{is_digit, digit_value, digit_char}
 use Rattle.std.specs.Str.Parse.{AllDigits, digits_value, starts_with_minus}
 use Rattle.std.specs.Fmt.{signed_decimal}
-use Rattle.std.proofs.lemmas.Bool.{eq-eqb, ne_eqb, lt-ltb}
+use Rattle.std.proofs.lemmas.Bool.{ne_eqb, lt-ltb}
 use Rattle.std.proofs.lemmas.Bool.Decides.{nat_tests}
 use Rattle.std.proofs.lemmas.Int.{ints}
-use Rattle.std.proofs.lemmas.Int.Digits.{digits_value_push}
-use Rattle.std.proofs.Math.Nat.{pow-suc}
 use Rattle.std.proofs.lemmas.Fmt.{decimal_is_IsNumeral, length-decimal-le}
 use Rattle.std.proofs.lemmas.Str.{digit_value-digit_char}
 use Rattle.std.proofs.lemmas.Option.{slice_get-get_or, unwrap_or-slice_get}
-use Rattle.std.proofs.lemmas.List.{take_at, drop_at}
-use Rattle.std.proofs.lemmas.List.Folds.{flat_map-map, list_all-append}
-use Rattle.pss_base.specs.declared.pid.Pid.{Pid}
+use Rattle.std.proofs.lemmas.List.Folds.{flat_map-map}
+use Rattle.pss_base.proofs.PidTexts.{pid_again}
 use Rattle.type_layout.specs.Types.{PlainType, Short, Long, LongLong, UShort, ULong, ULongLong, Char, Boolean, Octet, Str, Seq, Arr, Struct, Enum, RefTo, PlainFields, no_fields, field_and, PlainValue, Int, Character, Truth, Ordinal, Text, Items, Parts, Ref, PlainValues, no_values, value_and}
-use Rattle.type_layout.specs.Values.{Of, AreOf, EachOf}
-use Rattle.value_text.specs.Words.{is_decimal, IsNumber, is_small_digit, IsReference}
+use Rattle.type_layout.specs.Values.{Of, AreOf, EachOf, are_bytes}
+use Rattle.value_text.specs.Words.{is_decimal, IsNumber}
 use Rattle.value_text.specs.Letters.{is_escaped, SpellsByte, SpellBytes}
 use Rattle.value_text.specs.Texts.{joined, EachWritten, Writes, FieldsWritten}
-use Rattle.value_text.specs.Printed.{is_printed, byte_text, hex_digits, each_printed, printed, fields_printed, HasBytes, HaveBytes}
+use Rattle.value_text.specs.Printed.{is_printed, byte_text, each_printed, printed, fields_printed}
 use Rattle.value_text.proofs.WordLaws.{IsNarrow}
 
 -- ---- numbers
@@ -79,88 +76,45 @@ byte_written quote c small = by_tests (is_escaped quote c) refl (is_printed c) r
         let sum : c ≡ c / 16 * 16 + c % 16 = omega arith in
         (refl, refl, rw (hex_digit (c / 16) high) (hex_digit (c % 16) low), rw (digit_value-digit_char (c / 16) (omega arith), digit_value-digit_char (c % 16) (omega arith)) sum)
 
-bytes_written : (quote : ℕ) (bytes : List ℕ) → HasBytes (Text bytes) → SpellBytes quote bytes (map (byte_text quote) bytes)
+bytes_written : (quote : ℕ) (bytes : List ℕ) → are_bytes bytes ≡ true → SpellBytes quote bytes (map (byte_text quote) bytes)
 bytes_written quote [] small = tt
-bytes_written quote (b ∷ bytes) small = (byte_written quote b (small 0), bytes_written quote bytes (λ i. small (suc i)))
+bytes_written quote (b ∷ bytes) small = by (nat_lt b 256) refl small (λ others. bytes_written quote bytes others)
+  where
+    by : (t : Bool) → nat_lt b 256 ≡ t → (t && are_bytes bytes) ≡ true → (are_bytes bytes ≡ true → SpellBytes quote bytes (map (byte_text quote) bytes)) → SpellBytes quote (b ∷ bytes) (map (byte_text quote) (b ∷ bytes))
+    by true low others rest = (byte_written quote b (grind (arith, nat_tests)), rest others)
+    by false high others rest = absurd cc
 
 joined_texts : (f : ℕ → List ℕ) (xs : List ℕ) → joined (map f xs) ≡ flat_map f xs
 joined_texts f xs = flat_map-map (λ (t : List ℕ). t) f xs
 
--- ---- references
-
-pub no_digits : (n : ℕ) → hex_digits 0 n ≡ []
-unfolding hex_digits
-no_digits n = refl
-
-pub one_digit_more : (k n : ℕ) → hex_digits (suc k) n ≡ hex_digits k (n / 16) ++ digit_char (n % 16) ∷ []
-unfolding hex_digits
-one_digit_more k n = refl
-
-record AreHex (k n : ℕ) : Type 0 where
-  size : length (hex_digits k n) ≡ k
-  small : list_all is_small_digit (hex_digits k n) ≡ true
-  value : n < 16 ^ k → digits_value 16 (hex_digits k n) ≡ n
-
-small_digit_char : (d : ℕ) → d < 16 → is_small_digit (digit_char d) ≡ true
-small_digit_char d h = grind (arith, nat_tests)
-
-are_hex : (k n : ℕ) → AreHex k n
-are_hex zero n = record {
-  size = ap length (no_digits n);
-  small = ap (list_all is_small_digit) (no_digits n);
-  value = λ lt. (let is : 0 ≡ n = omega arith in ap (digits_value 16) (no_digits n) ∙ is);
-}
-are_hex (suc k) n =
-    let before = are_hex k (n / 16) in
-    let whole = one_digit_more k n in
-    let low : n % 16 < 16 = omega arith in
-    record {
-      size = ap length whole ∙ (omega (arith, length-append (hex_digits k (n / 16)) (digit_char (n % 16) ∷ []), before.size));
-      small = ap (list_all is_small_digit) whole ∙ list_all-append is_small_digit (hex_digits k (n / 16)) (digit_char (n % 16) ∷ []) ∙ (rw (before.small, small_digit_char (n % 16) low) refl);
-      value = λ lt.
-          (let front : n / 16 < 16 ^ k = omega (arith, pow-suc 16 k) in
-          let last = digit_value-digit_char (n % 16) (omega arith) in
-          ap (digits_value 16) whole ∙ digits_value_push 16 (hex_digits k (n / 16)) (digit_char (n % 16)) ∙ omega (arith, before.value front, last));
-    }
-
-pid_written : (pid : Pid) → pid.home < 2 ^ 32 → pid.serial < 2 ^ 64 → IsReference (Some pid) (hex_digits 8 pid.home ++ hex_digits 16 pid.serial)
-pid_written pid home serial =
-    let h = are_hex 8 pid.home in
-    let s = are_hex 16 pid.serial in
-    let size : length (hex_digits 8 pid.home ++ hex_digits 16 pid.serial) ≡ 24 = omega (arith, length-append (hex_digits 8 pid.home) (hex_digits 16 pid.serial), h.size, s.size) in
-    let all : list_all is_small_digit (hex_digits 8 pid.home ++ hex_digits 16 pid.serial) ≡ true = list_all-append is_small_digit (hex_digits 8 pid.home) (hex_digits 16 pid.serial) ∙ (rw (h.small, s.small) refl) in
-    let first : pid.home ≡ digits_value 16 (take 8 (hex_digits 8 pid.home ++ hex_digits 16 pid.serial)) = sym (ap (digits_value 16) (take_at (hex_digits 8 pid.home) (hex_digits 16 pid.serial) 8 h.size) ∙ h.value home) in
-    let second : pid.serial ≡ digits_value 16 (drop 8 (hex_digits 8 pid.home ++ hex_digits 16 pid.serial)) = sym (ap (digits_value 16) (drop_at (hex_digits 8 pid.home) (hex_digits 16 pid.serial) 8 h.size) ∙ s.value serial) in
-    (rw (eq-eqb (length (hex_digits 8 pid.home ++ hex_digits 16 pid.serial)) 24 size) all, λ i. record { home = first i; serial = second i })
-
 -- ---- values
 
-each_written : (P : PlainValue → Type 0) (W : PlainValue → List ℕ → Type 0) (print : PlainValue → List ℕ) → ((v : PlainValue) → P v → HasBytes v → W v (print v)) → (vs : PlainValues) → EachOf P vs → HaveBytes vs → EachWritten W vs (each_printed print vs)
-each_written P W print written no_values of bytes = tt
-each_written P W print written (value_and v vs) of bytes = (written v of.0 bytes.0, each_written P W print written vs of.1 bytes.1)
+each_written : (P : PlainValue → Type 0) (W : PlainValue → List ℕ → Type 0) (print : PlainValue → List ℕ) → ((v : PlainValue) → P v → W v (print v)) → (vs : PlainValues) → EachOf P vs → EachWritten W vs (each_printed print vs)
+each_written P W print written no_values of = tt
+each_written P W print written (value_and v vs) of = (written v of.0, each_written P W print written vs of.1)
 
 mutual
-  pub printed_writes : (t : PlainType) (v : PlainValue) → Of t v → HasBytes v → Writes t v (printed t v)
-  printed_writes Short (Int z) of bytes = number_written z (omega (arith, ints, of), omega (arith, ints, of))
-  printed_writes Long (Int z) of bytes = number_written z (omega (arith, ints, of), omega (arith, ints, of))
-  printed_writes LongLong (Int z) of bytes = number_written z (omega (arith, ints, of), omega (arith, ints, of))
-  printed_writes UShort (Int z) of bytes = number_written z (omega (arith, ints, of), omega (arith, ints, of))
-  printed_writes ULong (Int z) of bytes = number_written z (omega (arith, ints, of), omega (arith, ints, of))
-  printed_writes ULongLong (Int z) of bytes = number_written z (omega (arith, ints, of), omega (arith, ints, of))
-  printed_writes Octet (Int z) of bytes = number_written z (omega (arith, ints, of), omega (arith, ints, of))
-  printed_writes Char (Character c) of bytes = (byte_text 39 c, byte_written 39 c of, refl)
-  printed_writes Boolean (Truth b) of bytes = refl
-  printed_writes (Str bound) (Text text) of bytes = (map (byte_text 34) text, bytes_written 34 text bytes, ap (λ (l : List ℕ). 34 ∷ (l ++ 34 ∷ [])) (sym (joined_texts (byte_text 34) text)))
-  printed_writes (Seq item bound) (Items vs) of bytes = (each_printed (printed item) vs, each_written (Of item) (Writes item) (printed item) (printed_writes item) vs of.0 bytes, refl)
-  printed_writes (Arr item n) (Items vs) of bytes = (each_printed (printed item) vs, each_written (Of item) (Writes item) (printed item) (printed_writes item) vs of.0 bytes, refl)
-  printed_writes (Struct fields) (Parts vs) of bytes = (fields_printed fields vs, fields_write fields vs of bytes, refl)
-  printed_writes (Enum names) (Ordinal n) of bytes = slice_get-get_or names n [] of.0 ∙ ap Some (sym (unwrap_or-slice_get names n []))
-  printed_writes (RefTo homes) (Ref None) of bytes = refl
-  printed_writes (RefTo homes) (Ref (Some pid)) of bytes = pid_written pid of.1 of.3
-  printed_writes _ _ of bytes = absurd of
+  pub printed_writes : (t : PlainType) (v : PlainValue) → Of t v → Writes t v (printed t v)
+  printed_writes Short (Int z) of = number_written z (omega (arith, ints, of), omega (arith, ints, of))
+  printed_writes Long (Int z) of = number_written z (omega (arith, ints, of), omega (arith, ints, of))
+  printed_writes LongLong (Int z) of = number_written z (omega (arith, ints, of), omega (arith, ints, of))
+  printed_writes UShort (Int z) of = number_written z (omega (arith, ints, of), omega (arith, ints, of))
+  printed_writes ULong (Int z) of = number_written z (omega (arith, ints, of), omega (arith, ints, of))
+  printed_writes ULongLong (Int z) of = number_written z (omega (arith, ints, of), omega (arith, ints, of))
+  printed_writes Octet (Int z) of = number_written z (omega (arith, ints, of), omega (arith, ints, of))
+  printed_writes Char (Character c) of = (byte_text 39 c, byte_written 39 c of, refl)
+  printed_writes Boolean (Truth b) of = refl
+  printed_writes (Str bound) (Text text) of = (map (byte_text 34) text, bytes_written 34 text of.3, ap (λ (l : List ℕ). 34 ∷ (l ++ 34 ∷ [])) (sym (joined_texts (byte_text 34) text)))
+  printed_writes (Seq item bound) (Items vs) of = (each_printed (printed item) vs, each_written (Of item) (Writes item) (printed item) (printed_writes item) vs of.0, refl)
+  printed_writes (Arr item n) (Items vs) of = (each_printed (printed item) vs, each_written (Of item) (Writes item) (printed item) (printed_writes item) vs of.0, refl)
+  printed_writes (Struct fs) (Parts vs) of = (fields_printed fs vs, fields_write fs vs of, refl)
+  printed_writes (Enum names) (Ordinal n) of = slice_get-get_or names n [] of.0 ∙ ap Some (sym (unwrap_or-slice_get names n []))
+  printed_writes (RefTo homes) (Ref None) of = refl
+  printed_writes (RefTo homes) (Ref (Some pid)) of = pid_again pid of.1 of.3
+  printed_writes _ _ of = absurd of
 
-  fields_write : (fields : PlainFields) (vs : PlainValues) → AreOf fields vs → HaveBytes vs → FieldsWritten fields vs (fields_printed fields vs)
-  fields_write no_fields no_values of bytes = tt
-  fields_write (field_and name t fields) (value_and v vs) of bytes = (printed_writes t v of.0 bytes.0, fields_write fields vs of.1 bytes.1)
-  fields_write no_fields (value_and v vs) of bytes = absurd of
-  fields_write (field_and name t fields) no_values of bytes = absurd of
+  fields_write : (fs : PlainFields) (vs : PlainValues) → AreOf fs vs → FieldsWritten fs vs (fields_printed fs vs)
+  fields_write no_fields no_values of = tt
+  fields_write (field_and name t fields) (value_and v vs) of = (printed_writes t v of.0, fields_write fields vs of.1)
+  fields_write no_fields (value_and v vs) of = absurd of
+  fields_write (field_and name t fields) no_values of = absurd of

@@ -1,22 +1,24 @@
 -- What the readers of words owe to them.
-use Rattle.std.proofs.Common.{◌≡◌, ℕ, zero, suc, ◌+◌, ◌^◌, ◌<◌, ◌≤◌, Bool, true, false, cond, eqb, List, [], ◌∷◌, length, drop, Some, None, refl, sym, ap, subst, ◌∙◌, arith, ℤ, pos, neg_ℤ}
+use Rattle.std.proofs.Common.{◌≡◌, ℕ, zero, suc, ◌+◌, ◌^◌, ◌<◌, ◌≤◌, Bool, true, false, cond, eqb, List, [], ◌∷◌, length, take, drop, Option, Some, None, refl, sym, ap, subst, ◌∙◌, arith, ℤ, pos, neg_ℤ}
 use Rattle.std.specs.Prelude.{not, nat_lt, ◌||◌, ◌&&◌, ◌<ℤ◌, codes, position}
 use Rattle.std.specs.List.{list_all, list_any, slice_get, position_from}
-use Rattle.std.specs.Char.{is_digit, digit_value}
+use Rattle.std.specs.Char.{is_digit}
 use Rattle.std.specs.Str.{bytes_eq}
-use Rattle.std.specs.Str.Parse.{AllDigits, digits_value, starts_with_minus}
+use Rattle.std.specs.Str.Parse.{digits_value, starts_with_minus}
 use Rattle.std.proofs.lemmas.Bool.{eqb-true, ne_eqb, lt-ltb}
 use Rattle.std.proofs.lemmas.Bool.Decides.{nat_tests}
 use Rattle.std.proofs.lemmas.Int.{ints}
 use Rattle.std.proofs.lemmas.Iterator.Adapters.{position_from-zero}
 use Rattle.std.proofs.lemmas.Slice.Eq.{bytes_eq-Decides}
 use Rattle.pss_base.specs.declared.pid.Pid.{Pid}
+use Rattle.pss_base.specs.Hexadecimal.{is_hex_digit}
+use Rattle.pss_base.specs.PidText.{pid_of, are_hex_digits}
 use Rattle.type_layout.specs.declared.home.HomeNo.{HomeNo}
 use Rattle.type_layout.specs.Types.{Boolean, Enum, RefTo, PlainValue, Int, Truth, Ordinal, Ref}
 use Rattle.type_layout.specs.Sound.{are_distinct, is_letter, is_word_byte, is_name, AreEnumerators}
-use Rattle.value_text.specs.Words.{digits_of, is_decimal, number_of, IsNumber, truth_text, is_small_digit, is_pid, pid_of}
+use Rattle.value_text.specs.Words.{digits_of, is_decimal, number_of, IsNumber, truth_text}
 use Rattle.value_text.specs.Texts.{Writes, Spells}
-use Rattle.value_text.specs.Reading.{is_part, word_at, number_in, truth_in, enumerator_in, reference_in}
+use Rattle.value_text.specs.Reading.{◌>>=◌, is_part, word_at, number_in, truth_in, enumerator_in, reference_in}
 use Rattle.value_text.proofs.Owing.{Takes, Reads, some_is, bind_some, let_through, both_true, all_weaker, word_takes, word_reads}
 
 -- a byte that is none of those that end a word
@@ -188,47 +190,39 @@ pub reference_takes : (homes : List HomeNo) → Takes (word_at reference_in) (Wr
 reference_takes homes = word_takes reference_in (Writes (RefTo homes)) means
   where
     means : (word : List ℕ) (x : PlainValue) → reference_in word ≡ Some x → Writes (RefTo homes) x word
-    means word x e = by_first (bytes_eq word (codes "nil")) refl (is_pid word) refl e
+    means word x e = by_first (bytes_eq word (codes "nil")) refl e
       where
-        by_first : (s : Bool) → bytes_eq word (codes "nil") ≡ s → (t : Bool) → is_pid word ≡ t → cond s (Some (Ref None)) (cond t (Some (Ref (Some (pid_of word)))) None) ≡ Some x → Writes (RefTo homes) x word
-        by_first true first t second e = subst (λ (v : PlainValue). Writes (RefTo homes) v word) (some_is (Ref None) x e) (eq_bytes word (codes "nil") first)
-        by_first false first true second e = subst (λ (v : PlainValue). Writes (RefTo homes) v word) (some_is (Ref (Some (pid_of word))) x e) (second, refl)
-        by_first false first false second e = absurd cc
+        by_first : (s : Bool) → bytes_eq word (codes "nil") ≡ s → cond s (Some (Ref None)) (pid_of word >>= λ pid. Some (Ref (Some pid))) ≡ Some x → Writes (RefTo homes) x word
+        by_first true first e = subst (λ (v : PlainValue). Writes (RefTo homes) v word) (some_is (Ref None) x e) (eq_bytes word (codes "nil") first)
+        by_first false first e =
+            let b = bind_some (pid_of word) (λ pid. Some (Ref (Some pid))) x e in
+            subst (λ (v : PlainValue). Writes (RefTo homes) v word) (some_is (Ref (Some b.0)) x b.2) b.1
 
-small_digit_is_part : (b : ℕ) → is_small_digit b ≡ true → is_part b ≡ true
-small_digit_is_part b h = part_is b (λ e. absurd (let no : is_small_digit 32 ≡ true = ap is_small_digit (sym e) ∙ h in cc)) (λ e. absurd (let no : is_small_digit 9 ≡ true = ap is_small_digit (sym e) ∙ h in cc)) (λ e. absurd (let no : is_small_digit 44 ≡ true = ap is_small_digit (sym e) ∙ h in cc)) (λ e. absurd (let no : is_small_digit 93 ≡ true = ap is_small_digit (sym e) ∙ h in cc)) (λ e. absurd (let no : is_small_digit 125 ≡ true = ap is_small_digit (sym e) ∙ h in cc))
-
--- each is a hexadecimal digit
-pub hexadecimal_digits : (ds : List ℕ) → list_all is_small_digit ds ≡ true → AllDigits 16 ds
-hexadecimal_digits [] h = tt
-hexadecimal_digits (d ∷ ds) h =
-    let t = both_true (is_small_digit d) (list_all is_small_digit ds) h in
-    (small_digit_value d t.0, hexadecimal_digits ds t.1)
-  where
-    small_digit_value : (d : ℕ) → is_small_digit d ≡ true → digit_value d < 16
-    small_digit_value d h = grind (arith, nat_tests)
-
--- what all pass, those behind the first pass
-pub all_behind : (p : ℕ → Bool) (n : ℕ) (xs : List ℕ) → list_all p xs ≡ true → list_all p (drop n xs) ≡ true
-all_behind p zero xs h = h
-all_behind p (suc n) [] h = refl
-all_behind p (suc n) (x ∷ xs) h = all_behind p n xs (both_true (p x) (list_all p xs) h).1
+hex_digit_is_part : (b : ℕ) → is_hex_digit b ≡ true → is_part b ≡ true
+hex_digit_is_part b h = part_is b (λ e. absurd (let no : is_hex_digit 32 ≡ true = ap is_hex_digit (sym e) ∙ h in cc)) (λ e. absurd (let no : is_hex_digit 9 ≡ true = ap is_hex_digit (sym e) ∙ h in cc)) (λ e. absurd (let no : is_hex_digit 44 ≡ true = ap is_hex_digit (sym e) ∙ h in cc)) (λ e. absurd (let no : is_hex_digit 93 ≡ true = ap is_hex_digit (sym e) ∙ h in cc)) (λ e. absurd (let no : is_hex_digit 125 ≡ true = ap is_hex_digit (sym e) ∙ h in cc))
 
 -- 24 digits are not `nil`
-pid_is_not_nil : (word : List ℕ) → is_pid word ≡ true → bytes_eq word (codes "nil") ≡ false
+pid_is_not_nil : (word : List ℕ) → are_hex_digits 24 word ≡ true → bytes_eq word (codes "nil") ≡ false
 pid_is_not_nil word h = by_test (bytes_eq word (codes "nil")) refl
   where
     by_test : (t : Bool) → bytes_eq word (codes "nil") ≡ t → t ≡ false
-    by_test true same = (let no : is_pid (codes "nil") ≡ true = ap is_pid (sym (eq_bytes word (codes "nil") same)) ∙ h in absurd cc)
+    by_test true same = (let no : are_hex_digits 24 (codes "nil") ≡ true = ap (are_hex_digits 24) (sym (eq_bytes word (codes "nil") same)) ∙ h in absurd cc)
     by_test false other = refl
+
+-- the text of a pid has its digits
+pid_has_digits : (word : List ℕ) (pid : Pid) → pid_of word ≡ Some pid → are_hex_digits 24 word ≡ true
+pid_has_digits word pid e =
+    (let_through (are_hex_digits 24 word) (record { home = digits_value 16 (take 8 word); serial = digits_value 16 (drop 8 word) }) pid e).0
 
 pub reference_reads : (homes : List HomeNo) → Reads (word_at reference_in) (Spells (RefTo homes))
 reference_reads homes = word_reads reference_in (Spells (RefTo homes)) means
   where
     means : (x : PlainValue) (word : List ℕ) → Spells (RefTo homes) x word → (list_all is_part word ≡ true) × (reference_in word ≡ Some x)
     means (Ref None) word w = (ap (list_all is_part) w.1, ap reference_in w.1)
-    means (Ref (Some pid)) word w = (
-      all_weaker is_small_digit is_part small_digit_is_part word (both_true (eqb (length word) 24) (list_all is_small_digit word) w.1.0).1,
-      rw (pid_is_not_nil word w.1.0, w.1.0) (ap (λ (p : Pid). Some (Ref (Some p))) (sym w.1.1)),
-    )
+    means (Ref (Some pid)) word w =
+        let digits = pid_has_digits word pid w.1 in
+        let other : reference_in word ≡ (pid_of word >>= λ (p : Pid). Some (Ref (Some p))) = ap (λ (t : Bool). cond t (Some (Ref None)) (pid_of word >>= λ (p : Pid). Some (Ref (Some p)))) (pid_is_not_nil word digits) in (
+          all_weaker is_hex_digit is_part hex_digit_is_part word (both_true (eqb (length word) 24) (list_all is_hex_digit word) digits).1,
+          other ∙ ap (λ (r : Option Pid). r >>= λ (p : Pid). Some (Ref (Some p))) w.1,
+        )
     means _ word w = absurd w.0

@@ -4,3 +4,4 @@ pub mod Texts
 pub mod Printed
 pub mod Laws
 pub mod Reading
+pub mod Line

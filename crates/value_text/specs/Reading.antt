@@ -4,10 +4,12 @@ use Rattle.std.specs.List.{take_while, prefix_len}
 use Rattle.std.specs.Str.{bytes_eq}
 use Rattle.std.specs.Char.{is_digit, digit_value}
 use Rattle.std.specs.Str.Parse.{digits_value}
+use Rattle.pss_base.specs.Blanks.{is_blank}
+use Rattle.pss_base.specs.PidText.{pid_of}
 use Rattle.type_layout.specs.Types.{PlainType, Short, Long, LongLong, UShort, ULong, ULongLong, Char, Boolean, Octet, Str, Seq, Arr, Struct, Enum, RefTo, PlainFields, no_fields, field_and, PlainValue, Int, Character, Truth, Ordinal, Text, Items, Parts, Ref, values_of}
 use Rattle.value_text.specs.declared.fault.ValueFault.{ValueFault}
 use Rattle.value_text.specs.declared.fault.ValueFault.TheVariants.{BadValue, NoMemory}
-use Rattle.value_text.specs.Words.{digits_of, is_decimal, number_of, truth_text, is_pid, pid_of}
+use Rattle.value_text.specs.Words.{digits_of, is_decimal, number_of, truth_text}
 use Rattle.value_text.specs.Letters.{is_raw, is_escaped}
 
 infixl 10 ◌>>=◌
@@ -43,7 +45,7 @@ seen f read text = read text >>= λ x. Some (f x.0, x.1)
 
 -- a byte in a word: no blank, comma or closing bracket
 abbrev pub is_part : ℕ → Bool
-is_part b = not (b == 32 || b == 9 || b == 44 || b == 93 || b == 125)
+is_part b = not (is_blank b || b == 44 || b == 93 || b == 125)
 
 -- the bytes up to the first that is in no word, by their meaning
 abbrev pub word_at : {A : Type 0} → (List ℕ → Option A) → Reader A
@@ -66,8 +68,7 @@ enumerator_in names word = position (λ name. bytes_eq name word) names >>= λ n
 abbrev pub reference_in : List ℕ → Option PlainValue
 reference_in word =
     if bytes_eq word (codes "nil") then Some (Ref None)
-    else if is_pid word then Some (Ref (Some (pid_of word)))
-    else None
+    else pid_of word >>= λ pid. Some (Ref (Some pid))
 
 -- ---- bytes between quotes
 

@@ -1,6 +1,7 @@
 -- Which texts are spellings of a value, and where one stands in a line.
-use Rattle.std.specs.Prelude.{ℕ, ◌≡◌, ◌≤◌, ◌-◌, List, [], ◌∷◌, ◌++◌, length, take, drop, Some, Bool, true, ◌||◌, ◌==◌, IsTrue}
+use Rattle.std.specs.Prelude.{ℕ, ◌≡◌, ◌≤◌, ◌-◌, List, [], ◌∷◌, ◌++◌, length, take, drop, Some, Bool, true, IsTrue}
 use Rattle.std.specs.List.{slice_get, flat_map}
+use Rattle.pss_base.specs.Blanks.{is_blank}
 use Rattle.type_layout.specs.Types.{PlainType, Short, Long, LongLong, UShort, ULong, ULongLong, Char, Boolean, Octet, Str, Seq, Arr, Struct, Enum, RefTo, PlainFields, no_fields, field_and, PlainValue, Int, Character, Truth, Ordinal, Text, Items, Parts, Ref, PlainValues, no_values, value_and}
 use Rattle.type_layout.specs.Values.{Of}
 use Rattle.type_layout.specs.ShapeText.{listed}
@@ -54,7 +55,7 @@ Spells type value text = Of type value × Writes type value text
 -- nothing follows, or a blank does
 abbrev pub is_at_end : List ℕ → Bool
 is_at_end [] = true
-is_at_end (b ∷ rest) = b == 32 || b == 9
+is_at_end (b ∷ rest) = is_blank b
 
 -- from one place up to another, which is a blank or the text's end, stands a spelling of the value
 pub record Stands (type : PlainType) (text : List ℕ) (at : ℕ) (value : PlainValue) (end : ℕ) : Type 0 where

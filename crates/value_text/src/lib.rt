@@ -4,6 +4,7 @@
 mod digits;
 mod fault;
 mod laws;
+mod line;
 mod print;
 mod quoted;
 mod read;
@@ -12,8 +13,6 @@ mod words;
 
 pub use fault::ValueFault;
 pub use laws::{one_value, spelling_stands};
+pub use line::{LineFault, read_values};
 pub use print::print_value;
 pub use read::read_value;
-
-#[cfg(test)]
-mod tests;

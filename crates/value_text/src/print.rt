@@ -1,21 +1,19 @@
 // From values to texts.
-ghost use Rattle.std.specs.Prelude.{◌≡◌, ◌++◌, ◌<◌, [], map, length, IfOk, OnOk, unwrap_or};
+ghost use Rattle.std.specs.Prelude.{◌≡◌, ◌++◌, ◌∷◌, ◌<◌, [], map, length, IfOk, OnOk, unwrap_or};
 ghost use Rattle.std.specs.List.{flat_map, slice_get};
-ghost use Rattle.std.specs.Char.{digit_char};
 ghost use Rattle.std.specs.Fmt.{signed_decimal};
-ghost use Rattle.type_layout.specs.Types.{Short, Long, LongLong, UShort, ULong, ULongLong, Char, Boolean, Octet, Str, Seq, Arr, Struct, Enum, RefTo, Text, fields_of, values_of};
+ghost use Rattle.type_layout.specs.Types.{fields_of, values_of};
 ghost use Rattle.type_layout.specs.Views.{plain_type, plain_field, plain_fields, plain_value};
 ghost use Rattle.type_layout.specs.Values.{Of, AreOf, EachOf};
 ghost use Rattle.type_layout.specs.ShapeText.{listed};
 ghost use Rattle.value_text.specs.Words.{truth_text};
-ghost use Rattle.value_text.specs.Letters.{is_escaped};
-ghost use Rattle.value_text.specs.Printed.{byte_text, hex_digits, reference_text, each_printed, printed, fields_printed, HasBytes, HaveBytes};
+ghost use Rattle.value_text.specs.Printed.{byte_text, reference_text, plain_text, items_in, parts_in, ordinal_in, each_printed, list_printed, printed, fields_printed};
 ghost use Rattle.value_text.specs.Texts.{Spells};
 
 use itoa::Buffer;
-use pss_base::{Bytes, NoMemory, Pid};
+use pss_base::{Bytes, NoMemory, Pid, append_pid, hex_digit};
 use std::alloc::Global;
-use type_layout::{Field, Fields, HomeNos, Names, Ty, Value};
+use type_layout::{Field, Fields, Names, Ty, Value};
 
 /// The text of a value of the type: numbers without leading zeros, bytes from a space to `~` as they are,
 /// but the quote and `\` behind a `\`, and other bytes as `\x` and two digits with small letters. It is a
@@ -31,17 +29,6 @@ pub fn print_value(alloc: Global, ty: &Ty, value: &Value) -> Result<Bytes, NoMem
     Ok(out)
 }
 
-fn digit_char(digit: u8) -> u8
-    requires { digit < 16 }
-    ensures { result ≡ digit_char digit }
-{
-    if digit < 10 {
-        b'0' + digit
-    } else {
-        b'a' + (digit - 10)
-    }
-}
-
 fn put_byte(out: &mut Bytes, quote: u8, byte: u8) -> Result<(), NoMemory>
     ensures { OnOk result (out.new ≡ out.old ++ byte_text quote byte) }
 {
@@ -51,28 +38,15 @@ fn put_byte(out: &mut Bytes, quote: u8, byte: u8) -> Result<(), NoMemory>
     if matches!(byte, b' '..=b'~') {
         return out.push(byte);
     }
-    out.extend(&[b'\\', b'x', digit_char(byte / 16), digit_char(byte % 16)])
+    out.extend(&[b'\\', b'x', hex_digit(byte / 16), hex_digit(byte % 16)])
 }
 
 fn put_bytes(out: &mut Bytes, quote: u8, bytes: &[u8]) -> Result<(), NoMemory>
-    ensures text { OnOk result (out.new ≡ out.old ++ flat_map (byte_text quote) bytes.now) }
-    ensures bytes { HasBytes (Text bytes.now) }
+    ensures { OnOk result (out.new ≡ out.old ++ flat_map (byte_text quote) bytes.now) }
 {
     for byte in bytes {
         put_byte(out, quote, *byte)?;
     }
-    Ok(())
-}
-
-// The last digits of a number, in hexadecimal.
-fn put_hex(out: &mut Bytes, digits: u8, number: u64) -> Result<(), NoMemory>
-    ensures { OnOk result (out.new ≡ out.old ++ hex_digits digits number) }
-{
-    if digits == 0 {
-        return Ok(());
-    }
-    put_hex(out, digits - 1, number / 16)?;
-    out.push(digit_char((number % 16) as u8))?;
     Ok(())
 }
 
@@ -82,8 +56,7 @@ fn put_reference(out: &mut Bytes, pid: Option<Pid>) -> Result<(), NoMemory>
     let Some(pid) = pid else {
         return out.extend(b"nil");
     };
-    put_hex(out, 8, u64::from(pid.home))?;
-    put_hex(out, 16, pid.serial)
+    append_pid(out, pid)
 }
 
 fn put_truth(out: &mut Bytes, truth: bool) -> Result<(), NoMemory>
@@ -98,124 +71,14 @@ fn put_number(out: &mut Bytes, number: i128) -> Result<(), NoMemory>
     out.extend(Buffer::new().format(number).as_bytes())
 }
 
-fn put_short(out: &mut Bytes, value: &Value) -> Result<(), NoMemory>
-    requires { Of Short (plain_value value.now) }
-    ensures text { OnOk result (out.new ≡ out.old ++ printed Short (plain_value value.now)) }
-    ensures bytes { OnOk result (HasBytes (plain_value value.now)) }
+// Bytes between two quotes.
+fn put_quoted(out: &mut Bytes, quote: u8, bytes: &[u8]) -> Result<(), NoMemory>
+    ensures { OnOk result (out.new ≡ out.old ++ quote ∷ (flat_map (byte_text quote) bytes.now ++ quote ∷ [])) }
 {
-    match value {
-        Value::Int(number) => put_number(out, *number),
-        _ => unreachable!(),
-    }
-}
-
-fn put_long(out: &mut Bytes, value: &Value) -> Result<(), NoMemory>
-    requires { Of Long (plain_value value.now) }
-    ensures text { OnOk result (out.new ≡ out.old ++ printed Long (plain_value value.now)) }
-    ensures bytes { OnOk result (HasBytes (plain_value value.now)) }
-{
-    match value {
-        Value::Int(number) => put_number(out, *number),
-        _ => unreachable!(),
-    }
-}
-
-fn put_long_long(out: &mut Bytes, value: &Value) -> Result<(), NoMemory>
-    requires { Of LongLong (plain_value value.now) }
-    ensures text { OnOk result (out.new ≡ out.old ++ printed LongLong (plain_value value.now)) }
-    ensures bytes { OnOk result (HasBytes (plain_value value.now)) }
-{
-    match value {
-        Value::Int(number) => put_number(out, *number),
-        _ => unreachable!(),
-    }
-}
-
-fn put_ushort(out: &mut Bytes, value: &Value) -> Result<(), NoMemory>
-    requires { Of UShort (plain_value value.now) }
-    ensures text { OnOk result (out.new ≡ out.old ++ printed UShort (plain_value value.now)) }
-    ensures bytes { OnOk result (HasBytes (plain_value value.now)) }
-{
-    match value {
-        Value::Int(number) => put_number(out, *number),
-        _ => unreachable!(),
-    }
-}
-
-fn put_ulong(out: &mut Bytes, value: &Value) -> Result<(), NoMemory>
-    requires { Of ULong (plain_value value.now) }
-    ensures text { OnOk result (out.new ≡ out.old ++ printed ULong (plain_value value.now)) }
-    ensures bytes { OnOk result (HasBytes (plain_value value.now)) }
-{
-    match value {
-        Value::Int(number) => put_number(out, *number),
-        _ => unreachable!(),
-    }
-}
-
-fn put_ulong_long(out: &mut Bytes, value: &Value) -> Result<(), NoMemory>
-    requires { Of ULongLong (plain_value value.now) }
-    ensures text { OnOk result (out.new ≡ out.old ++ printed ULongLong (plain_value value.now)) }
-    ensures bytes { OnOk result (HasBytes (plain_value value.now)) }
-{
-    match value {
-        Value::Int(number) => put_number(out, *number),
-        _ => unreachable!(),
-    }
-}
-
-fn put_octet(out: &mut Bytes, value: &Value) -> Result<(), NoMemory>
-    requires { Of Octet (plain_value value.now) }
-    ensures text { OnOk result (out.new ≡ out.old ++ printed Octet (plain_value value.now)) }
-    ensures bytes { OnOk result (HasBytes (plain_value value.now)) }
-{
-    match value {
-        Value::Int(number) => put_number(out, *number),
-        _ => unreachable!(),
-    }
-}
-
-fn put_char(out: &mut Bytes, value: &Value) -> Result<(), NoMemory>
-    requires { Of Char (plain_value value.now) }
-    ensures text { OnOk result (out.new ≡ out.old ++ printed Char (plain_value value.now)) }
-    ensures bytes { OnOk result (HasBytes (plain_value value.now)) }
-{
-    match value {
-        Value::Char(byte) => {
-            out.push(b'\'')?;
-            put_byte(out, b'\'', *byte)?;
-            out.push(b'\'')?;
-            Ok(())
-        }
-        _ => unreachable!(),
-    }
-}
-
-fn put_boolean(out: &mut Bytes, value: &Value) -> Result<(), NoMemory>
-    requires { Of Boolean (plain_value value.now) }
-    ensures text { OnOk result (out.new ≡ out.old ++ printed Boolean (plain_value value.now)) }
-    ensures bytes { OnOk result (HasBytes (plain_value value.now)) }
-{
-    match value {
-        Value::Bool(truth) => put_truth(out, *truth),
-        _ => unreachable!(),
-    }
-}
-
-fn put_string(out: &mut Bytes, bound: u32, value: &Value) -> Result<(), NoMemory>
-    requires { Of (Str bound) (plain_value value.now) }
-    ensures text { OnOk result (out.new ≡ out.old ++ printed (Str bound) (plain_value value.now)) }
-    ensures bytes { OnOk result (HasBytes (plain_value value.now)) }
-{
-    match value {
-        Value::Str(bytes) => {
-            out.push(b'"')?;
-            put_bytes(out, b'"', bytes.as_slice())?;
-            out.push(b'"')?;
-            Ok(())
-        }
-        _ => unreachable!(),
-    }
+    out.push(quote)?;
+    put_bytes(out, quote, bytes)?;
+    out.push(quote)?;
+    Ok(())
 }
 
 fn put_name(out: &mut Bytes, names: &Names, ordinal: u32) -> Result<(), NoMemory>
@@ -226,94 +89,91 @@ fn put_name(out: &mut Bytes, names: &Names, ordinal: u32) -> Result<(), NoMemory
     Ok(())
 }
 
-fn put_enumerator(out: &mut Bytes, names: &Names, value: &Value) -> Result<(), NoMemory>
-    requires { Of (Enum names.now) (plain_value value.now) }
-    ensures text { OnOk result (out.new ≡ out.old ++ printed (Enum names.now) (plain_value value.now)) }
-    ensures bytes { OnOk result (HasBytes (plain_value value.now)) }
+// What is printed without its type.
+fn put_plain(out: &mut Bytes, value: &Value) -> Result<(), NoMemory>
+    ensures { OnOk result (out.new ≡ out.old ++ plain_text (plain_value value.now)) }
 {
     match value {
-        Value::Enum(ordinal) => put_name(out, names, *ordinal),
-        _ => unreachable!(),
+        Value::Int(number) => put_number(out, *number),
+        Value::Char(byte) => put_quoted(out, b'\'', &[*byte]),
+        Value::Bool(truth) => put_truth(out, *truth),
+        Value::Str(bytes) => put_quoted(out, b'"', bytes.as_slice()),
+        Value::Ref(pid) => put_reference(out, *pid),
+        Value::Enum(_) => Ok(()),
+        Value::List(_) => Ok(()),
+        Value::Struct(_) => Ok(()),
     }
 }
 
-fn put_object(out: &mut Bytes, homes: &HomeNos, value: &Value) -> Result<(), NoMemory>
-    requires { Of (RefTo homes.now) (plain_value value.now) }
-    ensures text { OnOk result (out.new ≡ out.old ++ printed (RefTo homes.now) (plain_value value.now)) }
-    ensures bytes { OnOk result (HasBytes (plain_value value.now)) }
+fn items_of(value: &Value) -> &[Value]
+    ensures { values_of (map plain_value result.now) ≡ items_in (plain_value value.now) }
 {
     match value {
-        Value::Ref(pid) => put_reference(out, *pid),
-        _ => unreachable!(),
+        Value::List(items) => items.as_slice(),
+        _ => &[],
+    }
+}
+
+fn parts_of(value: &Value) -> &[Value]
+    ensures { values_of (map plain_value result.now) ≡ parts_in (plain_value value.now) }
+{
+    match value {
+        Value::Struct(parts) => parts.as_slice(),
+        _ => &[],
+    }
+}
+
+fn ordinal_of(value: &Value) -> u32
+    ensures { result ≡ ordinal_in (plain_value value.now) }
+{
+    match value {
+        Value::Enum(ordinal) => *ordinal,
+        _ => 0,
     }
 }
 
 #[cycle(put)]
+#[tactic(auto, using(crate::proofs::Printing::parts_fit, crate::proofs::Printing::ordinal_fits))]
 fn put(out: &mut Bytes, ty: &Ty, value: &Value) -> Result<(), NoMemory>
     requires { Of (plain_type ty.now) (plain_value value.now) }
-    ensures text { OnOk result (out.new ≡ out.old ++ printed (plain_type ty.now) (plain_value value.now)) }
-    ensures bytes { OnOk result (HasBytes (plain_value value.now)) }
+    ensures { OnOk result (out.new ≡ out.old ++ printed (plain_type ty.now) (plain_value value.now)) }
 {
     match ty {
-        Ty::Short => put_short(out, value),
-        Ty::Long => put_long(out, value),
-        Ty::LongLong => put_long_long(out, value),
-        Ty::UShort => put_ushort(out, value),
-        Ty::ULong => put_ulong(out, value),
-        Ty::ULongLong => put_ulong_long(out, value),
-        Ty::Char => put_char(out, value),
-        Ty::Boolean => put_boolean(out, value),
-        Ty::Octet => put_octet(out, value),
-        Ty::Str(bound) => put_string(out, *bound, value),
-        Ty::Seq(item, bound) => put_sequence(out, item, *bound, value),
-        Ty::Arr(item, count) => put_array(out, item, *count, value),
-        Ty::Struct(fields) => put_struct(out, fields, value),
-        Ty::Enum(names) => put_enumerator(out, names, value),
-        Ty::Ref(homes) => put_object(out, homes, value),
+        Ty::Short => put_plain(out, value),
+        Ty::Long => put_plain(out, value),
+        Ty::LongLong => put_plain(out, value),
+        Ty::UShort => put_plain(out, value),
+        Ty::ULong => put_plain(out, value),
+        Ty::ULongLong => put_plain(out, value),
+        Ty::Char => put_plain(out, value),
+        Ty::Boolean => put_plain(out, value),
+        Ty::Octet => put_plain(out, value),
+        Ty::Str(_) => put_plain(out, value),
+        Ty::Ref(_) => put_plain(out, value),
+        Ty::Enum(names) => put_name(out, names, ordinal_of(value)),
+        Ty::Seq(item, _) => put_items(out, item, items_of(value)),
+        Ty::Arr(item, _) => put_items(out, item, items_of(value)),
+        Ty::Struct(fields) => put_parts(out, fields, parts_of(value)),
     }
 }
 
 #[cycle(put)]
-fn put_sequence(out: &mut Bytes, item: &Ty, bound: u32, value: &Value) -> Result<(), NoMemory>
-    requires { Of (Seq (plain_type item.now) bound) (plain_value value.now) }
-    ensures text { OnOk result (out.new ≡ out.old ++ printed (Seq (plain_type item.now) bound) (plain_value value.now)) }
-    ensures bytes { OnOk result (HasBytes (plain_value value.now)) }
+fn put_items(out: &mut Bytes, item: &Ty, items: &[Value]) -> Result<(), NoMemory>
+    requires { EachOf (Of (plain_type item.now)) (values_of (map plain_value items.now)) }
+    ensures { OnOk result (out.new ≡ out.old ++ list_printed (printed (plain_type item.now)) (values_of (map plain_value items.now))) }
 {
-    match value {
-        Value::List(values) => {
-            out.push(b'[')?;
-            put_items(out, item, values.as_slice())?;
-            out.push(b']')?;
-            Ok(())
-        }
-        _ => unreachable!(),
-    }
+    out.push(b'[')?;
+    put_each(out, item, items)?;
+    out.push(b']')?;
+    Ok(())
 }
 
 #[cycle(put)]
-fn put_array(out: &mut Bytes, item: &Ty, count: u32, value: &Value) -> Result<(), NoMemory>
-    requires { Of (Arr (plain_type item.now) count) (plain_value value.now) }
-    ensures text { OnOk result (out.new ≡ out.old ++ printed (Arr (plain_type item.now) count) (plain_value value.now)) }
-    ensures bytes { OnOk result (HasBytes (plain_value value.now)) }
+fn put_each(out: &mut Bytes, item: &Ty, items: &[Value]) -> Result<(), NoMemory>
+    requires { EachOf (Of (plain_type item.now)) (values_of (map plain_value items.now)) }
+    ensures { OnOk result (out.new ≡ out.old ++ listed (each_printed (printed (plain_type item.now)) (values_of (map plain_value items.now)))) }
 {
-    match value {
-        Value::List(values) => {
-            out.push(b'[')?;
-            put_items(out, item, values.as_slice())?;
-            out.push(b']')?;
-            Ok(())
-        }
-        _ => unreachable!(),
-    }
-}
-
-#[cycle(put)]
-fn put_items(out: &mut Bytes, item: &Ty, values: &[Value]) -> Result<(), NoMemory>
-    requires { EachOf (Of (plain_type item.now)) (values_of (map plain_value values.now)) }
-    ensures text { OnOk result (out.new ≡ out.old ++ listed (each_printed (printed (plain_type item.now)) (values_of (map plain_value values.now)))) }
-    ensures bytes { OnOk result (HaveBytes (values_of (map plain_value values.now))) }
-{
-    let [first, others @ ..] = values else {
+    let [first, others @ ..] = items else {
         return Ok(());
     };
     put(out, item, first)?;
@@ -325,27 +185,20 @@ fn put_items(out: &mut Bytes, item: &Ty, values: &[Value]) -> Result<(), NoMemor
 }
 
 #[cycle(put)]
-fn put_struct(out: &mut Bytes, fields: &Fields, value: &Value) -> Result<(), NoMemory>
-    requires { Of (Struct (fields_of (plain_fields fields.now))) (plain_value value.now) }
-    ensures text { OnOk result (out.new ≡ out.old ++ printed (Struct (fields_of (plain_fields fields.now))) (plain_value value.now)) }
-    ensures bytes { OnOk result (HasBytes (plain_value value.now)) }
+fn put_parts(out: &mut Bytes, fields: &Fields, parts: &[Value]) -> Result<(), NoMemory>
+    requires { AreOf (fields_of (plain_fields fields.now)) (values_of (map plain_value parts.now)) }
+    ensures { OnOk result (out.new ≡ out.old ++ 123 ∷ (listed (fields_printed (fields_of (plain_fields fields.now)) (values_of (map plain_value parts.now))) ++ 125 ∷ [])) }
 {
-    match value {
-        Value::Struct(values) => {
-            out.push(b'{')?;
-            put_fields(out, fields.as_slice(), values.as_slice())?;
-            out.push(b'}')?;
-            Ok(())
-        }
-        _ => unreachable!(),
-    }
+    out.push(b'{')?;
+    put_fields(out, fields.as_slice(), parts)?;
+    out.push(b'}')?;
+    Ok(())
 }
 
 #[cycle(put)]
 fn put_field(out: &mut Bytes, field: &Field, value: &Value) -> Result<(), NoMemory>
     requires { Of (plain_field field.now).type (plain_value value.now) }
-    ensures text { OnOk result (out.new ≡ out.old ++ printed (plain_field field.now).type (plain_value value.now)) }
-    ensures bytes { OnOk result (HasBytes (plain_value value.now)) }
+    ensures { OnOk result (out.new ≡ out.old ++ printed (plain_field field.now).type (plain_value value.now)) }
 {
     put(out, &field.ty, value)
 }
@@ -353,8 +206,7 @@ fn put_field(out: &mut Bytes, field: &Field, value: &Value) -> Result<(), NoMemo
 #[cycle(put)]
 fn put_fields(out: &mut Bytes, fields: &[Field], values: &[Value]) -> Result<(), NoMemory>
     requires { AreOf (fields_of (map plain_field fields.now)) (values_of (map plain_value values.now)) }
-    ensures text { OnOk result (out.new ≡ out.old ++ listed (fields_printed (fields_of (map plain_field fields.now)) (values_of (map plain_value values.now)))) }
-    ensures bytes { OnOk result (HaveBytes (values_of (map plain_value values.now))) }
+    ensures { OnOk result (out.new ≡ out.old ++ listed (fields_printed (fields_of (map plain_field fields.now)) (values_of (map plain_value values.now)))) }
 {
     let [first, other_fields @ ..] = fields else {
         return Ok(());

@@ -1,17 +1,17 @@
 // Values that are written as one word.
-ghost use Rattle.std.specs.Prelude.{◌≡◌, ◌≤◌, ◌<◌, ◌^◌, length, drop, position, true};
+ghost use Rattle.std.specs.Prelude.{◌≡◌, ◌≤◌, length, drop, position};
 ghost use Rattle.std.specs.List.{take_while, prefix_len, list_all};
 ghost use Rattle.std.specs.Char.{is_digit as is_decimal_digit};
 ghost use Rattle.std.specs.Str.{bytes_eq};
-ghost use Rattle.std.specs.Str.Parse.{starts_with_minus, digits_value};
+ghost use Rattle.std.specs.Str.Parse.{starts_with_minus};
 ghost use Rattle.std.specs.Option.{option_map};
 ghost use Rattle.type_layout.specs.Views.{plain_value};
-ghost use Rattle.value_text.specs.Words.{digits_of, is_decimal, is_small_digit, is_pid, pid_of};
+ghost use Rattle.value_text.specs.Words.{digits_of, is_decimal};
 ghost use Rattle.value_text.specs.Reading.{Gives, is_part, word_at, number_in, truth_in, enumerator_in, reference_in};
 
 use crate::ValueFault;
 use crate::digits::{digits_value, is_digit};
-use pss_base::{Bytes, Pid};
+use pss_base::{Bytes, is_blank, read_pid};
 use type_layout::{Names, Value};
 
 /// What was read, and the text behind it.
@@ -20,7 +20,7 @@ pub(crate) type Read<'a, T> = Result<(T, &'a [u8]), ValueFault>;
 fn is_part(byte: u8) -> bool
     ensures { result ≡ is_part byte }
 {
-    !matches!(byte, b' ' | b'\t' | b',' | b']' | b'}')
+    !(is_blank(byte) || matches!(byte, b',' | b']' | b'}'))
 }
 
 fn word_len(text: &[u8]) -> usize
@@ -142,58 +142,13 @@ pub(crate) fn enumerator_of<'a>(names: &Names, text: &'a [u8]) -> Read<'a, Value
 
 // ---- references
 
-fn is_small_digit(byte: u8) -> bool
-    ensures { result ≡ is_small_digit byte }
-{
-    is_digit(byte, 10) || matches!(byte, b'a'..=b'f')
-}
-
-fn are_small_digits(word: &[u8]) -> bool
-    ensures { result ≡ list_all is_small_digit word.now }
-{
-    word.iter().all(|byte| is_small_digit(*byte))
-}
-
-fn is_pid(word: &[u8]) -> bool
-    ensures { result ≡ is_pid word.now }
-{
-    word.len() == 24 && are_small_digits(word)
-}
-
-// The number of at most 16 hexadecimal digits.
-fn hexadecimal(digits: &[u8]) -> u64
-    requires digits { list_all is_small_digit digits.now ≡ true }
-    requires few { length digits.now ≤ 16 }
-    ensures number { result ≡ digits_value 16 digits.now }
-    ensures small { result < 16 ^ length digits.now }
-{
-    let Some(number) = digits_value(16, digits) else {
-        unreachable!()
-    };
-    number
-}
-
-fn pid_of(word: &[u8]) -> Pid
-    requires { is_pid word.now ≡ true }
-    ensures { result ≡ pid_of word.now }
-{
-    let (home, serial) = word.split_at(8);
-    Pid {
-        home: hexadecimal(home) as u32,
-        serial: hexadecimal(serial),
-    }
-}
-
 fn reference_in(word: &[u8]) -> Option<Value>
     ensures { option_map plain_value result ≡ reference_in word.now }
 {
     if word == b"nil".as_slice() {
         return Some(Value::Ref(None));
     }
-    if !is_pid(word) {
-        return None;
-    }
-    Some(Value::Ref(Some(pid_of(word))))
+    Some(Value::Ref(Some(read_pid(word)?)))
 }
 
 /// Nil, or the identifier of an object.

@@ -9,5 +9,5 @@ pub returns-clause-spells : goal.returns-clause-spells
 returns-clause-spells c =
     let t = plain_type c.args.ty.now in
     let v = plain_value c.args.value.now in
-    let text = c.in_ok-put.ensures.text ∙ ap (λ (l : List ℕ). l ++ printed t v) c.new-out.ensures in
-    (c.requires, subst (λ (l : List ℕ). Writes t v l) (sym text) (printed_writes t v c.requires c.in_ok-put.ensures.bytes))
+    let text = c.in_ok-put.ensures ∙ ap (λ (l : List ℕ). l ++ printed t v) c.new-out.ensures in
+    (c.requires, subst (λ (l : List ℕ). Writes t v l) (sym text) (printed_writes t v c.requires))

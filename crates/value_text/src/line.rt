@@ -1,0 +1,90 @@
+// The values in the rest of a line.
+ghost use Rattle.std.specs.Prelude.{◌≡◌, ◌≤◌, ◌<◌, ◌+◌, ◌-◌, ◌^◌, [], length, map, IfOk};
+ghost use Rattle.type_layout.specs.Views.{plain_type, plain_values};
+ghost use Rattle.value_text.specs.Line.{Tells, pushed, first_value, values_from};
+ghost use Rattle.value_text.specs.declared.line.LineFault.TheVariants.{NoMemory as OutOfMemory};
+
+use crate::ValueFault;
+use crate::read::front_of;
+use pss_base::{NoMemory, skip_blanks};
+use std::alloc::Global;
+use type_layout::{Ty, Values};
+
+/// Why the values of a line were not read.
+#[derive(Clone, Copy, Debug, PartialEq, Eq, Drop)]
+pub enum LineFault {
+    /// The column of the first value that does not read or is one too many, or one past the end where
+    /// one is missing.
+    BadValue(u32),
+    /// There was no memory. It may come in place of any other answer.
+    NoMemory,
+}
+
+impl From<NoMemory> for LineFault {
+    ghost from_gives = { λ _ fault. fault ≡ OutOfMemory };
+
+    fn from(_: NoMemory) -> LineFault {
+        LineFault::NoMemory
+    }
+}
+
+/// The values that the rest of a line has, one of each type, with blanks in front of each and behind
+/// the last. The text begins at the column, and columns count bytes. A value ends at a blank or the
+/// end of the text, so two values without a blank between them do not read.
+///
+/// It goes over the text once, and takes memory for what it reads.
+pub fn read_values(
+    alloc: Global,
+    types: &[&Ty],
+    text: &[u8],
+    column: u32,
+) -> Result<Values, LineFault>
+    requires { column + length text.now < 2 ^ 32 }
+    ensures { Tells plain_values result (values_from (map (λ t. plain_type t.now) types.now) column text.now) }
+{
+    let end = column + text.len() as u32;
+    let mut values = Values::new(alloc);
+    let mut rest = text;
+    for ty in types {
+        rest = push_next(&mut values, alloc, ty, rest, end)?;
+    }
+    expect_end(rest, end)?;
+    Ok(values)
+}
+
+// Reads one value more.
+#[tactic(auto, using(crate::proofs::LineReading::one_more, crate::proofs::LineReading::none_more))]
+fn push_next<'a>(
+    values: &mut Values,
+    alloc: Global,
+    ty: &Ty,
+    text: &'a [u8],
+    end: u32,
+) -> Result<&'a [u8], LineFault>
+    requires { length text.now ≤ end }
+    ensures read { Tells (λ rest. (plain_values values.new, rest.now)) result (pushed (plain_values values.old) (first_value (plain_type ty.now) (end - length text.now) text.now)) }
+    ensures within { IfOk result (λ rest. length rest.now ≤ length text.now) }
+{
+    let front = skip_blanks(text);
+    match front_of(alloc, ty, front) {
+        Ok((value, rest)) => {
+            values.push(value)?;
+            Ok(rest)
+        }
+        Err(ValueFault::BadValue) => Err(LineFault::BadValue(end - front.len() as u32)),
+        Err(ValueFault::NoMemory) => Err(LineFault::NoMemory),
+    }
+}
+
+// Nothing but blanks is left.
+#[tactic(auto, using(crate::proofs::LineReading::ends_there, crate::proofs::LineReading::goes_on_there))]
+fn expect_end(text: &[u8], end: u32) -> Result<(), LineFault>
+    requires { length text.now ≤ end }
+    ensures { Tells (λ _. []) result (values_from [] (end - length text.now) text.now) }
+{
+    let rest = skip_blanks(text);
+    if rest.is_empty() {
+        return Ok(());
+    }
+    Err(LineFault::BadValue(end - rest.len() as u32))
+}

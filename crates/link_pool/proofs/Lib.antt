@@ -10,3 +10,8 @@ pub mod Added
 pub mod Heads
 pub mod Told
 pub mod Whole
+pub mod Bounds
+pub mod NodeLists
+pub mod RingChanges
+pub mod Refills
+pub mod Columns

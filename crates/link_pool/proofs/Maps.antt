@@ -1,5 +1,5 @@
 -- Finite maps that a function of numbers gives.
-use Rattle.std.proofs.Common.{ℕ, zero, suc, ◌≡◌, ◌≤◌, ◌<◌, ⊎_elim, cond, Option, Some, None, sym, ap, ◌∙◌, arith}
+use Rattle.std.proofs.Common.{ℕ, zero, suc, ◌≡◌, ◌≤◌, ◌<◌, ⊎_elim, cond, Option, Some, None, IsSome, sym, ap, ◌∙◌, subst, arith, rules}
 use Rattle.std.proofs.lemmas.Bool.{eq-eqb, cases_eq, cases_lt}
 use Rattle.std.specs.declared.cmp.Ordering.{Ordering}
 use Rattle.std.specs.Ordering.{nat_cmp}
@@ -23,13 +23,21 @@ module _ {K : Type 0} (number : K → ℕ) (name : ℕ → K) (named : (k : K) �
     abbrev pub table : ℕ → (ℕ → Option X) → map.FinMap by_number X
     table n f = tabulate name n f
 
-    get-here : (o : Option X) (k q : K) (m : map.FinMap by_number X) → number q ≡ number k → map.get (with_entry o k m) q ≡ o
+    pub get-here : (o : Option X) (k q : K) (m : map.FinMap by_number X) → number q ≡ number k → map.get (with_entry o k m) q ≡ o
     get-here None k q m e = map.get-remove total m k q ∙ ap (λ b. cond b None (map.get m q)) (unsigned_tied (number q) (number k) ∙ eq-eqb (number q) (number k) e)
     get-here (Some v) k q m e = map.get-insert total m k v q ∙ ap (λ b. cond b (Some v) (map.get m q)) (unsigned_tied (number q) (number k) ∙ eq-eqb (number q) (number k) e)
 
-    get-there : (o : Option X) (k q : K) (m : map.FinMap by_number X) → (number q ≡ number k → ⊥) → map.get (with_entry o k m) q ≡ map.get m q
+    pub get-there : (o : Option X) (k q : K) (m : map.FinMap by_number X) → (number q ≡ number k → ⊥) → map.get (with_entry o k m) q ≡ map.get m q
     get-there None k q m ne = map.get-remove total m k q ∙ ap (λ b. cond b None (map.get m q)) (unsigned_tied (number q) (number k) ∙ not_equal (number q) (number k) ne)
     get-there (Some v) k q m ne = map.get-insert total m k v q ∙ ap (λ b. cond b (Some v) (map.get m q)) (unsigned_tied (number q) (number k) ∙ not_equal (number q) (number k) ne)
+
+    -- a key that a map has stays, whatever comes in
+    pub stays : (m : map.FinMap by_number X) (k q : K) (v : X) → IsSome (map.get m q) → IsSome (map.get (map.insert m k v) q)
+    stays m k q v there =
+        ⊎_elim
+        (λ e. subst IsSome (sym (get-here (Some v) k q m e)) (search rules))
+        (λ ne. subst IsSome (sym (get-there (Some v) k q m ne)) there)
+        (cases_eq (number q) (number k))
 
     below : (n : ℕ) (f : ℕ → Option X) (q : K) → number q < n → map.get (table n f) q ≡ f (number q)
     below zero f q lt = absurd (omega (arith, lt))

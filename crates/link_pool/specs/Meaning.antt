@@ -1,5 +1,5 @@
 -- What a pool has: the list of nodes of each row and of each column, the seat of each node, and the room.
-use Rattle.std.specs.Prelude.{ℕ, ◌+◌, ◌-◌, List, [], ◌∷◌, ◌++◌, Option, refl}
+use Rattle.std.specs.Prelude.{ℕ, ◌+◌, ◌-◌, ◌<◌, ◌^◌, List, [], ◌∷◌, ◌++◌, map, length, Option, refl}
 use Rattle.std.specs.declared.cmp.Ordering.{Ordering}
 use Rattle.std.specs.Option.{option_map, option_and_then}
 use Rattle.std.specs.Coded.{Coded, code_by, coded×, coded_ℕ, coded_list}
@@ -54,6 +54,18 @@ module _ {T : Type 0} where
   abbrev pub first_seat : {K : Type 0} {R : K → K → Ordering} → Meaning T → map.FinMap R (List Node) → K → Option (Seat T)
   first_seat p rings ring = option_and_then (map.get p.nodes) (first_in rings ring)
 
+  -- the seats of the nodes of a column, in their order
+  abbrev pub seats_of_col : Meaning T → Col → List (Option (Seat T))
+  seats_of_col p col = map (map.get p.nodes) (list_in p.cols col)
+
+  -- the seats of the nodes of a row, in their order
+  abbrev pub seats_of_row : Meaning T → Row → List (Option (Seat T))
+  seats_of_row p row = map (map.get p.nodes) (list_in p.rows row)
+
+  -- the same seat in another row
+  abbrev pub in_row : Row → Seat T → Seat T
+  in_row row seat = record seat { row = row }
+
   -- what is told of a node that leaves a column
   abbrev pub row_and_item : Seat T → Row × T
   row_and_item seat = (seat.row, seat.item)
@@ -66,6 +78,12 @@ module _ {T : Type 0} where
   pub record AreRings (p : Meaning T) : Type 0 where
     pub rows : AreHomes p.rows (row_in p)
     pub cols : AreHomes p.cols (col_in p)
+
+  -- fewer nodes than a word counts, in each ring and in all
+  pub record IsCountable (p : Meaning T) : Type 0 where
+    pub rows : (row : Row) → length (list_in p.rows row) < 2 ^ 64
+    pub cols : (col : Col) → length (list_in p.cols col) < 2 ^ 64
+    pub nodes : map.len p.nodes < 2 ^ 64
 
   -- the pool after a node came in, last in both its rings
   abbrev pub inserted : Meaning T → Node → Seat T → Meaning T

@@ -7,9 +7,7 @@ ghost use Rattle.link_pool.specs.Linked.{behind, link_to};
 ghost use Rattle.link_pool.specs.Cells.{kind_at, next_at, prev_at, home_at, seat_at, list_at, link_of, head_cell, SetsNext, SetsPrev, IsTaken, IsAdded, IsSound, is_head_at};
 
 use crate::names::{Node, Seat};
-use pss_base::Steps;
 use slab::Slab;
-use std::sync::ledger::Ledger;
 
 /// Rings of rows, or rings of columns.
 #[derive(Clone, Copy)]
@@ -144,35 +142,21 @@ fn place_of(head: usize, to: usize) -> Option<Node>
     }
 }
 
-/// The first node of a ring. One step.
-pub fn first_of<T, L: Ledger>(
-    cells: &Slab<Cell<T>>,
-    side: Side,
-    head: usize,
-    steps: &mut Steps<L>,
-) -> Option<Node>
+/// The first node of a ring.
+pub fn first_of<T>(cells: &Slab<Cell<T>>, side: Side, head: usize) -> Option<Node>
     requires head { is_head_at side cells.now head ≡ true }
     requires sound { IsSound cells.now }
-    ensures steps { steps.new ≡ steps.old + 1 }
-    ensures first { result ≡ option_map node_named (slice_get (list_at side cells.now head) 0) }
+    ensures { result ≡ option_map node_named (slice_get (list_at side cells.now head) 0) }
 {
-    steps.tick();
     place_of(head, link_at(cells, side, head).next)
 }
 
-/// The node behind another in its ring. One step.
-pub fn next_of<T, L: Ledger>(
-    cells: &Slab<Cell<T>>,
-    side: Side,
-    node: usize,
-    steps: &mut Steps<L>,
-) -> Option<Node>
+/// The node behind another in its ring.
+pub fn next_of<T>(cells: &Slab<Cell<T>>, side: Side, node: usize) -> Option<Node>
     requires node { IsSome (seat_at cells.now node) }
     requires sound { IsSound cells.now }
-    ensures steps { steps.new ≡ steps.old + 1 }
-    ensures next { option_map (λ head. option_map node_named (behind node (list_at side cells.now head))) (home_at side cells.now node) ≡ Some result }
+    ensures { option_map (λ head. option_map node_named (behind node (list_at side cells.now head))) (home_at side cells.now node) ≡ Some result }
 {
-    steps.tick();
     let head = seat_of(cells, node).head(side);
     place_of(head, link_at(cells, side, node).next)
 }

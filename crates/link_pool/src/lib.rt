@@ -2,6 +2,8 @@
 #![tactic(auto)]
 
 mod cells;
+mod counted;
+mod gather;
 mod names;
 mod pool;
 

@@ -3,7 +3,7 @@
 /// Names a row of one pool.
 ///
 /// After the row was removed, the name may be given to another row.
-#[derive(Clone, Copy, Debug, PartialEq, Eq)]
+#[derive(Clone, Copy, Debug, PartialEq, Eq, Hash)]
 pub struct Row {
     pub(crate) number: usize,
 }
@@ -11,7 +11,7 @@ pub struct Row {
 /// Names a column of one pool.
 ///
 /// After the column was removed, the name may be given to another column.
-#[derive(Clone, Copy, Debug, PartialEq, Eq)]
+#[derive(Clone, Copy, Debug, PartialEq, Eq, Hash)]
 pub struct Col {
     pub(crate) number: usize,
 }
@@ -19,7 +19,7 @@ pub struct Col {
 /// Names a node of one pool.
 ///
 /// After the node left the pool, the name may be given to another node.
-#[derive(Clone, Copy, Debug, PartialEq, Eq)]
+#[derive(Clone, Copy, Debug, PartialEq, Eq, Hash)]
 pub struct Node {
     pub(crate) number: usize,
 }

@@ -3,7 +3,7 @@ ghost use Rattle.std.specs.Prelude.{◌≡◌, ◌<◌, ◌+◌, [], Some, None,
 ghost use Rattle.std.specs.FinMap as map;
 ghost use Rattle.std.specs.Option.{option_map};
 ghost use Rattle.link_pool.specs.Rings.{following, first_in, list_in};
-ghost use Rattle.link_pool.specs.Meaning.{empty_pool, row_in, col_in, item_in, first_seat, row_and_item, col_and_item, inserted, unlinked, AreRings};
+ghost use Rattle.link_pool.specs.Meaning.{empty_pool, row_in, col_in, item_in, first_seat, row_and_item, col_and_item, inserted, unlinked, AreRings, IsCountable};
 
 #[cfg(test)]
 mod tests;
@@ -12,11 +12,10 @@ use crate::cells::{
     Cell, Side, add_head, add_last, first_of, next_of, remove_head, seat_of, take_out,
 };
 use crate::names::{Col, Node, Row, Seat};
-use pss_base::{NoMemory, Steps};
+use pss_base::NoMemory;
 use slab::Slab;
 use std::alloc::Global;
 use std::marker::Model;
-use std::sync::ledger::Ledger;
 
 /// Nodes, each with an item, that stand in the ring of a row and in the ring of a column.
 ///
@@ -27,6 +26,9 @@ use std::sync::ledger::Ledger;
 /// names it is given are in this pool. A name that was removed may be given again, and then names what came last.
 ///
 /// Every call but `add_row`, `add_col` and `reserve` takes no memory, and takes the same time however long the rings are.
+///
+/// A walk along a ring and the taking of a node are one step of a count that is passed to them. Each has a twin without
+/// a count, for calls that promise no number of steps.
 #[derive(Drop)]
 pub struct Pool<T> {
     cells: Slab<Cell<T>>,
@@ -58,6 +60,15 @@ impl<T> Pool<T> {
             cells: Slab::new(alloc),
             promised: 0,
         }
+    }
+
+    /// Whatever was done to a pool, each of its nodes stands once in the list of its row, once in that of its column, and
+    /// in no other list, and a `usize` counts them all. The call does nothing: its contract is the law.
+    pub fn rings_hold(&self)
+        ensures rings { AreRings self.now }
+        ensures counted { IsCountable self.now }
+    {
+        let _ = self.cells.capacity();
     }
 
     /// Adds a row with no node. The room stays as it was. After `NoMemory` the pool is as before.
@@ -141,15 +152,13 @@ impl<T> Pool<T> {
         Node { number }
     }
 
-    /// Takes a node out of both its rings, and gives one to the room. One step.
-    pub fn unlink<L: Ledger>(&mut self, node: Node, steps: &mut Steps<L>) -> T
+    /// Takes a node out of both its rings, and gives one to the room. `unlink` counts it as a step.
+    pub fn unlink_uncounted(&mut self, node: Node) -> T
         requires { IsSome (map.get self.old.nodes node) }
         ensures item { item_in self.old node ≡ Some result }
         ensures unlinked { IsSomeAnd (map.get self.old.nodes node) (λ seat. self.new ≡ unlinked self.old node seat) }
-        ensures steps { steps.new ≡ steps.old + 1 }
         ensures rings { AreRings self.new }
     {
-        steps.tick();
         let Seat {
             row: _,
             col: _,
@@ -158,74 +167,62 @@ impl<T> Pool<T> {
         item
     }
 
-    /// Unlinks the first node of a row, and answers its column and item. None where the row has no node. One step.
-    pub fn take_first_of_row<L: Ledger>(
-        &mut self,
-        row: Row,
-        steps: &mut Steps<L>,
-    ) -> Option<(Col, T)>
+    /// Unlinks the first node of a row, and answers its column and item. None where the row has no node.
+    /// `take_first_of_row` counts it as a step.
+    pub fn take_first_of_row_uncounted(&mut self, row: Row) -> Option<(Col, T)>
         requires { IsSome (map.get self.old.rows row) }
         ensures answer { result ≡ option_map col_and_item (first_seat self.old self.old.rows row) }
         ensures unlinked { MatchOption (first_in self.old.rows row) (self.new ≡ self.old) (λ node. IsSomeAnd (map.get self.old.nodes node) (λ seat. self.new ≡ unlinked self.old node seat)) }
-        ensures steps { steps.new ≡ steps.old + 1 }
         ensures rings { AreRings self.new }
     {
-        let node = first_of(&self.cells, Side::Rows, row.number, steps)?;
+        let node = first_of(&self.cells, Side::Rows, row.number)?;
         let Seat { row: _, col, item } = take_out(&mut self.cells, node.number);
         Some((col, item))
     }
 
-    /// Unlinks the first node of a column, and answers its row and item. None where the column has no node. One step.
-    pub fn take_first_of_col<L: Ledger>(
-        &mut self,
-        col: Col,
-        steps: &mut Steps<L>,
-    ) -> Option<(Row, T)>
+    /// Unlinks the first node of a column, and answers its row and item. None where the column has no node.
+    /// `take_first_of_col` counts it as a step.
+    pub fn take_first_of_col_uncounted(&mut self, col: Col) -> Option<(Row, T)>
         requires { IsSome (map.get self.old.cols col) }
         ensures answer { result ≡ option_map row_and_item (first_seat self.old self.old.cols col) }
         ensures unlinked { MatchOption (first_in self.old.cols col) (self.new ≡ self.old) (λ node. IsSomeAnd (map.get self.old.nodes node) (λ seat. self.new ≡ unlinked self.old node seat)) }
-        ensures steps { steps.new ≡ steps.old + 1 }
         ensures rings { AreRings self.new }
     {
-        let node = first_of(&self.cells, Side::Cols, col.number, steps)?;
+        let node = first_of(&self.cells, Side::Cols, col.number)?;
         let Seat { row, col: _, item } = take_out(&mut self.cells, node.number);
         Some((row, item))
     }
 
-    /// The first node of a row. None exactly where the row has no node. One step.
-    pub fn first_of_row<L: Ledger>(&self, row: Row, steps: &mut Steps<L>) -> Option<Node>
+    /// The first node of a row. None exactly where the row has no node. `first_of_row` counts it as a step.
+    pub fn first_of_row_uncounted(&self, row: Row) -> Option<Node>
         requires { IsSome (map.get self.now.rows row) }
-        ensures first { result ≡ first_in self.now.rows row }
-        ensures steps { steps.new ≡ steps.old + 1 }
+        ensures { result ≡ first_in self.now.rows row }
     {
-        first_of(&self.cells, Side::Rows, row.number, steps)
+        first_of(&self.cells, Side::Rows, row.number)
     }
 
-    /// The node behind another in its row. None exactly where that is the last. One step.
-    pub fn next_in_row<L: Ledger>(&self, node: Node, steps: &mut Steps<L>) -> Option<Node>
+    /// The node behind another in its row. None exactly where that is the last. `next_in_row` counts it as a step.
+    pub fn next_in_row_uncounted(&self, node: Node) -> Option<Node>
         requires { IsSome (map.get self.now.nodes node) }
-        ensures next { IsSomeAnd (row_in self.now node) (λ row. result ≡ following node (list_in self.now.rows row)) }
-        ensures steps { steps.new ≡ steps.old + 1 }
+        ensures { IsSomeAnd (row_in self.now node) (λ row. result ≡ following node (list_in self.now.rows row)) }
     {
-        next_of(&self.cells, Side::Rows, node.number, steps)
+        next_of(&self.cells, Side::Rows, node.number)
     }
 
-    /// The first node of a column. None exactly where the column has no node. One step.
-    pub fn first_of_col<L: Ledger>(&self, col: Col, steps: &mut Steps<L>) -> Option<Node>
+    /// The first node of a column. None exactly where the column has no node. `first_of_col` counts it as a step.
+    pub fn first_of_col_uncounted(&self, col: Col) -> Option<Node>
         requires { IsSome (map.get self.now.cols col) }
-        ensures first { result ≡ first_in self.now.cols col }
-        ensures steps { steps.new ≡ steps.old + 1 }
+        ensures { result ≡ first_in self.now.cols col }
     {
-        first_of(&self.cells, Side::Cols, col.number, steps)
+        first_of(&self.cells, Side::Cols, col.number)
     }
 
-    /// The node behind another in its column. None exactly where that is the last. One step.
-    pub fn next_in_col<L: Ledger>(&self, node: Node, steps: &mut Steps<L>) -> Option<Node>
+    /// The node behind another in its column. None exactly where that is the last. `next_in_col` counts it as a step.
+    pub fn next_in_col_uncounted(&self, node: Node) -> Option<Node>
         requires { IsSome (map.get self.now.nodes node) }
-        ensures next { IsSomeAnd (col_in self.now node) (λ col. result ≡ following node (list_in self.now.cols col)) }
-        ensures steps { steps.new ≡ steps.old + 1 }
+        ensures { IsSomeAnd (col_in self.now node) (λ col. result ≡ following node (list_in self.now.cols col)) }
     {
-        next_of(&self.cells, Side::Cols, node.number, steps)
+        next_of(&self.cells, Side::Cols, node.number)
     }
 
     /// The item of a node.

@@ -3,7 +3,7 @@ use Rattle.std.specs.Option.{option_map}
 use Rattle.link_pool.proofs.Settled.{rings_hold}
 use Rattle.link_pool.proofs.Told.{seat_found, seat_told}
 use Rattle.link_pool.proofs.Whole.{unlinked_whole, unlinked_told}
-use Rattle.link_pool.proofs.pool.Pool.unlink.Goals as goal
+use Rattle.link_pool.proofs.pool.Pool.unlink_uncounted.Goals as goal
 
 pub take_out-item-requires-clause-node : goal.take_out-item-requires-clause-node
 take_out-item-requires-clause-node g c = seat_found c.self.inside.cells c.self.inside.promised c.args.self.now c.self.view_is c.args.node c.requires

@@ -1,10 +1,11 @@
 // The walk over a tree that finds its declarations.
-ghost use Rattle.std.specs.Prelude.{◌≡◌, ◌<◌, ◌++◌, ◌∷◌, [], length, map, IfOk, OnOk};
-ghost use Rattle.psdl_tree.specs.Trees.{ConstantDefinition, TypeDefinitionDefinition, StructDefinition, EnumerationDefinition, AbstractTypeDefinition, StorageTypeDefinition, AbstractHomeDefinition, StorageHomeDefinition, CatalogDefinition};
+ghost use Rattle.std.specs.Prelude.{◌≡◌, ◌<◌, ◌++◌, ◌∷◌, [], length, map, option_map, IfOk, OnOk};
+ghost use Rattle.std.specs.Option.{option_to_list};
+ghost use Rattle.psdl_tree.specs.Trees.{TypeDefinitionDefinition, EnumerationDefinition};
 ghost use Rattle.psdl_tree.specs.Views as views;
-ghost use Rattle.psdl_names.specs.Declarations.{IsEnumerator, declared, aliases, declared_by, declarations, all_declarations};
+ghost use Rattle.psdl_names.specs.Declarations.{Path, IsEnumerator, declared, aliases, declared_by, declarations, all_declarations};
 ghost use Rattle.psdl_names.specs.Nodes.{what_view};
-ghost use Rattle.psdl_names.specs.Flattened.{all_in};
+ghost use Rattle.psdl_names.specs.Flattened.{all_in, single, plain};
 ghost use Rattle.psdl_names.specs.Tables.{path_at, Grows};
 
 use crate::declaration::{Declaration, What};
@@ -114,6 +115,54 @@ fn add_type_definition<'a>(
     Ok(())
 }
 
+// The declaration of a definition that has one.
+fn single<'a>(definition: &'a Definition) -> Option<(&'a Identifier, What<'a>)>
+    ensures { (path : Path) → option_to_list (option_map (λ s. declared path (what_view s.1) s.0.now) result) ≡ single path (views.definition_view definition.now) }
+{
+    match definition {
+        Definition::Constant(constant) => Some((&constant.name, What::Constant(constant))),
+        Definition::Struct(structure) => Some((&structure.name, What::Struct(structure))),
+        Definition::AbstractType(of) => Some((&of.name, What::AbstractType(&of.body))),
+        Definition::StorageType(of) => Some((&of.name, What::ConcreteType(&of.body))),
+        Definition::AbstractHome(home) => Some((&home.name, What::AbstractHome(&home.body))),
+        Definition::StorageHome(home) => Some((&home.name, What::ConcreteHome(home))),
+        Definition::Catalog(catalog) => Some((&catalog.name, What::Catalog(&catalog.provisions))),
+        _ => None,
+    }
+}
+
+fn add_single<'a>(
+    flat: &mut Flat<'a>,
+    scope: usize,
+    definition: &'a Definition,
+) -> Result<(), NoMemory>
+    requires { scope < length flat.old.scopes }
+    ensures scopes { OnOk result (flat.new.scopes ≡ flat.old.scopes) }
+    ensures declarations { OnOk result (all_in flat.new ≡ all_in flat.old ++ single (path_at flat.old.scopes scope) (views.definition_view definition.now)) }
+{
+    match single(definition) {
+        Some((name, what)) => add(flat, scope, name, what),
+        None => Ok(()),
+    }
+}
+
+// A definition that is no module.
+fn add_plain<'a>(
+    flat: &mut Flat<'a>,
+    scope: usize,
+    definition: &'a Definition,
+) -> Result<(), NoMemory>
+    requires { scope < length flat.old.scopes }
+    ensures scopes { OnOk result (flat.new.scopes ≡ flat.old.scopes) }
+    ensures declarations { OnOk result (all_in flat.new ≡ all_in flat.old ++ plain (path_at flat.old.scopes scope) (views.definition_view definition.now)) }
+{
+    match definition {
+        Definition::TypeDefinition(definition) => add_type_definition(flat, scope, definition),
+        Definition::Enumeration(enumeration) => add_enumeration(flat, scope, enumeration),
+        _ => add_single(flat, scope, definition),
+    }
+}
+
 #[cycle(walk)]
 fn add_module<'a>(flat: &mut Flat<'a>, scope: usize, module: &'a Module) -> Result<(), NoMemory>
     requires { scope < length flat.old.scopes }
@@ -138,31 +187,7 @@ fn add_definition<'a>(
 {
     match definition {
         Definition::Module(module) => add_module(flat, scope, module),
-        Definition::Constant(constant) => {
-            add(flat, scope, &constant.name, What::Constant(constant))
-        }
-        Definition::TypeDefinition(definition) => add_type_definition(flat, scope, definition),
-        Definition::Struct(structure) => {
-            add(flat, scope, &structure.name, What::Struct(structure))
-        }
-        Definition::Enumeration(enumeration) => add_enumeration(flat, scope, enumeration),
-        Definition::AbstractType(storage_type) => {
-            let what = What::AbstractType(&storage_type.body);
-            add(flat, scope, &storage_type.name, what)
-        }
-        Definition::StorageType(storage_type) => {
-            let what = What::ConcreteType(&storage_type.body);
-            add(flat, scope, &storage_type.name, what)
-        }
-        Definition::AbstractHome(home) => {
-            let what = What::AbstractHome(&home.body);
-            add(flat, scope, &home.name, what)
-        }
-        Definition::StorageHome(home) => { add(flat, scope, &home.name, What::ConcreteHome(home)) }
-        Definition::Catalog(catalog) => {
-            let what = What::Catalog(&catalog.provisions);
-            add(flat, scope, &catalog.name, what)
-        }
+        _ => add_plain(flat, scope, definition),
     }
 }
 

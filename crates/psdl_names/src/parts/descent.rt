@@ -49,24 +49,22 @@ fn add_bases<'a>(found: &mut Vec<&'a Name>, what: What<'a>) -> Result<(), NoMemo
     ensures { OnOk result (map (λ n. name_view n.now) found.new.items ≡ map (λ n. name_view n.now) found.old.items ++ bases (what_view what.entry)) }
 {
     match what {
-        What::AbstractType(Some(body)) => add_names(found, &body.bases)?,
-        What::ConcreteType(Some(body)) => add_name(found, &body.base)?,
-        What::AbstractHome(Some(body)) => add_names(found, &body.bases)?,
-        What::ConcreteHome(home) => add_name(found, &home.base)?,
-        _ => {}
+        What::AbstractType(Some(body)) => add_names(found, &body.bases),
+        What::ConcreteType(Some(body)) => add_name(found, &body.base),
+        What::AbstractHome(Some(body)) => add_names(found, &body.bases),
+        What::ConcreteHome(home) => add_name(found, &home.base),
+        _ => Ok(()),
     }
-    Ok(())
 }
 
 fn add_implemented<'a>(found: &mut Vec<&'a Name>, what: What<'a>) -> Result<(), NoMemory>
     ensures { OnOk result (map (λ n. name_view n.now) found.new.items ≡ map (λ n. name_view n.now) found.old.items ++ implemented (what_view what.entry)) }
 {
     match what {
-        What::ConcreteType(Some(body)) => add_names(found, &body.implements)?,
-        What::ConcreteHome(home) => add_names(found, &home.implements)?,
-        _ => {}
+        What::ConcreteType(Some(body)) => add_names(found, &body.implements),
+        What::ConcreteHome(home) => add_names(found, &home.implements),
+        _ => Ok(()),
     }
-    Ok(())
 }
 
 /// The names behind `:`.

@@ -1,5 +1,5 @@
 // What stands in expressions.
-ghost use Rattle.std.specs.Prelude.{◌≡◌, ◌++◌, map, option_map, IfOk, OnOk};
+ghost use Rattle.std.specs.Prelude.{◌≡◌, ◌++◌, ◌∷◌, [], map, option_map, IfOk, OnOk};
 ghost use Rattle.std.specs.List.{flat_map};
 ghost use Rattle.std.specs.Option.{option_to_list};
 ghost use Rattle.psdl_tree.specs.Views as views;
@@ -8,6 +8,13 @@ ghost use Rattle.psdl_names.specs.Expressions as of;
 use psdl_tree::{And, Expression, Name, Primary, Product, Shift, Sum, TextLiteral, Unary, Xor};
 use pss_base::NoMemory;
 use std::alloc::Global;
+
+fn add_one<'a>(found: &mut Vec<&'a Primary>, primary: &'a Primary) -> Result<(), NoMemory>
+    ensures { OnOk result (map (λ p. views.primary_view p.now) found.new.items ≡ map (λ p. views.primary_view p.now) found.old.items ++ views.primary_view primary.now ∷ []) }
+{
+    found.push(primary)?;
+    Ok(())
+}
 
 #[cycle(operands)]
 fn add_unary<'a>(found: &mut Vec<&'a Primary>, unary: &'a Unary) -> Result<(), NoMemory>
@@ -21,12 +28,11 @@ fn add_primary<'a>(found: &mut Vec<&'a Primary>, primary: &'a Primary) -> Result
     ensures { OnOk result (map (λ p. views.primary_view p.now) found.new.items ≡ map (λ p. views.primary_view p.now) found.old.items ++ of.in_primary (views.primary_view primary.now)) }
 {
     match primary {
-        Primary::Group(group) => add_operands(found, &group.inner)?,
-        Primary::Name(_) => found.push(primary)?,
-        Primary::Integer(_) => found.push(primary)?,
-        Primary::Text(_) => found.push(primary)?,
+        Primary::Group(group) => add_operands(found, &group.inner),
+        Primary::Name(_) => add_one(found, primary),
+        Primary::Integer(_) => add_one(found, primary),
+        Primary::Text(_) => add_one(found, primary),
     }
-    Ok(())
 }
 
 #[cycle(operands)]

@@ -108,11 +108,10 @@ fn add_plain<'a>(
     ensures { OnOk result (use_views found.new.items ≡ use_views found.old.items ++ of.in_plain limit (views.plain_type_view plain.now)) }
 {
     match plain {
-        PlainType::Name(name) => add_name(found, limit, Need::OfType, name)?,
-        PlainType::String(bound) => add_bound(alloc, found, limit, bound)?,
-        _ => {}
+        PlainType::Name(name) => add_name(found, limit, Need::OfType, name),
+        PlainType::String(bound) => add_bound(alloc, found, limit, bound),
+        _ => Ok(()),
     }
-    Ok(())
 }
 
 fn add_spec<'a>(
@@ -142,10 +141,9 @@ fn add_state_type<'a>(
     ensures { OnOk result (use_views found.new.items ≡ use_views found.old.items ++ of.in_state_type limit (views.state_type_view state_type.now)) }
 {
     match state_type {
-        StateType::Plain(plain) => add_plain(alloc, found, limit, plain)?,
-        StateType::Reference(name) => add_name(found, limit, Need::OfStorageType, name)?,
+        StateType::Plain(plain) => add_plain(alloc, found, limit, plain),
+        StateType::Reference(name) => add_name(found, limit, Need::OfStorageType, name),
     }
-    Ok(())
 }
 
 fn add_declarators<'a>(
@@ -358,6 +356,30 @@ fn add_implemented<'a>(
     Ok(())
 }
 
+fn add_all_states<'a>(
+    alloc: Global,
+    found: &mut Vec<Use<'a>>,
+    limit: usize,
+    what: What<'a>,
+) -> Result<(), NoMemory>
+    ensures { OnOk result (use_views found.new.items ≡ use_views found.old.items ++ flat_map (λ s. of.in_state_type limit s.state_type) (parts.states (what_view what.entry))) }
+{
+    let states = states(alloc, what)?;
+    add_states(alloc, found, limit, &states)
+}
+
+fn add_all_operations<'a>(
+    alloc: Global,
+    found: &mut Vec<Use<'a>>,
+    limit: usize,
+    what: What<'a>,
+) -> Result<(), NoMemory>
+    ensures { OnOk result (use_views found.new.items ≡ use_views found.old.items ++ flat_map (of.in_operation limit) (parts.operations (what_view what.entry))) }
+{
+    let operations = operations(alloc, what)?;
+    add_operations(alloc, found, limit, &operations)
+}
+
 // Those of a storage type or home.
 fn add_store<'a>(
     alloc: Global,
@@ -367,14 +389,32 @@ fn add_store<'a>(
 ) -> Result<(), NoMemory>
     ensures { OnOk result (use_views found.new.items ≡ use_views found.old.items ++ of.in_store limit (what_view what.entry)) }
 {
-    let states = states(alloc, what)?;
-    let operations = operations(alloc, what)?;
     add_bases(alloc, found, limit, what)?;
     add_implemented(alloc, found, limit, what)?;
     add_managed(found, limit, what)?;
-    add_states(alloc, found, limit, &states)?;
-    add_operations(alloc, found, limit, &operations)?;
+    add_all_states(alloc, found, limit, what)?;
+    add_all_operations(alloc, found, limit, what)?;
     Ok(())
+}
+
+fn add_uses<'a>(
+    alloc: Global,
+    found: &mut Vec<Use<'a>>,
+    number: usize,
+    what: What<'a>,
+) -> Result<(), NoMemory>
+    requires { number + 1 < 2 ^ 64 }
+    ensures { OnOk result (use_views found.new.items ≡ use_views found.old.items ++ of.uses number (what_view what.entry)) }
+{
+    match what {
+        What::Constant(constant) => add_constant(alloc, found, number, constant),
+        What::Alias(before, spec, dimensions) => {
+            add_alias(alloc, found, number, before, spec, dimensions)
+        }
+        What::Struct(structure) => add_struct(alloc, found, number + 1, structure),
+        What::Catalog(provisions) => add_provisions(found, number + 1, provisions),
+        _ => add_store(alloc, found, number + 1, what),
+    }
 }
 
 /// The names of the declaration with that number.
@@ -383,14 +423,6 @@ pub fn uses<'a>(alloc: Global, number: usize, what: What<'a>) -> Result<Vec<Use<
     ensures { IfOk result (λ v. use_views v.items ≡ of.uses number (what_view what.entry)) }
 {
     let mut found = Vec::new(alloc);
-    match what {
-        What::Constant(constant) => add_constant(alloc, &mut found, number, constant)?,
-        What::Alias(before, spec, dimensions) => {
-            add_alias(alloc, &mut found, number, before, spec, dimensions)?
-        }
-        What::Struct(structure) => add_struct(alloc, &mut found, number + 1, structure)?,
-        What::Catalog(provisions) => add_provisions(&mut found, number + 1, provisions)?,
-        _ => add_store(alloc, &mut found, number + 1, what)?,
-    }
+    add_uses(alloc, &mut found, number, what)?;
     Ok(found)
 }

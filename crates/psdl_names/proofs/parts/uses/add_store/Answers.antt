@@ -5,5 +5,5 @@ pub returns : goal.returns
 returns c =
     let two = two_more _ _ _ _ _ c.in_ok-add_bases.ensures c.in_ok-add_implemented.ensures in
     let three = two_more _ _ _ _ _ two c.in_ok-add_managed.ensures in
-    let four = two_more _ _ _ _ _ three (rw (c.deref.ensures.value, c.in_ok-states.ensures) at c.in_ok-add_states.ensures) in
-    two_more _ _ _ _ _ four (rw (c.deref-2.ensures.value, c.in_ok-operations.ensures) at c.in_ok-add_operations.ensures)
+    let four = two_more _ _ _ _ _ three c.in_ok-add_all_states.ensures in
+    two_more _ _ _ _ _ four c.in_ok-add_all_operations.ensures

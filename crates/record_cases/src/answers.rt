@@ -41,7 +41,7 @@ fn append_answer<L: Ledger>(
 ) -> Result<(), NoMemory> {
     let (command, rest) = first_word(line);
     match command {
-        b"encode" => append_encoded(alloc, out, subject.layout, line, rest)?,
+        b"encode" => append_encoded(alloc, out, subject.layout, rest, command.len() + 1)?,
         b"decode" => append_decoded(alloc, out, subject.layout, rest, steps)?,
         b"default" => append_default(alloc, out, subject.layout)?,
         b"value" => append_value_read(alloc, out, subject.layout, rest)?,

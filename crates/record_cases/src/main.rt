@@ -13,7 +13,6 @@
 #![tactic(auto)]
 
 mod answers;
-mod line;
 mod records;
 mod types;
 mod values;

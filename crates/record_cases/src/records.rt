@@ -1,40 +1,52 @@
 // Commands on records: `encode`, `decode` and `default`.
-use crate::line::{LineFault, read_record};
 use crate::values::append_value;
 use crate::words::{append_octets, octets_of};
 use cdr_codec::{RecordFault, decode_record, encode_record};
 use pss_base::{Bytes, NoMemory, Steps, skip_blanks};
 use std::alloc::Global;
 use std::sync::ledger::Ledger;
-use type_layout::{Layout, Record, Values, default_of, is_record};
+use type_layout::{Layout, Record, Ty, Values, default_of, is_record};
+use value_text::{LineFault, read_values};
 
-fn append_bad_value(
-    alloc: Global,
-    out: &mut Bytes,
-    line: &[u8],
-    left: usize,
-) -> Result<(), NoMemory> {
-    let column = line.len().saturating_sub(left) + 1;
-    out.extend(format!(in alloc; "BADVALUE {column}")?.as_bytes())
+/// No line has more bytes than all of the input.
+const MOST_LINE: usize = 16777216;
+
+fn types_of(alloc: Global, layout: &Layout) -> Result<Vec<&Ty>, NoMemory> {
+    let mut types = Vec::new(alloc);
+    for member in layout.members.as_slice() {
+        types.push(&member.ty)?;
+    }
+    Ok(types)
 }
 
-/// `encode V V ..`: the octets of the record with these values, which stand in the rest of the line.
+fn append_octets_of(
+    alloc: Global,
+    out: &mut Bytes,
+    layout: &Layout,
+    record: &Record,
+) -> Result<(), NoMemory> {
+    if is_record(layout, record) {
+        append_octets(out, encode_record(alloc, layout, record)?.as_slice())
+    } else {
+        out.extend(b"no record of the layout")
+    }
+}
+
+/// `encode V V ..`: the octets of the record with these values, which stand in the rest of the line from a column on.
 pub fn append_encoded(
     alloc: Global,
     out: &mut Bytes,
     layout: &Layout,
-    line: &[u8],
     rest: &[u8],
+    column: usize,
 ) -> Result<(), NoMemory> {
-    match read_record(alloc, layout, rest) {
-        Ok(record) => {
-            if is_record(layout, &record) {
-                append_octets(out, encode_record(alloc, layout, &record)?.as_slice())
-            } else {
-                out.extend(b"no record of the layout")
-            }
-        }
-        Err(LineFault::BadValue(left)) => append_bad_value(alloc, out, line, left),
+    if column > MOST_LINE || rest.len() > MOST_LINE {
+        return out.extend(b"too long");
+    }
+    let types = types_of(alloc, layout)?;
+    match read_values(alloc, types.as_slice(), rest, column as u32) {
+        Ok(values) => append_octets_of(alloc, out, layout, &Record(values)),
+        Err(LineFault::BadValue(at)) => out.extend(format!(in alloc; "BADVALUE {at}")?.as_bytes()),
         Err(LineFault::NoMemory) => Err(NoMemory),
     }
 }

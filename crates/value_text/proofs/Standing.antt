@@ -12,7 +12,7 @@ use Rattle.type_layout.proofs.OfType.{type_tells}
 use Rattle.value_text.specs.declared.fault.ValueFault.{ValueFault}
 use Rattle.value_text.specs.declared.fault.ValueFault.TheVariants.{BadValue, NoMemory}
 use Rattle.value_text.specs.Texts.{Spells, is_at_end, Stands}
-use Rattle.value_text.specs.Laws.{SpellsOneValue, OneStands, SpellingStands}
+use Rattle.value_text.specs.Laws.{SpellsOneValue, OneStands, SpellingStands, WhatStandsIsRead}
 use Rattle.value_text.specs.Reading.{◌>>=◌, Fails, value_at}
 use Rattle.value_text.specs.Line.{one_value}
 use Rattle.value_text.proofs.Owing.{stops, pair_is, bind_some, let_through, both_true}
@@ -150,3 +150,7 @@ spelling_is_there t v text s front back ends =
       ends = ap is_at_end k.rest_is ∙ ends;
       spells = subst (λ (l : List ℕ). Spells t v l) (sym k.front_is) s;
     }
+
+pub what_stands : WhatStandsIsRead
+what_stands t sound text at le v end within =
+    (one_there t sound text at v end, λ e. subst (λ (n : ℕ). Stands t text at v n) (same_end text end (drop end text) within refl) (stands_there t text at v (drop end text) le e))

@@ -23,21 +23,20 @@ pub(crate) fn is_digit(byte: u8, radix: u8) -> bool
 }
 
 // The number with one digit more, where it is below 2^64.
-fn appended(number: u64, radix: u8, digit: u8) -> Option<u64>
-    ensures { SomeIff result (number * radix + digit < 2 ^ 64) (number * radix + digit) }
+fn appended(number: u64, digit: u8) -> Option<u64>
+    ensures { SomeIff result (number * 10 + digit < 2 ^ 64) (number * 10 + digit) }
 {
-    let shifted = number.checked_mul(u64::from(radix))?;
+    let shifted = number.checked_mul(10)?;
     shifted.checked_add(u64::from(digit))
 }
 
-/// The number that digits stand for, where it is below 2^64.
-pub(crate) fn digits_value(radix: u8, digits: &[u8]) -> Option<u64>
-    requires { 0 < radix }
-    ensures { SomeIff result (digits_value radix digits.now < 2 ^ 64) (digits_value radix digits.now) }
+/// The number that decimal digits stand for, where it is below 2^64.
+pub(crate) fn decimal_value(digits: &[u8]) -> Option<u64>
+    ensures { SomeIff result (digits_value 10 digits.now < 2 ^ 64) (digits_value 10 digits.now) }
 {
     let mut number: u64 = 0;
     for byte in digits {
-        number = appended(number, radix, digit_value(*byte))?;
+        number = appended(number, digit_value(*byte))?;
     }
     Some(number)
 }

@@ -1,5 +1,5 @@
 // Laws over the definitions, for those that prove something above them.
-ghost use Rattle.value_text.specs.Laws.{SpellsOneValue, OneStands, SpellingStands};
+ghost use Rattle.value_text.specs.Laws.{SpellsOneValue, OneStands, SpellingStands, WhatStandsIsRead};
 
 /// A text spells at most one value of a sound type, and from a place on stands at most one, with one end.
 pub fn one_value()
@@ -11,4 +11,10 @@ pub fn one_value()
 /// what was printed is read as the same value, whatever follows behind the blank.
 pub fn spelling_stands()
     ensures { SpellingStands }
+{}
+
+/// What `read_values` takes from the front of a line, where a value of a sound type stands there, is this
+/// value up to its end, and it takes nothing where none stands.
+pub fn what_stands_is_read()
+    ensures { WhatStandsIsRead }
 {}

@@ -10,7 +10,7 @@ ghost use Rattle.value_text.specs.Words.{digits_of, is_decimal};
 ghost use Rattle.value_text.specs.Reading.{Gives, is_part, word_at, number_in, truth_in, enumerator_in, reference_in};
 
 use crate::ValueFault;
-use crate::digits::{digits_value, is_digit};
+use crate::digits::{decimal_value, is_digit};
 use pss_base::{Bytes, is_blank, read_pid};
 use type_layout::{Names, Value};
 
@@ -74,7 +74,7 @@ fn number_in(word: &[u8]) -> Option<Value>
     if !is_decimal(digits) {
         return None;
     }
-    let number = i128::from(digits_value(10, digits)?);
+    let number = i128::from(decimal_value(digits)?);
     if is_negative(word) {
         return Some(Value::Int(-number));
     }

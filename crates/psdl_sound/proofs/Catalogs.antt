@@ -50,7 +50,7 @@ home_there all h a = let r = housed all h a in subst IsSome (sym (home_at_number
 -- ---- what is provided
 
 -- what is provided by a declaration
-provided_of : (all : List Declaration) → (schema all).provided ≡ flat_map (provided_homes all) (enumerate_from 0 all)
+pub provided_of : (all : List Declaration) → (schema all).provided ≡ flat_map (provided_homes all) (enumerate_from 0 all)
 unfolding schema
 provided_of all = refl
 
@@ -68,7 +68,7 @@ provider_among : (all : List Declaration) (o : Option ℕ) (h : ℕ) → option_
 provider_among all None h e = absurd (cc)
 provider_among all (Some m) h e = (among_found (λ g. has (ancestry all g) m) (concrete_homes all) h e).0
 
-is_provided : (all : List Declaration) (n : ℕ) (d : Declaration) (p : Provided) → Among p (provided_homes all (n, d)) → IsProvided all n d p
+pub is_provided : (all : List Declaration) (n : ℕ) (d : Declaration) (p : Provided) → Among p (provided_homes all (n, d)) → IsProvided all n d p
 is_provided all n d p a =
     let r = among_from (provided_home all n d) (provided d.what) p a in
     let made : ℕ → Provided = λ h. record { catalog = scoped_name d; name = r.0.name.name; home = home_no all h } in
@@ -95,7 +95,7 @@ provided_there all j p is =
 -- ---- declarations with their numbers
 
 -- each by its number
-numbered : (ds : List Declaration) (i : ℕ) (e : ℕ × Declaration) → Among e (enumerate_from i ds) → (k : ℕ) × (e.0 ≡ i + k) × (k < length ds) × (at ds k ≡ e.1)
+pub numbered : (ds : List Declaration) (i : ℕ) (e : ℕ × Declaration) → Among e (enumerate_from i ds) → (k : ℕ) × (e.0 ≡ i + k) × (k < length ds) × (at ds k ≡ e.1)
 numbered [] i e a = absurd a
 numbered (d ∷ ds) i e (inl s) = (0, ap (λ (x : ℕ × Declaration). x.0) (sym s) ∙ omega arith, omega arith, ap (λ (x : ℕ × Declaration). x.1) s)
 numbered (d ∷ ds) i e (inr a) = let r = numbered ds (i + 1) e a in (suc r.0, omega (arith, r.1), omega (arith, r.2), r.3)

@@ -25,7 +25,7 @@ use Rattle.psdl_sound.proofs.Spelt.{same_scoped}
 
 -- ---- the modules round a declaration
 
-abbrev in_names : Declaration → Bool
+abbrev pub in_names : Declaration → Bool
 in_names d = list_all is_name d.path
 
 aliases_in : (path : Path) (spec : TypeSpec) (k : ℕ) (ds : List Declarator) → list_all is_name path ≡ true → list_all in_names (aliases path spec k ds) ≡ true

@@ -21,6 +21,11 @@ mod Naming
 mod Literals
 mod Bounded
 mod SmallTrees
+mod Inside
+mod Bodies
+mod Standnames
+mod Membernames
+mod NamedSchemas
 mod NamedTexts
 mod Among
 mod Catalogs

@@ -2,6 +2,7 @@
 use Rattle.std.specs.Prelude.{◌≡◌, ℕ, List, None}
 use Rattle.psdl_tree.specs.Trees.{Definitions}
 use Rattle.psdl_syntax.specs.Syntax.{IsTextOf}
+use Rattle.type_layout.specs.Names.{IsNamedSchema}
 use Rattle.type_layout.specs.Sound.{IsSoundSchema}
 use Rattle.psdl_names.specs.Declarations.{all_declarations}
 use Rattle.psdl_conditions.specs.Faults.{first_fault}
@@ -16,6 +17,10 @@ TextsHaveNames = (tree : Definitions) (text : List ℕ) → IsTextOf tree text �
 -- the integer literals of its expressions are below 2^127
 abbrev pub TextsAreSmall : Type 0
 TextsAreSmall = (tree : Definitions) (text : List ℕ) → IsTextOf tree text → AreSmall (all_declarations tree)
+
+-- the names in its schema are identifiers, those of homes and catalogs with the modules round them
+abbrev pub TextsAreNamed : Type 0
+TextsAreNamed = (tree : Definitions) (text : List ℕ) → IsTextOf tree text → IsNamedSchema (schema (all_declarations tree))
 
 -- without a fault its schema is sound
 abbrev pub TextsAreSound : Type 0

@@ -2,7 +2,7 @@
 ghost use Rattle.psdl_sound.specs.SoundCatalogs.{SchemasHaveSoundCatalogs};
 ghost use Rattle.psdl_sound.specs.SoundHomes.{SchemasHaveSoundHomes};
 ghost use Rattle.psdl_sound.specs.SoundSchemas.{SchemasAreSound};
-ghost use Rattle.psdl_sound.specs.TextLaws.{TextsAreSmall, TextsAreSound, TextsHaveNames};
+ghost use Rattle.psdl_sound.specs.TextLaws.{TextsAreNamed, TextsAreSmall, TextsAreSound, TextsHaveNames};
 
 /// The schema of a text without a fault, whose identifiers are names, has sound homes and layouts.
 pub fn schema_has_sound_homes()
@@ -23,6 +23,13 @@ pub fn schema_is_sound()
 /// `_`. The tree has them without the `_` that a text may have in front.
 pub fn identifiers_are_names()
     ensures { TextsHaveNames }
+{}
+
+/// In the schema of each text that has a tree, with faults or without, all names are identifiers:
+/// those of members, keys, factories and provisions, and those of fields and enumerators within
+/// the types of members. Homes and catalogs have identifiers with `::` between them.
+pub fn schema_is_named()
+    ensures { TextsAreNamed }
 {}
 
 /// The integer literals of each text that has a tree are below 2^127: those in the values of

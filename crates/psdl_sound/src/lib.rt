@@ -1,9 +1,9 @@
-//! That the schema of every PSDL text without a fault is sound.
+//! That the schema of every PSDL text without a fault is sound, and that the names in the schema of every text are identifiers.
 #![tactic(auto)]
 
 mod laws;
 
 pub use laws::{
     identifiers_are_names, literals_are_small, schema_has_sound_catalogs, schema_has_sound_homes,
-    schema_is_sound, text_is_sound,
+    schema_is_named, schema_is_sound, text_is_sound,
 };

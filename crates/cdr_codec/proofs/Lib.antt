@@ -10,3 +10,6 @@ pub mod Ends
 pub mod Taking
 pub mod Counts
 pub mod Totals
+pub mod Skips
+pub mod Members
+pub mod Nodes

@@ -40,7 +40,7 @@ abbrev number_text : Primitive → ℕ → ℕ → List ℕ
 number_text p n at = padding (width_of p) at ++ big_bytes (width_of p) n
 
 mutual
-  joined-pieces : (t : PlainType) (v : PlainValue) (at : ℕ) → joined (pieces t v at) ≡ spelling t v at
+  pub joined-pieces : (t : PlainType) (v : PlainValue) (at : ℕ) → joined (pieces t v at) ≡ spelling t v at
   joined-pieces Short (Int z) at = joined-aligned (Plain Two) _ at
   joined-pieces Long (Int z) at = joined-aligned (Plain Four) _ at
   joined-pieces LongLong (Int z) at = joined-aligned (Plain Eight) _ at
@@ -113,7 +113,7 @@ record_found members sound bytes vs o e =
         let whole : bytes ≡ record_spelling members us = t.1.whole ∙ ap (λ (l : List ℕ). joined (record_spelled members us 0) ++ l) end ∙ append-nil (joined (record_spelled members us 0)) ∙ spelled_is members us in
         subst (IsFound members bytes) (ok_is us vs e) (t.0, whole)
 
-members_again : (members : List PlainMember) → IsSoundLayout members → (bytes : List ℕ) (vs : List PlainValue) (rest : List ℕ) → IsRecord members vs → bytes ≡ record_spelling members vs ++ rest → members_at members bytes 0 ≡ Ok (vs, length (record_spelling members vs))
+pub members_again : (members : List PlainMember) → IsSoundLayout members → (bytes : List ℕ) (vs : List PlainValue) (rest : List ℕ) → IsRecord members vs → bytes ≡ record_spelling members vs ++ rest → members_at members bytes 0 ≡ Ok (vs, length (record_spelling members vs))
 members_again members sound bytes vs rest fits whole =
     let law = members_law members (sound_fields members sound) in
     law.reads bytes 0 vs rest (omega arith) fits (whole ∙ ap (λ (l : List ℕ). l ++ rest) (sym (spelled_is members vs)))

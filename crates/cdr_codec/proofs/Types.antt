@@ -111,11 +111,11 @@ none_over bound = ap (λ (t : Bool). not (eqb bound 0) && t) (le-ltb bound 0 (om
 abbrev pub IsShort : ℕ → List ℕ → Type 0
 IsShort bound bytes = (has_zero bytes ≡ false) × (is_over bound (length bytes) ≡ false) × (length bytes + 1 < 2 ^ 32) × IsTrue (are_bytes bytes)
 
-or_false : (a b : Bool) → (a || b) ≡ false → (a ≡ false) × (b ≡ false)
+pub or_false : (a b : Bool) → (a || b) ≡ false → (a ≡ false) × (b ≡ false)
 or_false true b e = absurd cc
 or_false false b e = (refl, e)
 
-not_none : (n : ℕ) → eqb n 0 ≡ false → n ≡ n - 1 + 1
+pub not_none : (n : ℕ) → eqb n 0 ≡ false → n ≡ n - 1 + 1
 not_none zero e = absurd cc
 not_none (suc n) e = omega arith
 

@@ -3,3 +3,6 @@ pub mod Reading
 pub mod Taken
 pub mod Steps
 pub mod Lengths
+pub mod Widths
+pub mod Places
+pub mod Spelled

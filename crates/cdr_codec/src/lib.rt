@@ -2,18 +2,24 @@
 //! and that padding is zero are this project's own.
 #![tactic(auto)]
 
-mod decode;
+mod decoding;
 mod encode;
 mod fault;
+mod key;
 mod length;
+mod member;
 mod numbers;
+mod places;
 mod several;
 mod single;
+mod width;
 
-pub use decode::decode_record;
+pub use decoding::{decode, decode_record};
 pub use encode::encode_record;
 pub use fault::RecordFault;
+pub use key::key_of_octets;
 pub use length::record_len;
+pub use member::read_member;
 
 #[cfg(test)]
 mod tests;

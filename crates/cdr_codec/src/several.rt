@@ -106,7 +106,7 @@ fn reference_of<L: Ledger>(
 
 #[cycle(value)]
 #[tactic(auto, unfolding(crate::specs::Reading::value_at, crate::specs::Taken::value_takes))]
-fn value_of<L: Ledger>(
+pub(crate) fn value_of<L: Ledger>(
     alloc: Global,
     ty: &Ty,
     bytes: &[u8],

@@ -1,7 +1,7 @@
 use Rattle.std.proofs.Common.{arith, inl, inr}
 use Rattle.cdr_codec.proofs.Records.{found_if, found_always, refused_if, refused_always}
 use Rattle.cdr_codec.proofs.Totals.{taken_if, taken_until}
-use Rattle.cdr_codec.proofs.decode.decode_record.Goals as goal
+use Rattle.cdr_codec.proofs.decoding.decode_record.Goals as goal
 
 pub returns-clause-found : goal.returns-clause-found
 returns-clause-found g c = λ sound. found_if c.args.layout.now.members sound c.args.bytes.now c.answer.result (λ i. omega (arith, c.type_inv.bytes i)) c.answer.ensures.given

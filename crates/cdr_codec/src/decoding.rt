@@ -1,5 +1,5 @@
 // From octets to records.
-ghost use Rattle.std.specs.Prelude.{◌≡◌, ◌≤◌, ◌+◌, ◌-◌, ◌⊎◌, List, length, map, IfOk, IfErr, MatchResult};
+ghost use Rattle.std.specs.Prelude.{◌≡◌, ◌≤◌, ◌<◌, ◌+◌, ◌-◌, ◌⊎◌, List, length, map, IfOk, IfErr, MatchResult};
 ghost use Rattle.type_layout.specs.Types.{PlainValue};
 ghost use Rattle.type_layout.specs.Members.{plain_member};
 ghost use Rattle.type_layout.specs.Values.{IsRecord};
@@ -16,7 +16,8 @@ use crate::several::members_of;
 use crate::single::flag_of;
 use pss_base::Steps;
 use std::alloc::Global;
-use std::sync::ledger::Ledger;
+use std::marker::Brand;
+use std::sync::ledger::{Blank, Ledger};
 use type_layout::{Layout, Record};
 
 /// The record of a sound layout that the octets spell, all of them. `found` says that they spell it, and
@@ -44,6 +45,35 @@ pub fn decode_record<L: Ledger>(
     ensures until { IsSoundLayout layout.now.members → (f : Refusal) → (r : IsRefused layout.now.members bytes.now f) → (result ≡ Err RecordFault.NoMemory) ⊎ (steps.new ≡ steps.old + steps_until r) }
 {
     answer(alloc, layout, bytes, steps)
+}
+
+/// As `decode_record`, without a count of steps.
+pub fn decode(alloc: Global, layout: &Layout, bytes: &[u8]) -> Result<Record, RecordFault>
+    ensures found { IsSoundLayout layout.now.members → IfOk result (λ v. IsRecord layout.now.members v × (bytes.now ≡ record_spelling layout.now.members v)) }
+    ensures only { IsSoundLayout layout.now.members → (v : List PlainValue) → IsRecord layout.now.members v → bytes.now ≡ record_spelling layout.now.members v → MatchResult result (λ w. w ≡ v) (λ e. e ≡ RecordFault.NoMemory) }
+    ensures refused { IsSoundLayout layout.now.members → IfErr result (λ e. (e ≡ RecordFault.NoMemory) ⊎ IsRefused layout.now.members bytes.now e) }
+    ensures always { IsSoundLayout layout.now.members → (f : Refusal) → IsRefused layout.now.members bytes.now f → MatchResult result (λ v. ⊥) (λ e. (e ≡ f) ⊎ (e ≡ RecordFault.NoMemory)) }
+{
+    decode_from::<Brand>(alloc, layout, bytes, Blank::new(1))
+}
+
+// The same, with a count of steps that nobody reads.
+fn decode_from<L: Ledger>(
+    alloc: Global,
+    layout: &Layout,
+    bytes: &[u8],
+    blank: Blank,
+) -> Result<Record, RecordFault>
+    requires name { blank.name ≡ L.name }
+    requires parts { blank.parts ≡ L.parts }
+    requires some { 0 < blank.parts }
+    ensures found { IsSoundLayout layout.now.members → IfOk result (λ v. IsRecord layout.now.members v × (bytes.now ≡ record_spelling layout.now.members v)) }
+    ensures only { IsSoundLayout layout.now.members → (v : List PlainValue) → IsRecord layout.now.members v → bytes.now ≡ record_spelling layout.now.members v → MatchResult result (λ w. w ≡ v) (λ e. e ≡ RecordFault.NoMemory) }
+    ensures refused { IsSoundLayout layout.now.members → IfErr result (λ e. (e ≡ RecordFault.NoMemory) ⊎ IsRefused layout.now.members bytes.now e) }
+    ensures always { IsSoundLayout layout.now.members → (f : Refusal) → IsRefused layout.now.members bytes.now f → MatchResult result (λ v. ⊥) (λ e. (e ≡ f) ⊎ (e ≡ RecordFault.NoMemory)) }
+{
+    let mut steps = Steps::<L>::new(blank);
+    decode_record(alloc, layout, bytes, &mut steps)
 }
 
 fn answer<L: Ledger>(

@@ -13,3 +13,4 @@ pub mod Totals
 pub mod Skips
 pub mod Members
 pub mod Nodes
+pub mod NumberValues

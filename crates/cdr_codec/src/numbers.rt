@@ -1,11 +1,10 @@
 // Numbers, each behind its padding.
-ghost use Rattle.std.specs.Prelude.{◌≡◌, ◌≤◌, ◌+◌, ◌-◌, ◌<◌, ◌^◌, ◌==◌, length, IfOk};
-ghost use Rattle.byteorder.specs.Endian.{big_number};
-ghost use Rattle.type_layout.specs.Spelling.{gap};
+ghost use Rattle.std.specs.Prelude.{◌≡◌, ◌≤◌, ◌+◌, ◌-◌, ◌<◌, ◌^◌, ◌==◌, length, slice_index, EachIndex, IfOk, IsTrue};
 ghost use Rattle.cdr_codec.specs.Reading.{Gives, pads_at, plain_at, found_at};
+ghost use Rattle.cdr_codec.specs.Widths.{octets_in};
 
 use crate::fault::{Found, RecordFault, Stop};
-use byteorder::{BigEndian, ByteOrder};
+use crate::width::Width;
 use pss_base::Steps;
 use std::sync::ledger::Ledger;
 
@@ -37,15 +36,21 @@ fn is_padding(byte: u8) -> bool
     byte == PADDING
 }
 
+fn are_padding(octets: &[u8]) -> bool
+    ensures { IsTrue result → EachIndex octets.now (λ k. slice_index octets.now k ≡ 0) }
+{
+    octets.iter().all(|octet| *octet == PADDING)
+}
+
+// One octet of padding after the other, up to the first that is refused.
 #[tactic(auto, unfolding(crate::specs::Reading::pads_at, crate::specs::Reading::one_at))]
-fn pads_of(bytes: &[u8], width: usize, at: usize) -> Result<usize, Stop>
-    requires place { at ≤ length bytes.now }
-    requires wide { 1 ≤ width }
-    ensures given { Gives (λ x. x) result (pads_at (gap width at) bytes.now at) }
+fn each_pad_of(bytes: &[u8], count: usize, at: usize) -> Result<usize, Stop>
+    requires { at ≤ length bytes.now }
+    ensures given { Gives (λ x. x) result (pads_at count bytes.now at) }
     ensures within { IfOk result (λ x. (at ≤ x) × (x ≤ length bytes.now)) }
 {
     let mut place = at;
-    for _ in 0..(width - at % width) % width {
+    for _ in 0..count {
         let (byte, after) = octet_of(bytes, place)?;
         if !is_padding(byte) {
             return Err(Stop::Fault(RecordFault::BadPad(place as u64)));
@@ -55,56 +60,52 @@ fn pads_of(bytes: &[u8], width: usize, at: usize) -> Result<usize, Stop>
     Ok(place)
 }
 
-#[tactic(auto, using(crate::proofs::Octets::number_fits))]
-fn number_in(octets: &[u8], width: usize) -> u64
-    requires low { 1 ≤ width }
-    requires high { width ≤ 8 }
-    requires room { width ≤ length octets.now }
-    ensures value { result ≡ big_number width octets.now }
-    ensures small { result < 256 ^ width }
+#[inline(always)]
+fn pads_of(bytes: &[u8], count: usize, at: usize) -> Result<usize, Stop>
+    requires place { at ≤ length bytes.now }
+    requires few { count < 8 }
+    ensures given { Gives (λ x. x) result (pads_at count bytes.now at) }
+    ensures within { IfOk result (λ x. (at ≤ x) × (x ≤ length bytes.now)) }
 {
-    match width {
-        1 => u64::from(octets[0]),
-        2 => u64::from(BigEndian::read_u16(octets)),
-        4 => u64::from(BigEndian::read_u32(octets)),
-        8 => BigEndian::read_u64(octets),
-        _ => BigEndian::read_uint(octets, width),
+    if let Some(octets) = bytes.get(at..at + count) {
+        if are_padding(octets) {
+            return Ok(at + count);
+        }
     }
+    each_pad_of(bytes, count, at)
 }
 
+#[inline(always)]
 #[tactic(auto, unfolding(crate::specs::Reading::plain_at))]
-fn plain_of(bytes: &[u8], width: usize, at: usize) -> Result<(u64, usize), Stop>
-    requires low { 1 ≤ width }
-    requires high { width ≤ 8 }
-    requires place { at ≤ length bytes.now }
-    ensures given { Gives (λ x. x) result (plain_at width bytes.now at) }
+fn plain_of(bytes: &[u8], width: Width, at: usize) -> Result<(u64, usize), Stop>
+    requires { at ≤ length bytes.now }
+    ensures given { Gives (λ x. x) result (plain_at (octets_in width) bytes.now at) }
     ensures within { IfOk result (λ x. (at + 1 ≤ x.1) × (x.1 ≤ length bytes.now)) }
-    ensures small { IfOk result (λ x. x.0 < 256 ^ width) }
+    ensures small { IfOk result (λ x. x.0 < 256 ^ octets_in width) }
 {
-    if bytes.len() - at < width {
+    if bytes.len() - at < width.octets() {
         return Err(short(bytes));
     }
-    Ok((number_in(&bytes[at..], width), at + width))
+    Ok((width.number(&bytes[at..]), at + width.octets()))
 }
 
 // One step, with its padding.
+#[inline(always)]
 #[tactic(auto, unfolding(crate::specs::Reading::found_at))]
 pub(crate) fn number_of<L: Ledger>(
     bytes: &[u8],
-    width: usize,
+    width: Width,
     at: usize,
     steps: &mut Steps<L>,
 ) -> Result<Found, Stop>
-    requires low { 1 ≤ width }
-    requires high { width ≤ 8 }
-    requires place { at ≤ length bytes.now }
-    ensures given { Gives (λ x. x) result (found_at width bytes.now at) }
+    requires { at ≤ length bytes.now }
+    ensures given { Gives (λ x. x) result (found_at (octets_in width) bytes.now at) }
     ensures within { IfOk result (λ x. (at + 1 ≤ x.after) × (x.after ≤ length bytes.now)) }
-    ensures small { IfOk result (λ x. x.number < 256 ^ width) }
+    ensures small { IfOk result (λ x. x.number < 256 ^ octets_in width) }
     ensures steps { steps.new ≡ steps.old + 1 }
 {
     steps.tick();
-    let start = pads_of(bytes, width, at)?;
+    let start = pads_of(bytes, width.gap(at), at)?;
     let (number, after) = plain_of(bytes, width, start)?;
     Ok(Found {
         start,

@@ -1,5 +1,5 @@
 // Values of every type, one behind the other.
-ghost use Rattle.std.specs.Prelude.{◌≡◌, ◌≤◌, ◌<◌, ◌+◌, ◌-◌, ◌^◌, ◌==◌, length, map, IfOk, position, Ok};
+ghost use Rattle.std.specs.Prelude.{◌≡◌, ◌≤◌, ◌<◌, ◌+◌, ◌-◌, ◌^◌, ◌==◌, length, map, min, IfOk, position, Ok};
 ghost use Rattle.type_layout.specs.Types.{Seq, Arr, fields_of as listed_fields};
 ghost use Rattle.type_layout.specs.Views.{plain_type, plain_field, plain_value, plain_values};
 ghost use Rattle.type_layout.specs.Members.{plain_member};
@@ -9,10 +9,8 @@ ghost use Rattle.cdr_codec.specs.Taken.{Took, pid_takes, times_take, items_take,
 
 use crate::fault::{RecordFault, Stop};
 use crate::numbers::{octet_of, short};
-use crate::single::{
-    boolean_of, char_of, enumerator_of, home_of, item_count_of, long_long_of, long_of,
-    octet_value_of, serial_of, short_of, text_length_of, ulong_long_of, ulong_of, ushort_of,
-};
+use crate::single::{home_of, item_count_of, number_value_of, serial_of, text_length_of};
+use crate::width::width_of;
 use pss_base::{Bytes, Pid, Steps};
 use std::alloc::Global;
 use std::sync::ledger::Ledger;
@@ -119,16 +117,10 @@ pub(crate) fn value_of<L: Ledger>(
     ensures steps { Advances at (length bytes.now) steps.old steps.new result }
     ensures taken { Took steps.old steps.new result (value_takes (plain_type ty.now) bytes.now at) }
 {
+    if let Some(width) = width_of(ty) {
+        return number_value_of(bytes, at, ty, width, steps);
+    }
     match ty {
-        Ty::Short => short_of(bytes, at, steps),
-        Ty::Long => long_of(bytes, at, steps),
-        Ty::LongLong => long_long_of(bytes, at, steps),
-        Ty::UShort => ushort_of(bytes, at, steps),
-        Ty::ULong => ulong_of(bytes, at, steps),
-        Ty::ULongLong => ulong_long_of(bytes, at, steps),
-        Ty::Char => char_of(bytes, at, steps),
-        Ty::Boolean => boolean_of(bytes, at, steps),
-        Ty::Octet => octet_value_of(bytes, at, steps),
         Ty::Str(bound) => {
             let (text, after) = text_of(alloc, *bound, bytes, at, steps)?;
             Ok((Value::Str(text), after))
@@ -139,11 +131,11 @@ pub(crate) fn value_of<L: Ledger>(
             let (values, after) = fields_of(alloc, fields.as_slice(), bytes, at, steps)?;
             Ok((Value::Struct(values), after))
         }
-        Ty::Enum(names) => enumerator_of(bytes, at, names, steps),
         Ty::Ref(homes) => {
             let (pid, after) = reference_of(homes, bytes, at, steps)?;
             Ok((Value::Ref(pid), after))
         }
+        _ => unreachable!(),
     }
 }
 
@@ -207,7 +199,16 @@ fn items_of<L: Ledger>(
     times_of(alloc, item, count, bytes, after, steps)
 }
 
-// The list grows by what was read, so a number that the octets do not bear out costs no memory.
+// Room for so many values, but for no more than there are octets left: the octets may not bear out their number.
+fn room_for(count: u64, left: usize) -> usize
+    ensures { result ≡ min count left }
+{
+    if count < left as u64 {
+        return count as usize;
+    }
+    left
+}
+
 #[cycle(value)]
 fn times_of<L: Ledger>(
     alloc: Global,
@@ -223,7 +224,7 @@ fn times_of<L: Ledger>(
     ensures steps { Advances at (length bytes.now) steps.old steps.new result }
     ensures taken { Took steps.old steps.new result (times_take (value_at (plain_type item.now)) (value_takes (plain_type item.now)) count bytes.now at) }
 {
-    let mut values = Values::new(alloc);
+    let mut values = Values::with_capacity(alloc, room_for(count, bytes.len() - at))?;
     let mut place = at;
     for _ in 0..count {
         let (value, after) = value_of(alloc, item, bytes, place, steps)?;
@@ -264,7 +265,7 @@ fn fields_of<L: Ledger>(
     ensures steps { Advances at (length bytes.now) steps.old steps.new result }
     ensures taken { Took steps.old steps.new result (fields_take (listed_fields (map plain_field fields.now)) bytes.now at) }
 {
-    let mut values = Values::new(alloc);
+    let mut values = Values::with_capacity(alloc, fields.len())?;
     let mut place = at;
     for field in fields {
         let (value, after) = field_of(alloc, field, bytes, place, steps)?;
@@ -287,7 +288,7 @@ pub(crate) fn members_of<L: Ledger>(
     ensures steps { Advances at (length bytes.now) steps.old steps.new result }
     ensures taken { Took steps.old steps.new result (fields_take (layout_fields (map plain_member members.now)) bytes.now at) }
 {
-    let mut values = Values::new(alloc);
+    let mut values = Values::with_capacity(alloc, members.len())?;
     let mut place = at;
     for member in members {
         let (value, after) = value_of(alloc, &member.ty, bytes, place, steps)?;

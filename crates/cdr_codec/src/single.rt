@@ -1,17 +1,18 @@
 // Each primitive but a string's octets: one step, and the test that it owes.
-ghost use Rattle.std.specs.Prelude.{◌≡◌, ◌≤◌, ◌<◌, ◌^◌, length, IfOk};
-ghost use Rattle.type_layout.specs.Types.{Short, Long, LongLong, UShort, ULong, ULongLong, Char, Boolean, Octet, Enum};
-ghost use Rattle.type_layout.specs.Views.{plain_value};
+ghost use Rattle.std.specs.Prelude.{◌≡◌, ◌≤◌, ◌<◌, ◌^◌, length, IfOk, Some};
+ghost use Rattle.type_layout.specs.Views.{plain_type, plain_value};
 ghost use Rattle.type_layout.specs.Values.{is_over as passes_bound, lists as lists_home};
 ghost use Rattle.cdr_codec.specs.Primitives.{Flag, TextLength, ItemCount, Home, Serial};
 ghost use Rattle.cdr_codec.specs.Reading.{Gives, Advances, judged_at, value_at};
-ghost use Rattle.cdr_codec.specs.Taken.{Took};
+ghost use Rattle.cdr_codec.specs.Taken.{Took, value_takes};
+ghost use Rattle.cdr_codec.specs.Widths.{number_width, number_value, FitsNumber};
 
-use crate::fault::{RecordFault, Stop};
+use crate::fault::{Found, RecordFault, Stop};
 use crate::numbers::number_of;
+use crate::width::Width;
 use pss_base::Steps;
 use std::sync::ledger::Ledger;
-use type_layout::{HomeNo, Names, Value};
+use type_layout::{HomeNo, Ty, Value};
 
 #[tactic(auto, unfolding(crate::specs::Reading::judged_at))]
 pub(crate) fn flag_of<L: Ledger>(
@@ -25,187 +26,67 @@ pub(crate) fn flag_of<L: Ledger>(
     ensures steps { Advances at (length bytes.now) steps.old steps.new result }
     ensures taken { Took steps.old steps.new result 1 }
 {
-    let found = number_of(bytes, 1, at, steps)?;
+    let found = number_of(bytes, Width::One, at, steps)?;
     if found.number != 0 {
         return Err(Stop::Fault(RecordFault::BadFlag));
     }
     Ok((found.number, found.after))
 }
 
-#[tactic(auto, unfolding(crate::specs::Reading::value_at, crate::specs::Reading::judged_at))]
-pub(crate) fn short_of<L: Ledger>(
-    bytes: &[u8],
-    at: usize,
-    steps: &mut Steps<L>,
-) -> Result<(Value, usize), Stop>
-    requires { at ≤ length bytes.now }
-    ensures given { Gives (λ x. (plain_value x.0, x.1)) result (value_at Short bytes.now at) }
-    ensures within { IfOk result (λ x. (at ≤ x.1) × (x.1 ≤ length bytes.now)) }
-    ensures steps { Advances at (length bytes.now) steps.old steps.new result }
-    ensures taken { Took steps.old steps.new result 1 }
+// The value that a number stands for, where the type's values are numbers.
+#[inline(always)]
+fn value_from(ty: &Ty, found: Found) -> Result<Value, Stop>
+    requires { FitsNumber (plain_type ty.now) found.number }
+    ensures { Gives plain_value result (number_value (plain_type ty.now) found) }
 {
-    let found = number_of(bytes, 2, at, steps)?;
-    Ok((
-        Value::Int(i128::from((found.number as u16).cast_signed())),
-        found.after,
-    ))
-}
-
-#[tactic(auto, unfolding(crate::specs::Reading::value_at, crate::specs::Reading::judged_at))]
-pub(crate) fn long_of<L: Ledger>(
-    bytes: &[u8],
-    at: usize,
-    steps: &mut Steps<L>,
-) -> Result<(Value, usize), Stop>
-    requires { at ≤ length bytes.now }
-    ensures given { Gives (λ x. (plain_value x.0, x.1)) result (value_at Long bytes.now at) }
-    ensures within { IfOk result (λ x. (at ≤ x.1) × (x.1 ≤ length bytes.now)) }
-    ensures steps { Advances at (length bytes.now) steps.old steps.new result }
-    ensures taken { Took steps.old steps.new result 1 }
-{
-    let found = number_of(bytes, 4, at, steps)?;
-    Ok((
-        Value::Int(i128::from((found.number as u32).cast_signed())),
-        found.after,
-    ))
-}
-
-#[tactic(auto, unfolding(crate::specs::Reading::value_at, crate::specs::Reading::judged_at))]
-pub(crate) fn long_long_of<L: Ledger>(
-    bytes: &[u8],
-    at: usize,
-    steps: &mut Steps<L>,
-) -> Result<(Value, usize), Stop>
-    requires { at ≤ length bytes.now }
-    ensures given { Gives (λ x. (plain_value x.0, x.1)) result (value_at LongLong bytes.now at) }
-    ensures within { IfOk result (λ x. (at ≤ x.1) × (x.1 ≤ length bytes.now)) }
-    ensures steps { Advances at (length bytes.now) steps.old steps.new result }
-    ensures taken { Took steps.old steps.new result 1 }
-{
-    let found = number_of(bytes, 8, at, steps)?;
-    Ok((
-        Value::Int(i128::from(found.number.cast_signed())),
-        found.after,
-    ))
-}
-
-#[tactic(auto, unfolding(crate::specs::Reading::value_at, crate::specs::Reading::judged_at))]
-pub(crate) fn ushort_of<L: Ledger>(
-    bytes: &[u8],
-    at: usize,
-    steps: &mut Steps<L>,
-) -> Result<(Value, usize), Stop>
-    requires { at ≤ length bytes.now }
-    ensures given { Gives (λ x. (plain_value x.0, x.1)) result (value_at UShort bytes.now at) }
-    ensures within { IfOk result (λ x. (at ≤ x.1) × (x.1 ≤ length bytes.now)) }
-    ensures steps { Advances at (length bytes.now) steps.old steps.new result }
-    ensures taken { Took steps.old steps.new result 1 }
-{
-    let found = number_of(bytes, 2, at, steps)?;
-    Ok((Value::Int(i128::from(found.number)), found.after))
-}
-
-#[tactic(auto, unfolding(crate::specs::Reading::value_at, crate::specs::Reading::judged_at))]
-pub(crate) fn ulong_of<L: Ledger>(
-    bytes: &[u8],
-    at: usize,
-    steps: &mut Steps<L>,
-) -> Result<(Value, usize), Stop>
-    requires { at ≤ length bytes.now }
-    ensures given { Gives (λ x. (plain_value x.0, x.1)) result (value_at ULong bytes.now at) }
-    ensures within { IfOk result (λ x. (at ≤ x.1) × (x.1 ≤ length bytes.now)) }
-    ensures steps { Advances at (length bytes.now) steps.old steps.new result }
-    ensures taken { Took steps.old steps.new result 1 }
-{
-    let found = number_of(bytes, 4, at, steps)?;
-    Ok((Value::Int(i128::from(found.number)), found.after))
-}
-
-#[tactic(auto, unfolding(crate::specs::Reading::value_at, crate::specs::Reading::judged_at))]
-pub(crate) fn ulong_long_of<L: Ledger>(
-    bytes: &[u8],
-    at: usize,
-    steps: &mut Steps<L>,
-) -> Result<(Value, usize), Stop>
-    requires { at ≤ length bytes.now }
-    ensures given { Gives (λ x. (plain_value x.0, x.1)) result (value_at ULongLong bytes.now at) }
-    ensures within { IfOk result (λ x. (at ≤ x.1) × (x.1 ≤ length bytes.now)) }
-    ensures steps { Advances at (length bytes.now) steps.old steps.new result }
-    ensures taken { Took steps.old steps.new result 1 }
-{
-    let found = number_of(bytes, 8, at, steps)?;
-    Ok((Value::Int(i128::from(found.number)), found.after))
-}
-
-#[tactic(auto, unfolding(crate::specs::Reading::value_at, crate::specs::Reading::judged_at))]
-pub(crate) fn octet_value_of<L: Ledger>(
-    bytes: &[u8],
-    at: usize,
-    steps: &mut Steps<L>,
-) -> Result<(Value, usize), Stop>
-    requires { at ≤ length bytes.now }
-    ensures given { Gives (λ x. (plain_value x.0, x.1)) result (value_at Octet bytes.now at) }
-    ensures within { IfOk result (λ x. (at ≤ x.1) × (x.1 ≤ length bytes.now)) }
-    ensures steps { Advances at (length bytes.now) steps.old steps.new result }
-    ensures taken { Took steps.old steps.new result 1 }
-{
-    let found = number_of(bytes, 1, at, steps)?;
-    Ok((Value::Int(i128::from(found.number)), found.after))
-}
-
-#[tactic(auto, unfolding(crate::specs::Reading::value_at, crate::specs::Reading::judged_at))]
-pub(crate) fn char_of<L: Ledger>(
-    bytes: &[u8],
-    at: usize,
-    steps: &mut Steps<L>,
-) -> Result<(Value, usize), Stop>
-    requires { at ≤ length bytes.now }
-    ensures given { Gives (λ x. (plain_value x.0, x.1)) result (value_at Char bytes.now at) }
-    ensures within { IfOk result (λ x. (at ≤ x.1) × (x.1 ≤ length bytes.now)) }
-    ensures steps { Advances at (length bytes.now) steps.old steps.new result }
-    ensures taken { Took steps.old steps.new result 1 }
-{
-    let found = number_of(bytes, 1, at, steps)?;
-    Ok((Value::Char(found.number as u8), found.after))
-}
-
-#[tactic(auto, unfolding(crate::specs::Reading::value_at, crate::specs::Reading::judged_at))]
-pub(crate) fn boolean_of<L: Ledger>(
-    bytes: &[u8],
-    at: usize,
-    steps: &mut Steps<L>,
-) -> Result<(Value, usize), Stop>
-    requires { at ≤ length bytes.now }
-    ensures given { Gives (λ x. (plain_value x.0, x.1)) result (value_at Boolean bytes.now at) }
-    ensures within { IfOk result (λ x. (at ≤ x.1) × (x.1 ≤ length bytes.now)) }
-    ensures steps { Advances at (length bytes.now) steps.old steps.new result }
-    ensures taken { Took steps.old steps.new result 1 }
-{
-    let found = number_of(bytes, 1, at, steps)?;
-    if found.number > 1 {
-        return Err(Stop::Fault(RecordFault::BadBool(found.start as u64)));
+    let number = found.number;
+    match ty {
+        Ty::Short => Ok(Value::Int(i128::from((number as u16).cast_signed()))),
+        Ty::Long => Ok(Value::Int(i128::from((number as u32).cast_signed()))),
+        Ty::LongLong => Ok(Value::Int(i128::from(number.cast_signed()))),
+        Ty::UShort => Ok(Value::Int(i128::from(number))),
+        Ty::ULong => Ok(Value::Int(i128::from(number))),
+        Ty::ULongLong => Ok(Value::Int(i128::from(number))),
+        Ty::Octet => Ok(Value::Int(i128::from(number))),
+        Ty::Char => Ok(Value::Char(number as u8)),
+        Ty::Boolean => {
+            if number > 1 {
+                return Err(Stop::Fault(RecordFault::BadBool(found.start as u64)));
+            }
+            Ok(Value::Bool(number == 1))
+        }
+        Ty::Enum(names) => {
+            if number >= names.as_slice().len() as u64 {
+                return Err(Stop::Fault(RecordFault::BadEnum(found.start as u64)));
+            }
+            Ok(Value::Enum(number as u32))
+        }
+        Ty::Str(_) => unreachable!(),
+        Ty::Seq(_, _) => unreachable!(),
+        Ty::Arr(_, _) => unreachable!(),
+        Ty::Struct(_) => unreachable!(),
+        Ty::Ref(_) => unreachable!(),
     }
-    Ok((Value::Bool(found.number == 1), found.after))
 }
 
-#[tactic(auto, unfolding(crate::specs::Reading::value_at, crate::specs::Reading::judged_at))]
-pub(crate) fn enumerator_of<L: Ledger>(
+/// The value of a type whose values are numbers of this width.
+pub(crate) fn number_value_of<L: Ledger>(
     bytes: &[u8],
     at: usize,
-    names: &Names,
+    ty: &Ty,
+    width: Width,
     steps: &mut Steps<L>,
 ) -> Result<(Value, usize), Stop>
-    requires { at ≤ length bytes.now }
-    ensures given { Gives (λ x. (plain_value x.0, x.1)) result (value_at (Enum names.now) bytes.now at) }
+    requires place { at ≤ length bytes.now }
+    requires width { number_width (plain_type ty.now) ≡ Some width }
+    ensures given { Gives (λ x. (plain_value x.0, x.1)) result (value_at (plain_type ty.now) bytes.now at) }
     ensures within { IfOk result (λ x. (at ≤ x.1) × (x.1 ≤ length bytes.now)) }
     ensures steps { Advances at (length bytes.now) steps.old steps.new result }
-    ensures taken { Took steps.old steps.new result 1 }
+    ensures taken { Took steps.old steps.new result (value_takes (plain_type ty.now) bytes.now at) }
 {
-    let found = number_of(bytes, 4, at, steps)?;
-    if found.number >= names.as_slice().len() as u64 {
-        return Err(Stop::Fault(RecordFault::BadEnum(found.start as u64)));
-    }
-    Ok((Value::Enum(found.number as u32), found.after))
+    let found = number_of(bytes, width, at, steps)?;
+    let value = value_from(ty, found)?;
+    Ok((value, found.after))
 }
 
 fn is_over(bound: u32, count: u64) -> bool
@@ -228,7 +109,7 @@ pub(crate) fn text_length_of<L: Ledger>(
     ensures steps { Advances at (length bytes.now) steps.old steps.new result }
     ensures taken { Took steps.old steps.new result 1 }
 {
-    let found = number_of(bytes, 4, at, steps)?;
+    let found = number_of(bytes, Width::Four, at, steps)?;
     if found.number == 0 {
         return Err(Stop::Fault(RecordFault::BadNul(found.start as u64)));
     }
@@ -251,7 +132,7 @@ pub(crate) fn item_count_of<L: Ledger>(
     ensures steps { Advances at (length bytes.now) steps.old steps.new result }
     ensures taken { Took steps.old steps.new result 1 }
 {
-    let found = number_of(bytes, 4, at, steps)?;
+    let found = number_of(bytes, Width::Four, at, steps)?;
     if is_over(bound, found.number) {
         return Err(Stop::Fault(RecordFault::OverBound(found.start as u64)));
     }
@@ -278,7 +159,7 @@ pub(crate) fn home_of<L: Ledger>(
     ensures steps { Advances at (length bytes.now) steps.old steps.new result }
     ensures taken { Took steps.old steps.new result 1 }
 {
-    let found = number_of(bytes, 4, at, steps)?;
+    let found = number_of(bytes, Width::Four, at, steps)?;
     if found.number != 0 && !lists(homes, found.number) {
         return Err(Stop::Fault(RecordFault::BadRef(found.start as u64)));
     }
@@ -298,7 +179,7 @@ pub(crate) fn serial_of<L: Ledger>(
     ensures steps { Advances at (length bytes.now) steps.old steps.new result }
     ensures taken { Took steps.old steps.new result 1 }
 {
-    let found = number_of(bytes, 8, at, steps)?;
+    let found = number_of(bytes, Width::Eight, at, steps)?;
     if (home == 0) != (found.number == 0) {
         return Err(Stop::Fault(RecordFault::BadRef(found.start as u64)));
     }

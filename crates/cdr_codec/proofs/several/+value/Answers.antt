@@ -11,7 +11,7 @@ use Rattle.cdr_codec.proofs.several.+value.Goals as goal
 
 pub times_of-returns-in_err-value-clause-given : goal.times_of-returns-in_err-value-clause-given
 times_of-returns-in_err-value-clause-given g t c =
-    let p = err_from_is_err_and c.from_residual.result c.from_residual.ensures.1 in
+    let p = err_from_is_err_and c.from_residual-in_err-value.result c.from_residual-in_err-value.ensures.1 in
     rw (p.1, p.2) (stops c.in_err-value.field-0.0 (value_at (plain_type c.args.item.now)) (plain_values c.loop.values) c.args.count c.loop.counter c.args.bytes.now c.loop.place (times_at (value_at (plain_type c.args.item.now)) c.args.count c.args.bytes.now c.args.at) c.loop-test.true c.in_err-value.ensures.given c.loop.invariant.3)
 
 pub times_of-loop-preserved : goal.times_of-loop-preserved
@@ -25,7 +25,7 @@ times_of-loop-preserved g t c = (
 
 pub times_of-returns-in_err-value-clause-taken : goal.times_of-returns-in_err-value-clause-taken
 times_of-returns-in_err-value-clause-taken g t c =
-    let p = err_from_is_err_and c.from_residual.result c.from_residual.ensures.1 in
+    let p = err_from_is_err_and c.from_residual-in_err-value.result c.from_residual-in_err-value.ensures.1 in
     rw (p.1, p.2) (times_stop c.in_err-value.field-0.0 (value_at (plain_type c.args.item.now)) (value_takes (plain_type c.args.item.now)) c.args.count c.loop.counter c.args.bytes.now c.loop.place _ _ _ c.loop-test.true c.in_err-value.ensures.given c.in_err-value.ensures.taken c.loop.invariant.4)
 
 pub times_of-returns-clause-taken : goal.times_of-returns-clause-taken
@@ -36,7 +36,7 @@ times_of-returns-clause-given g t c = is_done (value_at (plain_type c.args.item.
 
 pub fields_of-returns-in_err-value-clause-given : goal.fields_of-returns-in_err-value-clause-given
 fields_of-returns-in_err-value-clause-given g t c =
-    let p = err_from_is_err_and c.from_residual.result c.from_residual.ensures.1 in
+    let p = err_from_is_err_and c.from_residual-in_err-value.result c.from_residual-in_err-value.ensures.1 in
     let f = c.field-item.result in
     let total = fields_at (fields_of (map plain_field c.args.fields.now)) c.args.bytes.now c.args.at in
     let more = fields_drop c.args.fields.now c.loop-field.field-index f c.loop-field-test.true c.field-item.is in
@@ -60,7 +60,7 @@ fields_of-loop-field-preserved g t c =
 
 pub fields_of-returns-in_err-value-clause-taken : goal.fields_of-returns-in_err-value-clause-taken
 fields_of-returns-in_err-value-clause-taken g t c =
-    let p = err_from_is_err_and c.from_residual.result c.from_residual.ensures.1 in
+    let p = err_from_is_err_and c.from_residual-in_err-value.result c.from_residual-in_err-value.ensures.1 in
     let f = c.field-item.result in
     let more = fields_drop c.args.fields.now c.loop-field.field-index f c.loop-field-test.true c.field-item.is in
     rw (p.1, p.2) (fields_stop_steps c.in_err-value.field-0.0 (plain_field f).name (plain_field f).type (fields_of (map plain_field (drop (c.loop-field.field-index + 1) c.args.fields.now))) c.args.bytes.now c.loop-field.place _ _ _ c.in_err-value.ensures.given c.in_err-value.ensures.taken

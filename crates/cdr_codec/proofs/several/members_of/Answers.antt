@@ -12,7 +12,7 @@ use Rattle.cdr_codec.proofs.several.members_of.Goals as goal
 
 pub returns-in_err-value-clause-given : goal.returns-in_err-value-clause-given
 returns-in_err-value-clause-given g c =
-    let p = err_from_is_err_and c.from_residual.result c.from_residual.ensures.1 in
+    let p = err_from_is_err_and c.from_residual-in_err-value.result c.from_residual-in_err-value.ensures.1 in
     let m = c.member-item.result in
     let total = fields_at (layout_fields (map plain_member c.args.members.now)) c.args.bytes.now c.args.at in
     let more = members_drop c.args.members.now c.loop-member.member-index m c.loop-member-test.true c.member-item.is in
@@ -35,7 +35,7 @@ loop-member-preserved g c =
 
 pub returns-in_err-value-clause-taken : goal.returns-in_err-value-clause-taken
 returns-in_err-value-clause-taken g c =
-    let p = err_from_is_err_and c.from_residual.result c.from_residual.ensures.1 in
+    let p = err_from_is_err_and c.from_residual-in_err-value.result c.from_residual-in_err-value.ensures.1 in
     let m = c.member-item.result in
     let more = members_drop c.args.members.now c.loop-member.member-index m c.loop-member-test.true c.member-item.is in
     rw (p.1, p.2) (fields_stop_steps c.in_err-value.field-0.0 (plain_member m).name (plain_type m.ty) (layout_fields (map plain_member (drop (c.loop-member.member-index + 1) c.args.members.now))) c.args.bytes.now c.loop-member.place _ _ _ c.in_err-value.ensures.given c.in_err-value.ensures.taken

@@ -11,7 +11,7 @@ use Rattle.std.specs.FinMap as map
 use Rattle.std.specs.FinSet as set
 use Rattle.std.specs.FinMap.{nat_cmp-IsAntisymmetric, slice_cmp-IsAntisymmetric}
 use Rattle.key_index.specs.declared.slots.Slot.{Slot}
-use Rattle.key_index.specs.Slots.{slot_at, Turns, held_of, reserved_of, with_held, with_reserved, serial_at, is_reserved_at}
+use Rattle.key_index.specs.Slots.{slot_at, Turns, held_of, reserved_of, with_held, with_reserved, serial_of, is_reserved, serial_at, is_reserved_at}
 
 same_bytes : (xs ys : List ℕ) → bytes_eq xs ys ≡ true → xs ≡ ys
 same_bytes xs ys h = (bytes_eq-Decides xs ys).0 h
@@ -52,12 +52,12 @@ module _ {Z : Type 0} where
   pub get-held_of : (es : List (Vec ℕ Z × Slot)) (q : List ℕ) → map.get (held_of es) q ≡ serial_at (slot_at q es)
   get-held_of [] q = map.get-empty _ q
   get-held_of (e ∷ es) q =
-      get-with_held e.1.serial e.0.items q (held_of es) ∙ ap (cond (bytes_eq q e.0.items) e.1.serial) (get-held_of es q) ∙ sym (cond-serial (bytes_eq q e.0.items) (Some e.1) (slot_at q es))
+      get-with_held (serial_of e.1) e.0.items q (held_of es) ∙ ap (cond (bytes_eq q e.0.items) (serial_of e.1)) (get-held_of es q) ∙ sym (cond-serial (bytes_eq q e.0.items) (Some e.1) (slot_at q es))
 
   pub contains-reserved_of : (es : List (Vec ℕ Z × Slot)) (q : List ℕ) → set.contains (reserved_of es) q ≡ is_reserved_at (slot_at q es)
   contains-reserved_of [] q = set.contains-empty _ q
   contains-reserved_of (e ∷ es) q =
-      contains-with_reserved e.1.reserved e.0.items q (reserved_of es) ∙ ap (cond (bytes_eq q e.0.items) e.1.reserved) (contains-reserved_of es q) ∙ sym (cond-reserved (bytes_eq q e.0.items) (Some e.1) (slot_at q es))
+      contains-with_reserved (is_reserved e.1) e.0.items q (reserved_of es) ∙ ap (cond (bytes_eq q e.0.items) (is_reserved e.1)) (contains-reserved_of es q) ∙ sym (cond-reserved (bytes_eq q e.0.items) (Some e.1) (slot_at q es))
 
   -- the map after the slot of a key has turned
   pub held_turned : (old new : List (Vec ℕ Z × Slot)) (key : List ℕ) (slot : Option Slot) → Turns old new key slot → held_of new ≡ with_held (serial_at slot) key (held_of old)

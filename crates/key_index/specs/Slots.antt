@@ -8,6 +8,7 @@ use Rattle.std.specs.declared.vec.Vec.{Vec}
 use Rattle.std.specs.FinMap as map
 use Rattle.std.specs.FinSet as set
 use Rattle.key_index.specs.declared.slots.Slot.{Slot}
+use Rattle.key_index.specs.declared.slots.Slot.TheVariants.{Held, Reserved, Both}
 
 -- the map with this serial at a key, or without the key
 abbrev pub with_held : Option ℕ → List ℕ → map.FinMap (slice_cmp nat_cmp) ℕ → map.FinMap (slice_cmp nat_cmp) ℕ
@@ -19,15 +20,27 @@ abbrev pub with_reserved : Bool → List ℕ → set.FinSet (slice_cmp nat_cmp) 
 with_reserved true key s = set.insert s key
 with_reserved false key s = set.remove s key
 
--- the serial in a slot
-abbrev pub serial_at : Option Slot → Option ℕ
-serial_at None = None
-serial_at (Some slot) = slot.serial
+-- the serial that a slot holds its key with
+abbrev pub serial_of : Slot → Option ℕ
+serial_of (Held serial) = Some serial
+serial_of Reserved = None
+serial_of (Both serial) = Some serial
 
 -- a slot says that its key is reserved
+abbrev pub is_reserved : Slot → Bool
+is_reserved (Held serial) = false
+is_reserved Reserved = true
+is_reserved (Both serial) = true
+
+-- the serial behind a key
+abbrev pub serial_at : Option Slot → Option ℕ
+serial_at None = None
+serial_at (Some slot) = serial_of slot
+
+-- a key is reserved
 abbrev pub is_reserved_at : Option Slot → Bool
 is_reserved_at None = false
-is_reserved_at (Some slot) = slot.reserved
+is_reserved_at (Some slot) = is_reserved slot
 
 module _ {Z : Type 0} where
   -- the slot of a key
@@ -41,9 +54,9 @@ module _ {Z : Type 0} where
   -- the map that the slots have written: of two for one key the first counts
   abbrev pub held_of : List (Vec ℕ Z × Slot) → map.FinMap (slice_cmp nat_cmp) ℕ
   held_of [] = map.empty
-  held_of (e ∷ es) = with_held e.1.serial e.0.items (held_of es)
+  held_of (e ∷ es) = with_held (serial_of e.1) e.0.items (held_of es)
 
   -- the set likewise
   abbrev pub reserved_of : List (Vec ℕ Z × Slot) → set.FinSet (slice_cmp nat_cmp)
   reserved_of [] = set.empty
-  reserved_of (e ∷ es) = with_reserved e.1.reserved e.0.items (reserved_of es)
+  reserved_of (e ∷ es) = with_reserved (is_reserved e.1) e.0.items (reserved_of es)

@@ -46,7 +46,7 @@ impl KeyIndex {
         ensures { result ≡ map.get self.now.held key.now }
     {
         match read(&self.slots, key) {
-            Some(slot) => slot.serial,
+            Some(slot) => slot.serial(),
             None => None,
         }
     }
@@ -61,19 +61,11 @@ impl KeyIndex {
     {
         match read(&self.slots, key) {
             Some(slot) => {
-                let slot = Slot {
-                    serial: slot.serial,
-                    reserved: true,
-                };
-                write(&mut self.slots, key, slot);
+                write(&mut self.slots, key, slot.and_reserved());
                 Ok(())
             }
             None => {
-                let slot = Slot {
-                    serial: None,
-                    reserved: true,
-                };
-                add(self.alloc, &mut self.slots, key, slot)?;
+                add(self.alloc, &mut self.slots, key, Slot::Reserved)?;
                 Ok(())
             }
         }
@@ -86,11 +78,7 @@ impl KeyIndex {
         ensures held { self.new.held ≡ map.insert self.old.held key.now serial }
         ensures reserved { self.new.reserved ≡ set.remove self.old.reserved key.now }
     {
-        let held = Slot {
-            serial: Some(serial),
-            reserved: false,
-        };
-        write(&mut self.slots, key, held);
+        write(&mut self.slots, key, Slot::Held(serial));
     }
 
     /// Takes a key that is held out, and answers its serial, or none where it is not held. A
@@ -101,19 +89,16 @@ impl KeyIndex {
         ensures reserved { self.new.reserved ≡ self.old.reserved }
     {
         match read(&self.slots, key) {
-            None => None,
             Some(slot) => {
-                if slot.reserved {
-                    let kept = Slot {
-                        serial: None,
-                        reserved: true,
-                    };
-                    write(&mut self.slots, key, kept);
+                let serial = slot.serial();
+                if slot.is_reserved() {
+                    write(&mut self.slots, key, Slot::Reserved);
                 } else {
                     remove(&mut self.slots, key);
                 }
-                slot.serial
+                serial
             }
+            None => None,
         }
     }
 }

@@ -1,5 +1,5 @@
 // The table behind an index: a slot for each key that is held, reserved or both.
-ghost use Rattle.std.specs.Prelude.{◌≡◌, [], Some, None, OnOk, OnErr, IsSome};
+ghost use Rattle.std.specs.Prelude.{◌≡◌, [], Some, None, true, OnOk, OnErr, IsSome};
 ghost use Rattle.key_index.specs.Slots.{slot_at, Turns};
 
 use indexmap::IndexMap;
@@ -7,12 +7,51 @@ use pss_base::NoMemory;
 use std::alloc::Global;
 use std::hash::{BuildHasherDefault, DefaultHasher};
 
-/// What stands behind a key.
+/// What stands behind a key. A key with nothing behind it has no slot.
 #[derive(Clone, Copy, Drop)]
-pub struct Slot {
-    /// The serial that the key is held with.
-    pub serial: Option<u64>,
-    pub reserved: bool,
+pub enum Slot {
+    /// The key is held with this serial.
+    Held(u64),
+    Reserved,
+    /// The key is held with this serial, and reserved.
+    Both(u64),
+}
+
+impl Slot {
+    ghost use Rattle.key_index.specs.Slots.{serial_of, is_reserved};
+
+    /// The serial that the key is held with, or none where it is not held.
+    pub fn serial(self) -> Option<u64>
+        ensures { result ≡ serial_of self }
+    {
+        match self {
+            Slot::Held(serial) => Some(serial),
+            Slot::Reserved => None,
+            Slot::Both(serial) => Some(serial),
+        }
+    }
+
+    pub fn is_reserved(self) -> bool
+        ensures { result ≡ is_reserved self }
+    {
+        match self {
+            Slot::Held(_) => false,
+            Slot::Reserved => true,
+            Slot::Both(_) => true,
+        }
+    }
+
+    /// The slot with its key reserved, and held as before.
+    pub fn and_reserved(self) -> Slot
+        ensures held { serial_of result ≡ serial_of self }
+        ensures reserved { is_reserved result ≡ true }
+    {
+        match self {
+            Slot::Held(serial) => Slot::Both(serial),
+            Slot::Reserved => Slot::Reserved,
+            Slot::Both(serial) => Slot::Both(serial),
+        }
+    }
 }
 
 pub type Slots = IndexMap<Vec<u8>, Slot, BuildHasherDefault<DefaultHasher>>;

@@ -1,15 +1,17 @@
 use Rattle.std.proofs.Common.{ap, ◌∙◌}
 use Rattle.std.specs.FinSet as set
 use Rattle.key_index.specs.Index.{Index}
-use Rattle.key_index.specs.Slots.{serial_at}
+use Rattle.key_index.specs.Slots.{serial_at, with_reserved, reserved_of}
 use Rattle.key_index.proofs.Turning.{reserved_turned, held_kept}
 use Rattle.key_index.proofs.index.KeyIndex.reserve.Goals as goal
 
 pub returns-in-Some-clause-held : goal.returns-in-Some-clause-held
-returns-in-Some-clause-held c = held_kept _ _ _ _ c.write.ensures (ap serial_at c.in-Some.ensures) ∙ ap (λ (v : Index). v.held) c.self.view_is
+returns-in-Some-clause-held c = held_kept _ _ _ _ c.write.ensures (c.and_reserved.ensures.held ∙ ap serial_at c.in-Some.ensures) ∙ ap (λ (v : Index). v.held) c.self.view_is
 
 pub returns-in-Some-clause-ok : goal.returns-in-Some-clause-ok
-returns-in-Some-clause-ok c = reserved_turned _ _ _ _ c.write.ensures ∙ ap (λ (v : Index). set.insert v.reserved c.args.key.now) c.self.view_is
+returns-in-Some-clause-ok c =
+    reserved_turned _ _ _ _ c.write.ensures ∙ ap (λ b. with_reserved b c.args.key.now (reserved_of c.self.inside.slots.entries)) c.and_reserved.ensures.reserved
+    ∙ ap (λ (v : Index). set.insert v.reserved c.args.key.now) c.self.view_is
 
 pub returns-in_ok-add-in-None-clause-held : goal.returns-in_ok-add-in-None-clause-held
 returns-in_ok-add-in-None-clause-held c = held_kept _ _ _ _ c.in_ok-add-in-None.ensures.ok (ap serial_at c.in-None.ensures) ∙ ap (λ (v : Index). v.held) c.self.view_is

@@ -25,6 +25,11 @@ product-loop-part-preserved t c =
     assessing.goes_on views.product_part_view (assessing.product_part env c.args.width) c.deref-part-items.result.now c.loop-part.part-index c.part-item.result c.loop-part.so_far _ _ c.loop-part-test.true c.part-item.is c.loop-part.invariant
     (rw (levels.product_part_opened c.part-item.result) (c.operated-so_far.ensures ∙ rw (c.product_operator.ensures, c.in_ok-next.ensures) refl))
 
+pub product-returns : goal.product-returns
+product-returns t c =
+    let env = λ (name : Name). number_of (names_by c.args.sight.now name) in
+    assessing.ends views.product_part_view (assessing.product_part env c.args.width) c.deref-part-items.result.now c.loop-part.part-index c.loop-part.so_far _ c.loop-part-test.false c.loop-part.invariant
+
 pub sum-loop-part-init : goal.sum-loop-part-init
 sum-loop-part-init t c =
     let env = λ (name : Name). number_of (names_by c.args.sight.now name) in
@@ -38,6 +43,11 @@ sum-loop-part-preserved t c =
     let env = λ (name : Name). number_of (names_by c.args.sight.now name) in
     assessing.goes_on views.sum_part_view (assessing.sum_part env c.args.width) c.deref-part-items.result.now c.loop-part.part-index c.part-item.result c.loop-part.so_far _ _ c.loop-part-test.true c.part-item.is c.loop-part.invariant
     (rw (levels.sum_part_opened c.part-item.result) (c.operated-so_far.ensures ∙ rw (c.sum_operator.ensures, c.in_ok-next.ensures) refl))
+
+pub sum-returns : goal.sum-returns
+sum-returns t c =
+    let env = λ (name : Name). number_of (names_by c.args.sight.now name) in
+    assessing.ends views.sum_part_view (assessing.sum_part env c.args.width) c.deref-part-items.result.now c.loop-part.part-index c.loop-part.so_far _ c.loop-part-test.false c.loop-part.invariant
 
 pub shift-loop-part-init : goal.shift-loop-part-init
 shift-loop-part-init t c =
@@ -53,6 +63,11 @@ shift-loop-part-preserved t c =
     assessing.goes_on views.shift_part_view (assessing.shift_part env c.args.width) c.deref-part-items.result.now c.loop-part.part-index c.part-item.result c.loop-part.so_far _ _ c.loop-part-test.true c.part-item.is c.loop-part.invariant
     (rw (levels.shift_part_opened c.part-item.result) (c.operated-so_far.ensures ∙ rw (c.shift_operator.ensures, c.in_ok-next.ensures) refl))
 
+pub shift-returns : goal.shift-returns
+shift-returns t c =
+    let env = λ (name : Name). number_of (names_by c.args.sight.now name) in
+    assessing.ends views.shift_part_view (assessing.shift_part env c.args.width) c.deref-part-items.result.now c.loop-part.part-index c.loop-part.so_far _ c.loop-part-test.false c.loop-part.invariant
+
 pub and-loop-part-init : goal.and-loop-part-init
 and-loop-part-init t c =
     let env = λ (name : Name). number_of (names_by c.args.sight.now name) in
@@ -66,6 +81,11 @@ and-loop-part-preserved t c =
     let env = λ (name : Name). number_of (names_by c.args.sight.now name) in
     assessing.goes_on views.and_part_view (assessing.and_part env c.args.width) c.deref-part-items.result.now c.loop-part.part-index c.part-item.result c.loop-part.so_far _ _ c.loop-part-test.true c.part-item.is c.loop-part.invariant
     (rw (levels.and_part_opened c.part-item.result) (c.operated-so_far.ensures ∙ rw c.in_ok-next.ensures refl))
+
+pub and-returns : goal.and-returns
+and-returns t c =
+    let env = λ (name : Name). number_of (names_by c.args.sight.now name) in
+    assessing.ends views.and_part_view (assessing.and_part env c.args.width) c.deref-part-items.result.now c.loop-part.part-index c.loop-part.so_far _ c.loop-part-test.false c.loop-part.invariant
 
 pub xor-loop-part-init : goal.xor-loop-part-init
 xor-loop-part-init t c =
@@ -81,6 +101,11 @@ xor-loop-part-preserved t c =
     assessing.goes_on views.xor_part_view (assessing.xor_part env c.args.width) c.deref-part-items.result.now c.loop-part.part-index c.part-item.result c.loop-part.so_far _ _ c.loop-part-test.true c.part-item.is c.loop-part.invariant
     (rw (levels.xor_part_opened c.part-item.result) (c.operated-so_far.ensures ∙ rw c.in_ok-next.ensures refl))
 
+pub xor-returns : goal.xor-returns
+xor-returns t c =
+    let env = λ (name : Name). number_of (names_by c.args.sight.now name) in
+    assessing.ends views.xor_part_view (assessing.xor_part env c.args.width) c.deref-part-items.result.now c.loop-part.part-index c.loop-part.so_far _ c.loop-part-test.false c.loop-part.invariant
+
 pub assess-loop-part-init : goal.assess-loop-part-init
 assess-loop-part-init t c =
     let env = λ (name : Name). number_of (names_by c.args.sight.now name) in
@@ -94,3 +119,8 @@ assess-loop-part-preserved t c =
     let env = λ (name : Name). number_of (names_by c.args.sight.now name) in
     assessing.goes_on views.or_part_view (assessing.assessed_part env c.args.width) c.deref-part-items.result.now c.loop-part.part-index c.part-item.result c.loop-part.so_far _ _ c.loop-part-test.true c.part-item.is c.loop-part.invariant
     (rw (levels.or_part_opened c.part-item.result) (c.operated-so_far.ensures ∙ rw c.in_ok-next.ensures refl))
+
+pub assess-returns : goal.assess-returns
+assess-returns t c =
+    let env = λ (name : Name). number_of (names_by c.args.sight.now name) in
+    assessing.ends views.or_part_view (assessing.assessed_part env c.args.width) c.deref-part-items.result.now c.loop-part.part-index c.loop-part.so_far _ c.loop-part-test.false c.loop-part.invariant

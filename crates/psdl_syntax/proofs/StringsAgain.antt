@@ -2,7 +2,7 @@
 use Rattle.std.proofs.Common.{◌≡◌, ℕ, ◌+◌, ◌-◌, ◌/◌, ◌%◌, ◌<◌, List, [], ◌∷◌, ◌++◌, Bool, true, false, not, ◌||◌, ◌&&◌, ◌==◌, length, take, Option, Some, refl, ap, ◌∙◌, inl, inr, arith, append_assoc, length-append}
 use Rattle.std.specs.Prelude.{nat_lt, option_map}
 use Rattle.std.specs.List.{list_all}
-use Rattle.std.specs.Char.{is_digit, digit_value}
+use Rattle.std.specs.Char.{is_digit, digit_value, digit_char}
 use Rattle.std.specs.Str.Parse.{digits_value}
 use Rattle.std.proofs.lemmas.Bool.{cases_Bool, cases_lt, lt-ltb, ltb-true, ne_eqb, eqb-true, and_parts, or_parts, or_cases, not-false}
 use Rattle.psdl_tokens.specs.declared.character.Character.{Character}
@@ -11,14 +11,14 @@ use Rattle.psdl_tokens.specs.declared.token.TokenKind.TheVariants as kinds
 use Rattle.psdl_tokens.specs.declared.lexeme.Lexeme.TheVariants.{Found}
 use Rattle.psdl_tokens.specs.Characters.{character, digit_count, byte_of, onto_string, longer, string_in}
 use Rattle.psdl_tokens.specs.Lexis.{lexeme, string_lexeme}
-use Rattle.psdl_syntax.specs.Canonical.{digit_text, is_printed, is_numbered, character_text, characters_text, string_text}
+use Rattle.psdl_syntax.specs.Canonical.{is_printed, is_numbered, character_text, characters_text, string_text}
 
 -- a byte that is not NUL
 abbrev pub is_text_byte : ℕ → Bool
 is_text_byte byte = nat_lt 0 byte && nat_lt byte 256
 
 -- a digit as it is written
-digit_again : (d : ℕ) → d < 16 → digit_value (digit_text d) ≡ d
+digit_again : (d : ℕ) → d < 16 → digit_value (digit_char d) ≡ d
 digit_again d h =
     elim (cases_lt d 10) [
       | inl small ↦ grind arith
@@ -43,7 +43,7 @@ digits_again byte tail text =
     let low : byte % 16 < 16 = omega arith in
     let h = digit_again (byte / 16) high in
     let l = digit_again (byte % 16) low in
-    numbered_character (digit_text (byte / 16)) (digit_text (byte % 16)) byte tail
+    numbered_character (digit_char (byte / 16)) (digit_char (byte % 16)) byte tail
     (ap (λ d. nat_lt d 16) h ∙ lt-ltb (byte / 16) 16 high)
     (ap (λ d. nat_lt d 16) l ∙ lt-ltb (byte % 16) 16 low)
     (omega (arith, h, l))
@@ -80,7 +80,7 @@ string_more b bs c other e = rw (other, e) refl
 
 numbered_more : (byte : ℕ) (bytes tail : List ℕ) (size : ℕ) → is_text_byte byte ≡ true → string_in 0 tail ≡ of_size bytes size → string_in 0 (character_text true byte ++ tail) ≡ of_size (byte ∷ bytes) (4 + size)
 numbered_more byte bytes tail size text e =
-    string_more 92 (120 ∷ digit_text (byte / 16) ∷ digit_text (byte % 16) ∷ tail) (record { byte = byte; size = 4 }) refl (digits_again byte tail text)
+    string_more 92 (120 ∷ digit_char (byte / 16) ∷ digit_char (byte % 16) ∷ tail) (record { byte = byte; size = 4 }) refl (digits_again byte tail text)
     ∙ ap (λ s. onto_string (Some (record { byte = byte; size = 4 })) (longer 1 (longer 1 (longer 1 (longer 1 s))))) e
     ∙ same_size (byte ∷ bytes) ((((size + 1) + 1) + 1) + 1) (4 + size) (omega arith)
 

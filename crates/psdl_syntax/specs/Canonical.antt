@@ -1,6 +1,6 @@
 -- The canonical text of tokens: what stands between two neighbours, and what each token is written as.
 use Rattle.std.specs.Prelude.{ℕ, ◌+◌, ◌-◌, ◌/◌, ◌%◌, zero, suc, List, [], ◌∷◌, ◌++◌, Bool, true, false, if◌then◌else◌, ◌&&◌, ◌||◌, ◌==◌, not, nat_lt}
-use Rattle.std.specs.Char.{is_digit}
+use Rattle.std.specs.Char.{is_digit, digit_char}
 use Rattle.std.specs.Fmt.{decimal}
 use Rattle.psdl_tokens.specs.declared.token.Mark.{Mark}
 use Rattle.psdl_tokens.specs.declared.token.Mark.TheVariants.{Scope, LeftBrace, RightBrace, LeftParen, RightParen, LeftBracket, RightBracket, Less, Greater, Semicolon, Comma, Plus, Minus, Not}
@@ -21,10 +21,6 @@ indent (suc depth) = 32 ∷ 32 ∷ indent depth
 unfoldable pub name_text : List ℕ → List ℕ
 name_text name = if is_keyword_like name || is_left_out name then 95 ∷ name else name
 
--- a digit from 0 to 15, small where it is a letter
-abbrev pub digit_text : ℕ → ℕ
-digit_text digit = if nat_lt digit 10 then 48 + digit else 87 + digit
-
 -- from a space to `~`
 abbrev pub is_printed : ℕ → Bool
 is_printed byte = nat_lt 31 byte && nat_lt byte 127
@@ -36,7 +32,7 @@ is_numbered behind byte = not (is_printed byte) || (behind && is_digit byte 16)
 
 -- a byte of a string, by its digits or as it is
 abbrev pub character_text : Bool → ℕ → List ℕ
-character_text true byte = 92 ∷ 120 ∷ digit_text (byte / 16) ∷ digit_text (byte % 16) ∷ []
+character_text true byte = 92 ∷ 120 ∷ digit_char (byte / 16) ∷ digit_char (byte % 16) ∷ []
 character_text false byte = if byte == 34 || byte == 92 then 92 ∷ byte ∷ [] else byte ∷ []
 
 -- the bytes of a string, of which the one in front is written by its digits or not

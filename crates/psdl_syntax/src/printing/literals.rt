@@ -3,11 +3,11 @@ ghost use Rattle.std.specs.Prelude.{◌≡◌, ◌<◌, ◌++◌, ◌&&◌, ◌|
 ghost use Rattle.std.specs.Char.{is_digit};
 ghost use Rattle.std.specs.Fmt.{decimal};
 ghost use Rattle.psdl_tokens.specs.Lexis.{is_keyword_like, is_left_out};
-ghost use Rattle.psdl_syntax.specs.Canonical.{name_text, digit_text, is_numbered, character_text, string_text};
+ghost use Rattle.psdl_syntax.specs.Canonical.{name_text, is_numbered, character_text, string_text};
 
 use itoa::Buffer;
 use psdl_tokens::{is_digit, is_keyword, is_left_out};
-use pss_base::{Bytes, NoMemory};
+use pss_base::{Bytes, NoMemory, hex_digit};
 
 fn is_reserved(name: &[u8]) -> bool
     ensures { result ≡ (is_keyword_like name.now || is_left_out name.now) }
@@ -34,17 +34,6 @@ pub(super) fn extend_integer(text: &mut Bytes, value: u128) -> Result<(), NoMemo
     text.extend(buffer.format(value).as_bytes())
 }
 
-fn digit_text(digit: u8) -> u8
-    requires { digit < 16 }
-    ensures { result ≡ digit_text digit }
-{
-    if digit < 10 {
-        b'0' + digit
-    } else {
-        b'a' - 10 + digit
-    }
-}
-
 fn is_numbered(behind: bool, byte: u8) -> bool
     ensures { result ≡ is_numbered behind byte }
 {
@@ -56,7 +45,7 @@ fn extend_character(text: &mut Bytes, numbered: bool, byte: u8) -> Result<(), No
     ensures { OnOk result (text.new ≡ text.old ++ character_text numbered byte) }
 {
     if numbered {
-        text.extend(&[b'\\', b'x', digit_text(byte / 16), digit_text(byte % 16)])
+        text.extend(&[b'\\', b'x', hex_digit(byte / 16), hex_digit(byte % 16)])
     } else if byte == b'"' || byte == b'\\' {
         text.extend(&[b'\\', byte])
     } else {

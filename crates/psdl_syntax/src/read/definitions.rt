@@ -12,7 +12,8 @@ use super::stores::{
 };
 use super::types::{at_integer_type, declarators_of, fields_of, integer_type_of, type_spec_of};
 use super::words::{
-    Read, at_keyword, before, before_brace, identifier_of, keyword_of, mark_of, open_of,
+    Read, at_keyword, before, before_brace, behind_keyword, identifier_of, keyword_of, mark_of,
+    open_of,
 };
 use psdl_tokens::{Keyword, Mark, Token};
 use psdl_tree::{
@@ -29,12 +30,10 @@ fn constant_type_of(alloc: Global, tokens: &[Token]) -> Read<'_, ConstantType>
         let (integer, rest) = integer_type_of(tokens)?;
         return Ok((ConstantType::Integer(integer), rest));
     }
-    if at_keyword(Keyword::Octet, tokens) {
-        let rest = keyword_of(Keyword::Octet, tokens)?;
+    if let Some(rest) = behind_keyword(Keyword::Octet, tokens) {
         return Ok((ConstantType::Octet, rest));
     }
-    if at_keyword(Keyword::String, tokens) {
-        let rest = keyword_of(Keyword::String, tokens)?;
+    if let Some(rest) = behind_keyword(Keyword::String, tokens) {
         return Ok((ConstantType::String, rest));
     }
     let (name, rest) = name_of(alloc, tokens)?;

@@ -12,7 +12,7 @@ use super::operators::{
     sum_operator_of,
 };
 use super::words::{
-    Read, at_integer, at_mark, at_name, at_text, integer_literal_of, mark_of, open_paren_of,
+    Read, at_integer, at_mark, at_name, at_text, before, integer_literal_of, open_paren_of,
     place_of, text_literal_of,
 };
 use psdl_tokens::{Mark, Token};
@@ -241,10 +241,10 @@ fn group_of(alloc: Global, depth: u32, tokens: &[Token]) -> Read<'_, Group>
 {
     let (place, rest) = open_paren_of(depth, tokens)?;
     let (inner, rest) = expression_of(alloc, depth - 1, rest)?;
-    let rest = mark_of(Mark::RightParen, rest)?;
+    let (enclosed, rest) = before(Mark::RightParen, inner, rest)?;
     let group = Group {
         place,
-        inner: Box::new(alloc, inner)?,
+        inner: Box::new(alloc, enclosed)?,
     };
     Ok((group, rest))
 }

@@ -9,8 +9,8 @@ ghost use Rattle.psdl_tokens.specs.declared.token.Mark.TheVariants as marks;
 use super::names::identifiers_of;
 use super::types::state_type_of;
 use super::words::{
-    Read, at_identifier, at_keyword, at_mark, before, identifier_of, keyword_of, mark_of,
-    open_paren_of,
+    Read, at_identifier, at_keyword, at_mark, before, behind_keyword, identifier_of, keyword_of,
+    mark_of, open_paren_of,
 };
 use psdl_tokens::{Keyword, Mark, Token};
 use psdl_tree::{
@@ -31,11 +31,10 @@ pub(super) fn at_state(tokens: &[Token]) -> bool
 fn readonly_of(tokens: &[Token]) -> Read<'_, bool>
     ensures { Gives (λ x. (x.0, map seen x.1.now)) result (readonly_at (map seen tokens.now)) }
 {
-    if at_keyword(Keyword::ReadOnly, tokens) {
-        let rest = keyword_of(Keyword::ReadOnly, tokens)?;
-        return Ok((true, rest));
+    match behind_keyword(Keyword::ReadOnly, tokens) {
+        Some(rest) => Ok((true, rest)),
+        None => Ok((false, tokens)),
     }
-    Ok((false, tokens))
 }
 
 #[tactic(auto, unfolding(crate::specs::Productions::state_at))]
@@ -67,12 +66,10 @@ fn at_direction(tokens: &[Token]) -> bool
 fn direction_of(tokens: &[Token]) -> Read<'_, Direction>
     ensures { Gives (λ x. (x.0, map seen x.1.now)) result (direction_at (map seen tokens.now)) }
 {
-    if at_keyword(Keyword::In, tokens) {
-        let rest = keyword_of(Keyword::In, tokens)?;
+    if let Some(rest) = behind_keyword(Keyword::In, tokens) {
         return Ok((Direction::In, rest));
     }
-    if at_keyword(Keyword::Out, tokens) {
-        let rest = keyword_of(Keyword::Out, tokens)?;
+    if let Some(rest) = behind_keyword(Keyword::Out, tokens) {
         return Ok((Direction::Out, rest));
     }
     let rest = keyword_of(Keyword::InOut, tokens)?;
@@ -158,8 +155,7 @@ fn operation_parameters_of(
 fn operation_result_of(alloc: Global, depth: u32, tokens: &[Token]) -> Read<'_, OperationResult>
     ensures { Gives (λ x. (operation_result_view x.0, map seen x.1.now)) result (operation_result_at depth (map seen tokens.now)) }
 {
-    if at_keyword(Keyword::Void, tokens) {
-        let rest = keyword_of(Keyword::Void, tokens)?;
+    if let Some(rest) = behind_keyword(Keyword::Void, tokens) {
         return Ok((OperationResult::Void, rest));
     }
     let (state_type, rest) = state_type_of(alloc, depth, tokens)?;

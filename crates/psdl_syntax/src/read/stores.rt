@@ -8,7 +8,8 @@ ghost use Rattle.psdl_syntax.specs.Productions.{is_inside, is_abstract_type_body
 use super::members::{at_state, factory_of, key_of, operation_of, state_of};
 use super::names::{name_of, names_of};
 use super::words::{
-    Read, at_keyword, at_mark, before, before_brace, identifier_of, keyword_of, mark_of, open_of,
+    Read, at_keyword, at_mark, before, before_brace, behind_keyword, identifier_of, keyword_of,
+    mark_of, open_of,
 };
 use psdl_tokens::{Keyword, Mark, Token};
 use psdl_tree::{
@@ -46,12 +47,11 @@ fn base_of(alloc: Global, tokens: &[Token]) -> Read<'_, Option<Name>>
 fn implements_of(alloc: Global, tokens: &[Token]) -> Read<'_, Option<Names>>
     ensures { Gives (λ x. (option_map names_view x.0, map seen x.1.now)) result (implements_at (map seen tokens.now)) }
 {
-    if at_keyword(Keyword::Implements, tokens) {
-        let rest = keyword_of(Keyword::Implements, tokens)?;
-        let (names, rest) = names_of(alloc, rest)?;
-        return Ok((Some(names), rest));
-    }
-    Ok((None, tokens))
+    let Some(rest) = behind_keyword(Keyword::Implements, tokens) else {
+        return Ok((None, tokens));
+    };
+    let (names, rest) = names_of(alloc, rest)?;
+    Ok((Some(names), rest))
 }
 
 #[tactic(auto, unfolding(crate::specs::Productions::abstract_type_member_at))]

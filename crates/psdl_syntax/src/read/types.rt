@@ -9,7 +9,8 @@ ghost use Rattle.psdl_tokens.specs.declared.token.Mark.TheVariants as marks;
 use super::expressions::expression_of;
 use super::names::name_of;
 use super::words::{
-    Read, at_keyword, at_mark, before, before_brace, identifier_of, keyword_of, mark_of, open_of,
+    Read, at_keyword, at_mark, before, before_brace, behind_keyword, identifier_of, keyword_of,
+    mark_of, open_of,
 };
 use psdl_tokens::{Keyword, Mark, Token};
 use psdl_tree::{
@@ -22,24 +23,21 @@ use std::alloc::Global;
 fn integer_size_of(tokens: &[Token]) -> Read<'_, IntegerSize>
     ensures { Gives (λ x. (x.0, map seen x.1.now)) result (integer_size_at (map seen tokens.now)) }
 {
-    if at_keyword(Keyword::Short, tokens) {
-        let rest = keyword_of(Keyword::Short, tokens)?;
+    if let Some(rest) = behind_keyword(Keyword::Short, tokens) {
         return Ok((IntegerSize::Short, rest));
     }
     let rest = keyword_of(Keyword::Long, tokens)?;
-    if at_keyword(Keyword::Long, rest) {
-        let rest = keyword_of(Keyword::Long, rest)?;
-        return Ok((IntegerSize::LongLong, rest));
+    match behind_keyword(Keyword::Long, rest) {
+        Some(rest) => Ok((IntegerSize::LongLong, rest)),
+        None => Ok((IntegerSize::Long, rest)),
     }
-    Ok((IntegerSize::Long, rest))
 }
 
 #[tactic(auto, unfolding(crate::specs::Productions::integer_at))]
 pub(super) fn integer_type_of(tokens: &[Token]) -> Read<'_, IntegerType>
     ensures { Gives (λ x. (x.0, map seen x.1.now)) result (integer_at (map seen tokens.now)) }
 {
-    if at_keyword(Keyword::Unsigned, tokens) {
-        let rest = keyword_of(Keyword::Unsigned, tokens)?;
+    if let Some(rest) = behind_keyword(Keyword::Unsigned, tokens) {
         let (size, rest) = integer_size_of(rest)?;
         let integer = IntegerType {
             unsigned: true,
@@ -94,16 +92,13 @@ fn plain_type_of(alloc: Global, depth: u32, tokens: &[Token]) -> Read<'_, PlainT
         let (integer, rest) = integer_type_of(tokens)?;
         return Ok((PlainType::Integer(integer), rest));
     }
-    if at_keyword(Keyword::Char, tokens) {
-        let rest = keyword_of(Keyword::Char, tokens)?;
+    if let Some(rest) = behind_keyword(Keyword::Char, tokens) {
         return Ok((PlainType::Char, rest));
     }
-    if at_keyword(Keyword::Boolean, tokens) {
-        let rest = keyword_of(Keyword::Boolean, tokens)?;
+    if let Some(rest) = behind_keyword(Keyword::Boolean, tokens) {
         return Ok((PlainType::Boolean, rest));
     }
-    if at_keyword(Keyword::Octet, tokens) {
-        let rest = keyword_of(Keyword::Octet, tokens)?;
+    if let Some(rest) = behind_keyword(Keyword::Octet, tokens) {
         return Ok((PlainType::Octet, rest));
     }
     if at_keyword(Keyword::String, tokens) {

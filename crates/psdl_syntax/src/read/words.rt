@@ -1,5 +1,5 @@
 // One token, and whether it is the next.
-ghost use Rattle.std.specs.Prelude.{◌≡◌, ◌<◌, IfOk, OnOk, false, true, map, length};
+ghost use Rattle.std.specs.Prelude.{◌≡◌, ◌<◌, IfOk, IfSome, OnOk, Ok, is_some, false, true, map, length};
 ghost use Rattle.part_readers.specs.Reading.{Gives, starts};
 ghost use Rattle.psdl_syntax.specs.Codes.{same_keyword, same_mark};
 ghost use Rattle.psdl_syntax.specs.Seen.{seen, keeps_place};
@@ -68,6 +68,21 @@ pub(super) fn keyword_of(keyword: Keyword, tokens: &[Token]) -> Result<&[Token],
             _ => unexpected(tokens),
         },
         [] => unexpected(tokens),
+    }
+}
+
+/// What stands behind a keyword, where it is the next token.
+#[tactic(auto, unfolding(crate::specs::Productions::word_at))]
+pub(super) fn behind_keyword(keyword: Keyword, tokens: &[Token]) -> Option<&[Token]>
+    ensures there { is_some result ≡ starts (is_word keyword) (map seen tokens.now) }
+    ensures read { IfSome result (λ x. word_at keyword (map seen tokens.now) ≡ Ok (tt, map seen x.now)) }
+{
+    match tokens {
+        [token, rest @ ..] => match &token.kind {
+            TokenKind::Keyword(first) if same_keyword(*first, keyword) => Some(rest),
+            _ => None,
+        },
+        [] => None,
     }
 }
 

@@ -132,5 +132,5 @@ product_parts_of-loop-preserved t c =
 
 pub group_of-returns : goal.group_of-returns
 group_of-returns t c =
-    rw (group_rolled c.in_ok-place.place c.in_ok-new.field-0, c.in_ok-new.ensures.ok)
-    (group_gives c.args.depth (map seen c.args.tokens.now) (map seen c.in_ok-place.rest.now) (map seen c.in_ok-inner.rest.now) (map seen c.in_ok-rest.rest.now) c.in_ok-place.place (expression_view c.in_ok-inner.inner) c.in_ok-place.ensures.room c.in_ok-place.ensures.read c.in_ok-inner.ensures c.in_ok-rest.ensures)
+    rw (group_rolled c.in_ok-place.place c.in_ok-new.field-0, c.in_ok-new.ensures.ok, c.in_ok-enclosed.ensures.kept)
+    (group_gives c.args.depth (map seen c.args.tokens.now) (map seen c.in_ok-place.rest.now) (map seen c.in_ok-inner.rest.now) (map seen c.in_ok-enclosed.rest.now) c.in_ok-place.place (expression_view c.in_ok-inner.inner) c.in_ok-place.ensures.room c.in_ok-place.ensures.read c.in_ok-inner.ensures c.in_ok-enclosed.ensures.sign)

@@ -11,10 +11,14 @@ use Rattle.type_layout.specs.Views.{plain_type, plain_value}
 use Rattle.type_layout.specs.Members.{plain_member}
 use Rattle.cdr_codec.proofs.Loop.{members_drop}
 use Rattle.type_layout.specs.declared.home.HomeNo.{HomeNo}
-use Rattle.type_layout.specs.Types.{PlainType, Short, Long, LongLong, UShort, ULong, ULongLong, Char, Boolean, Octet, Str, Seq, Arr, Struct, Enum, RefTo, PlainFields, no_fields, field_and, PlainValue, Int, Character, Truth, Ordinal, Text, Items, Parts, Ref, PlainValues, no_values, value_and, values_of}
+use Rattle.type_layout.specs.Types.{PlainType, Str, Seq, Arr, Struct, RefTo, PlainFields, no_fields, field_and, PlainValue, Text, Items, Parts, Ref, PlainValues, no_values, value_and, values_of}
 use Rattle.type_layout.specs.Values.{Of, AreOf, EachOf, count, layout_fields}
 use Rattle.type_layout.specs.Spelling.{gap, padding, each, spelling, spellings}
+use Rattle.type_layout.specs.Keys.{key_part}
+use Rattle.cdr_codec.specs.declared.width.Width.{Width}
+use Rattle.cdr_codec.specs.Widths.{octets_in, number_width}
 use Rattle.cdr_codec.specs.Lengths.{place_behind, parts_of}
+use Rattle.cdr_codec.proofs.Standing.{stands_in}
 
 -- a place that is kept up to a limit goes on as the place does
 pub kept : (p q m : ℕ) (f : ℕ → ℕ) → q ≡ min p m → min (q + f q) m ≡ min (p + f p) m
@@ -31,48 +35,11 @@ pub length-both : (first : List ℕ) (second : ℕ → List ℕ) (at n : ℕ) �
 length-both first second at n is = length-append first (second (at + length first)) ∙ ap (λ (k : ℕ). k + length (second (at + k))) is
 
 -- the end of a number, by the value that it is
-abbrev pub EndsNumber : PlainType → ℕ → Type 0
-EndsNumber t width = (v : PlainValue) (at result : ℕ) → Of t v → result ≡ place_behind at (gap width at + width) → result ≡ place_behind at (length (spelling t v at))
-
-pub short_ends : EndsNumber Short 2
-short_ends (Int z) at result o is = is ∙ ap (place_behind at) (sym (number_length 2 _ at))
-short_ends _ at result o is = absurd o
-
-pub long_ends : EndsNumber Long 4
-long_ends (Int z) at result o is = is ∙ ap (place_behind at) (sym (number_length 4 _ at))
-long_ends _ at result o is = absurd o
-
-pub long_long_ends : EndsNumber LongLong 8
-long_long_ends (Int z) at result o is = is ∙ ap (place_behind at) (sym (number_length 8 _ at))
-long_long_ends _ at result o is = absurd o
-
-pub ushort_ends : EndsNumber UShort 2
-ushort_ends (Int z) at result o is = is ∙ ap (place_behind at) (sym (number_length 2 _ at))
-ushort_ends _ at result o is = absurd o
-
-pub ulong_ends : EndsNumber ULong 4
-ulong_ends (Int z) at result o is = is ∙ ap (place_behind at) (sym (number_length 4 _ at))
-ulong_ends _ at result o is = absurd o
-
-pub ulong_long_ends : EndsNumber ULongLong 8
-ulong_long_ends (Int z) at result o is = is ∙ ap (place_behind at) (sym (number_length 8 _ at))
-ulong_long_ends _ at result o is = absurd o
-
-pub octet_ends : EndsNumber Octet 1
-octet_ends (Int z) at result o is = is ∙ ap (place_behind at) (sym (number_length 1 _ at))
-octet_ends _ at result o is = absurd o
-
-pub char_ends : EndsNumber Char 1
-char_ends (Character c) at result o is = is ∙ ap (place_behind at) (sym (number_length 1 _ at))
-char_ends _ at result o is = absurd o
-
-pub boolean_ends : EndsNumber Boolean 1
-boolean_ends (Truth b) at result o is = is ∙ ap (place_behind at) (sym (number_length 1 _ at))
-boolean_ends _ at result o is = absurd o
-
-pub enumerator_ends : (names : List (List ℕ)) → EndsNumber (Enum names) 4
-enumerator_ends names (Ordinal n) at result o is = is ∙ ap (place_behind at) (sym (number_length 4 n at))
-enumerator_ends names _ at result o is = absurd o
+pub number_ends : (t : PlainType) (w : Width) → number_width t ≡ Some w → (v : PlainValue) → Of t v → (at result : ℕ) → result ≡ place_behind at (gap (octets_in w) at + octets_in w) → result ≡ place_behind at (length (spelling t v at))
+number_ends t w e v o at result is =
+    let stands = stands_in t w e v o at in
+    let whole : length (spelling t v at) ≡ gap (octets_in w) at + octets_in w = ap length stands.0 ∙ omega (arith, length-append (padding (octets_in w) at) (key_part t v), length-replicate {A = ℕ} (gap (octets_in w) at) 0, stands.1) in
+    is ∙ ap (place_behind at) (sym whole)
 
 -- ---- values that have parts
 

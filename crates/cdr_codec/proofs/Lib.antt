@@ -14,3 +14,5 @@ pub mod Skips
 pub mod Members
 pub mod Nodes
 pub mod NumberValues
+pub mod Puts
+pub mod Standing

@@ -2,33 +2,32 @@
 use Rattle.std.proofs.Common.{◌≡◌, ℕ, zero, suc, ◌+◌, ◌-◌, ◌<◌, ◌≤◌, List, [], ◌∷◌, ◌++◌, length, map, get_or, take, drop, Option, Some, None, Result, Ok, Err, refl, sym, ap, subst, ◌∙◌, append_assoc, arith}
 use Rattle.std.specs.Prelude.{slice_range, IfOk}
 use Rattle.std.specs.List.{slice_get, flat_map}
-use Rattle.std.specs.Int.{w8, w16, w32, w64, to_be_bytes, cast_unsigned, from_bool}
+use Rattle.std.specs.Int.{w32, to_be_bytes}
 use Rattle.std.proofs.lemmas.List.{append-nil, drop_at, drop-drop, take_at, take-map, get_or_default, length-take, length-drop, length-replicate}
-use Rattle.byteorder.specs.Numbers.{length-bytes_high_first}
 use Rattle.type_layout.specs.declared.home.HomeNo.{HomeNo}
 use Rattle.type_layout.specs.declared.key.KeyNo.{KeyNo}
 use Rattle.type_layout.specs.declared.key.Key.{Key}
 use Rattle.type_layout.specs.declared.member.Member.{Member}
 use Rattle.type_layout.specs.declared.schema.Home.{Home}
 use Rattle.type_layout.specs.declared.schema.Schema.{Schema}
-use Rattle.type_layout.specs.Types.{PlainType, Short, Long, LongLong, UShort, ULong, ULongLong, Char, Boolean, Octet, Str, Seq, Arr, Struct, Enum, RefTo, PlainFields, PlainValue, Int, Character, Truth, Ordinal, Text, PlainMember}
+use Rattle.type_layout.specs.Types.{PlainType, Str, Seq, Arr, Struct, RefTo, PlainFields, PlainValue, Text, PlainMember}
 use Rattle.type_layout.specs.Views.{plain_type}
 use Rattle.type_layout.specs.Members.{plain_member}
 use Rattle.type_layout.proofs.Lookups.{got_mapped}
-use Rattle.type_layout.specs.Values.{Of, layout_fields}
+use Rattle.type_layout.specs.Values.{layout_fields}
 use Rattle.type_layout.specs.Schemas.{given, key_at, members_at}
 use Rattle.type_layout.specs.Sound.{IsSound, AreSound, IsSoundLayout, IsSoundSchema, IsKeyMember}
-use Rattle.type_layout.specs.Spelling.{padding, gap, spelling, record_spelling}
+use Rattle.type_layout.specs.Spelling.{padding, gap, record_spelling}
 use Rattle.type_layout.specs.Keys.{key_part, part_at, key_bytes}
 use Rattle.cdr_codec.specs.declared.fault.RecordFault.{RecordFault}
 use Rattle.cdr_codec.specs.declared.width.Width.{Width}
-use Rattle.cdr_codec.specs.declared.width.Width.TheVariants as width
 use Rattle.cdr_codec.specs.Primitives.{Flag, joined, pieces}
 use Rattle.cdr_codec.specs.Reading.{◌>>=◌, judged_at, text_at, value_at, fields_at, members_at as record_members}
 use Rattle.cdr_codec.specs.Widths.{octets_in, number_width}
 use Rattle.cdr_codec.specs.Places.{IsFound, end_of, count_at, places_of, part_of, part_read, AreRead, indexes_at}
 use Rattle.cdr_codec.specs.Spelled.{SpellsRecord, SpellsRecordWith}
 use Rattle.cdr_codec.proofs.Laws.{AreOctets, done, ok_is, bind_ok}
+use Rattle.cdr_codec.proofs.Standing.{stands_in}
 use Rattle.cdr_codec.proofs.Types.{value_law}
 use Rattle.cdr_codec.proofs.Records.{sound_fields, joined-pieces, members_again}
 use Rattle.cdr_codec.proofs.Skips.{from_found, to_found, judged_found, text_found}
@@ -142,28 +141,6 @@ member_placed (x ∷ ms) sound bytes o at le vs end e (suc i) m h =
     }
 
 -- ---- parts of keys
-
-abbrev StandsIn : PlainType → PlainValue → ℕ → Width → Type 0
-StandsIn t v at w = (spelling t v at ≡ padding (octets_in w) at ++ key_part t v) × (length (key_part t v) ≡ octets_in w)
-
--- a number is spelled as it stands in a key, behind its padding
-stands_in : (t : PlainType) (w : Width) → number_width t ≡ Some w → (v : PlainValue) → Of t v → (at : ℕ) → StandsIn t v at w
-stands_in Short w e (Int z) of at = (let is : width.Two ≡ w = cc in subst (StandsIn Short (Int z) at) is (refl, length-bytes_high_first 2 (cast_unsigned w16 z)))
-stands_in Long w e (Int z) of at = (let is : width.Four ≡ w = cc in subst (StandsIn Long (Int z) at) is (refl, length-bytes_high_first 4 (cast_unsigned w32 z)))
-stands_in LongLong w e (Int z) of at = (let is : width.Eight ≡ w = cc in subst (StandsIn LongLong (Int z) at) is (refl, length-bytes_high_first 8 (cast_unsigned w64 z)))
-stands_in UShort w e (Int z) of at = (let is : width.Two ≡ w = cc in subst (StandsIn UShort (Int z) at) is (refl, length-bytes_high_first 2 (cast_unsigned w16 z)))
-stands_in ULong w e (Int z) of at = (let is : width.Four ≡ w = cc in subst (StandsIn ULong (Int z) at) is (refl, length-bytes_high_first 4 (cast_unsigned w32 z)))
-stands_in ULongLong w e (Int z) of at = (let is : width.Eight ≡ w = cc in subst (StandsIn ULongLong (Int z) at) is (refl, length-bytes_high_first 8 (cast_unsigned w64 z)))
-stands_in Char w e (Character c) of at = (let is : width.One ≡ w = cc in subst (StandsIn Char (Character c) at) is (refl, length-bytes_high_first 1 c))
-stands_in Boolean w e (Truth b) of at = (let is : width.One ≡ w = cc in subst (StandsIn Boolean (Truth b) at) is (refl, length-bytes_high_first 1 (from_bool b)))
-stands_in Octet w e (Int z) of at = (let is : width.One ≡ w = cc in subst (StandsIn Octet (Int z) at) is (refl, length-bytes_high_first 1 (cast_unsigned w8 z)))
-stands_in (Enum names) w e (Ordinal n) of at = (let is : width.Four ≡ w = cc in subst (StandsIn (Enum names) (Ordinal n) at) is (refl, length-bytes_high_first 4 n))
-stands_in (Str bound) w e v of at = absurd cc
-stands_in (Seq item bound) w e v of at = absurd cc
-stands_in (Arr item n) w e v of at = absurd cc
-stands_in (Struct fs) w e v of at = absurd cc
-stands_in (RefTo homes) w e v of at = absurd cc
-stands_in _ w e v of at = absurd of
 
 -- octets behind padding
 behind_padding : (k at : ℕ) (octets rest bytes : List ℕ) → length octets ≡ k → drop at bytes ≡ (padding k at ++ octets) ++ rest → take k (drop (at + gap k at) bytes) ≡ octets

@@ -1,16 +1,19 @@
 // From records to octets.
-ghost use Rattle.std.specs.Prelude.{◌≡◌, ◌++◌, ◌<◌, ◌≤◌, ◌^◌, [], ◌∷◌, length, map, IfOk, OnOk};
-ghost use Rattle.type_layout.specs.Types.{Short, Long, LongLong, UShort, ULong, ULongLong, Char, Boolean, Octet, Str, Seq, Arr, Struct, Enum, RefTo, fields_of, values_of};
-ghost use Rattle.type_layout.specs.Views.{plain_type, plain_field, plain_fields, plain_value, plain_values};
+ghost use Rattle.std.specs.Prelude.{◌≡◌, ◌++◌, ◌+◌, ◌<◌, ◌≤◌, ◌^◌, [], ◌∷◌, length, map, IfOk, OnOk};
+ghost use Rattle.type_layout.specs.Types.{Int, Items, Parts, fields_of, values_of};
+ghost use Rattle.type_layout.specs.Views.{plain_type, plain_field, plain_value};
 ghost use Rattle.type_layout.specs.Members.{plain_member};
 ghost use Rattle.type_layout.specs.Values.{Of, AreOf, EachOf, IsRecord, layout_fields, count};
-ghost use Rattle.type_layout.specs.Spelling.{gap, padding, reference, each, spelling, spellings, record_spelling};
+ghost use Rattle.type_layout.specs.Spelling.{padding, number as spelled, reference, each, spelling, spellings, record_spelling};
+ghost use Rattle.std.specs.Int.{w32};
 ghost use Rattle.byteorder.specs.Endian.{big_bytes};
+ghost use Rattle.cdr_codec.specs.Widths.{octets_in};
 
-use byteorder::{BigEndian, ByteOrder};
+use crate::length::record_len;
+use crate::width::Width;
 use pss_base::{Bytes, NoMemory, Pid};
 use std::alloc::Global;
-use type_layout::{Field, Fields, HomeNos, Layout, Member, Names, Record, Ty, Value};
+use type_layout::{Field, Layout, Member, Record, Ty, Value};
 
 /// The octets of a record of the layout: the flag 0, which says big-endian, then the members in order,
 /// each number at a multiple of its width, counted from the flag, with zero octets in front of it.
@@ -19,152 +22,66 @@ pub fn encode_record(alloc: Global, layout: &Layout, value: &Record) -> Result<B
     requires { IsRecord layout.now.members value.now }
     ensures { IfOk result (λ bytes. bytes ≡ record_spelling layout.now.members value.now) }
 {
-    let mut out = Bytes::new(alloc);
+    let mut out = Bytes::with_room(alloc, record_len(layout, value) as usize)?;
     out.push(0)?;
     put_members(&mut out, layout.members.as_slice(), value.0.as_slice())?;
     Ok(out)
 }
 
+const ZEROS: [u8; 8] = [0; 8];
+
 // Octets of 0 up to the next multiple of the width.
-fn put_padding(out: &mut Bytes, width: usize) -> Result<(), NoMemory>
-    requires { 0 < width }
-    ensures { OnOk result (out.new ≡ out.old ++ padding width (length out.old)) }
+fn put_padding(out: &mut Bytes, width: Width) -> Result<(), NoMemory>
+    ensures { OnOk result (out.new ≡ out.old ++ padding (octets_in width) (length out.old)) }
 {
-    for _ in 0..(width - out.as_slice().len() % width) % width {
-        out.push(0)?;
+    let gap = width.gap(out.as_slice().len());
+    out.extend(&ZEROS[..gap])
+}
+
+fn put_octets(out: &mut Bytes, width: Width, number: u64) -> Result<(), NoMemory>
+    requires { number < 256 ^ octets_in width }
+    ensures { OnOk result (out.new ≡ out.old ++ big_bytes (octets_in width) number) }
+{
+    match width {
+        Width::One => out.push(number as u8),
+        Width::Two => out.extend(&(number as u16).to_be_bytes()),
+        Width::Four => out.extend(&(number as u32).to_be_bytes()),
+        Width::Eight => out.extend(&number.to_be_bytes()),
     }
-    Ok(())
 }
 
 // A number at a multiple of its width.
-
-fn put_number(out: &mut Bytes, width: usize, number: u64) -> Result<(), NoMemory>
-    requires low { 1 ≤ width }
-    requires high { width ≤ 8 }
-    requires fits { number < 256 ^ width }
-    ensures { OnOk result (out.new ≡ out.old ++ (padding width (length out.old) ++ big_bytes width number)) }
+fn put_number(out: &mut Bytes, width: Width, number: u64) -> Result<(), NoMemory>
+    requires { number < 256 ^ octets_in width }
+    ensures { OnOk result (out.new ≡ out.old ++ (padding (octets_in width) (length out.old) ++ big_bytes (octets_in width) number)) }
 {
     put_padding(out, width)?;
-    let mut octets = [0; 8];
-    BigEndian::write_uint(&mut octets, number, width);
-    out.extend(&octets[..width])?;
-    Ok(())
+    put_octets(out, width, number)
 }
 
-fn put_short(out: &mut Bytes, value: &Value) -> Result<(), NoMemory>
-    requires { Of Short (plain_value value.now) }
-    ensures { OnOk result (out.new ≡ out.old ++ spelling Short (plain_value value.now) (length out.old)) }
+fn put_integer(out: &mut Bytes, ty: &Ty, number: i128) -> Result<(), NoMemory>
+    requires { Of (plain_type ty.now) (Int number) }
+    ensures { OnOk result (out.new ≡ out.old ++ spelling (plain_type ty.now) (Int number) (length out.old)) }
 {
-    match value {
-        Value::Int(number) => put_number(out, 2, (*number as i16).cast_unsigned() as u64),
+    match ty {
+        Ty::Short => put_number(out, Width::Two, (number as i16).cast_unsigned() as u64),
+        Ty::Long => put_number(out, Width::Four, (number as i32).cast_unsigned() as u64),
+        Ty::LongLong => put_number(out, Width::Eight, (number as i64).cast_unsigned()),
+        Ty::UShort => put_number(out, Width::Two, u64::from(number as u16)),
+        Ty::ULong => put_number(out, Width::Four, u64::from(number as u32)),
+        Ty::ULongLong => put_number(out, Width::Eight, number as u64),
+        Ty::Octet => put_number(out, Width::One, u64::from(number as u8)),
         _ => unreachable!(),
     }
 }
 
-fn put_long(out: &mut Bytes, value: &Value) -> Result<(), NoMemory>
-    requires { Of Long (plain_value value.now) }
-    ensures { OnOk result (out.new ≡ out.old ++ spelling Long (plain_value value.now) (length out.old)) }
+fn put_text(out: &mut Bytes, text: &[u8]) -> Result<(), NoMemory>
+    requires { length text.now + 1 < 2 ^ 32 }
+    ensures { OnOk result (out.new ≡ out.old ++ (spelled w32 (length text.now + 1) (length out.old) ++ (text.now ++ 0 ∷ []))) }
 {
-    match value {
-        Value::Int(number) => put_number(out, 4, (*number as i32).cast_unsigned() as u64),
-        _ => unreachable!(),
-    }
-}
-
-fn put_long_long(out: &mut Bytes, value: &Value) -> Result<(), NoMemory>
-    requires { Of LongLong (plain_value value.now) }
-    ensures { OnOk result (out.new ≡ out.old ++ spelling LongLong (plain_value value.now) (length out.old)) }
-{
-    match value {
-        Value::Int(number) => put_number(out, 8, (*number as i64).cast_unsigned()),
-        _ => unreachable!(),
-    }
-}
-
-fn put_ushort(out: &mut Bytes, value: &Value) -> Result<(), NoMemory>
-    requires { Of UShort (plain_value value.now) }
-    ensures { OnOk result (out.new ≡ out.old ++ spelling UShort (plain_value value.now) (length out.old)) }
-{
-    match value {
-        Value::Int(number) => put_number(out, 2, u64::from(*number as u16)),
-        _ => unreachable!(),
-    }
-}
-
-fn put_ulong(out: &mut Bytes, value: &Value) -> Result<(), NoMemory>
-    requires { Of ULong (plain_value value.now) }
-    ensures { OnOk result (out.new ≡ out.old ++ spelling ULong (plain_value value.now) (length out.old)) }
-{
-    match value {
-        Value::Int(number) => put_number(out, 4, u64::from(*number as u32)),
-        _ => unreachable!(),
-    }
-}
-
-fn put_ulong_long(out: &mut Bytes, value: &Value) -> Result<(), NoMemory>
-    requires { Of ULongLong (plain_value value.now) }
-    ensures { OnOk result (out.new ≡ out.old ++ spelling ULongLong (plain_value value.now) (length out.old)) }
-{
-    match value {
-        Value::Int(number) => put_number(out, 8, *number as u64),
-        _ => unreachable!(),
-    }
-}
-
-fn put_octet(out: &mut Bytes, value: &Value) -> Result<(), NoMemory>
-    requires { Of Octet (plain_value value.now) }
-    ensures { OnOk result (out.new ≡ out.old ++ spelling Octet (plain_value value.now) (length out.old)) }
-{
-    match value {
-        Value::Int(number) => put_number(out, 1, u64::from(*number as u8)),
-        _ => unreachable!(),
-    }
-}
-
-fn put_char(out: &mut Bytes, value: &Value) -> Result<(), NoMemory>
-    requires { Of Char (plain_value value.now) }
-    ensures { OnOk result (out.new ≡ out.old ++ spelling Char (plain_value value.now) (length out.old)) }
-{
-    match value {
-        Value::Char(code) => put_number(out, 1, u64::from(*code)),
-        _ => unreachable!(),
-    }
-}
-
-fn put_boolean(out: &mut Bytes, value: &Value) -> Result<(), NoMemory>
-    requires { Of Boolean (plain_value value.now) }
-    ensures { OnOk result (out.new ≡ out.old ++ spelling Boolean (plain_value value.now) (length out.old)) }
-{
-    match value {
-        Value::Bool(truth) => put_number(out, 1, u64::from(*truth)),
-        _ => unreachable!(),
-    }
-}
-
-fn put_enumerator(out: &mut Bytes, names: &Names, value: &Value) -> Result<(), NoMemory>
-    requires { Of (Enum names.now) (plain_value value.now) }
-    ensures { OnOk result (out.new ≡ out.old ++ spelling (Enum names.now) (plain_value value.now) (length out.old)) }
-{
-    match value {
-        Value::Enum(ordinal) => put_number(out, 4, u64::from(*ordinal)),
-        _ => unreachable!(),
-    }
-}
-
-fn put_string(out: &mut Bytes, bound: u32, value: &Value) -> Result<(), NoMemory>
-    requires { Of (Str bound) (plain_value value.now) }
-    ensures { OnOk result (out.new ≡ out.old ++ spelling (Str bound) (plain_value value.now) (length out.old)) }
-{
-    match value {
-        Value::Str(text) => {
-            let bytes = text.as_slice();
-            put_number(out, 4, bytes.len() as u64 + 1)?;
-            out.extend(bytes)?;
-            out.push(0)?;
-            Ok(())
-        }
-        _ => unreachable!(),
-    }
+    put_number(out, Width::Four, text.len() as u64 + 1)?;
+    out.extend(text)?;
+    out.push(0)
 }
 
 // The home and the serial of an object, or 0 and 0.
@@ -175,19 +92,8 @@ fn put_pid(out: &mut Bytes, pid: Option<Pid>) -> Result<(), NoMemory>
         Some(pid) => (pid.home, pid.serial),
         None => (0, 0),
     };
-    put_number(out, 4, u64::from(home))?;
-    put_number(out, 8, serial)?;
-    Ok(())
-}
-
-fn put_reference(out: &mut Bytes, homes: &HomeNos, value: &Value) -> Result<(), NoMemory>
-    requires { Of (RefTo homes.now) (plain_value value.now) }
-    ensures { OnOk result (out.new ≡ out.old ++ spelling (RefTo homes.now) (plain_value value.now) (length out.old)) }
-{
-    match value {
-        Value::Ref(pid) => put_pid(out, *pid),
-        _ => unreachable!(),
-    }
+    put_number(out, Width::Four, u64::from(home))?;
+    put_number(out, Width::Eight, serial)
 }
 
 #[tactic(auto, using(crate::proofs::Sizes::count_is))]
@@ -202,47 +108,29 @@ fn put(out: &mut Bytes, ty: &Ty, value: &Value) -> Result<(), NoMemory>
     requires { Of (plain_type ty.now) (plain_value value.now) }
     ensures { OnOk result (out.new ≡ out.old ++ spelling (plain_type ty.now) (plain_value value.now) (length out.old)) }
 {
+    match value {
+        Value::Int(number) => put_integer(out, ty, *number),
+        Value::Char(code) => put_number(out, Width::One, u64::from(*code)),
+        Value::Bool(truth) => put_number(out, Width::One, u64::from(*truth)),
+        Value::Enum(ordinal) => put_number(out, Width::Four, u64::from(*ordinal)),
+        Value::Str(text) => put_text(out, text.as_slice()),
+        Value::Ref(pid) => put_pid(out, *pid),
+        Value::List(values) => put_list(out, ty, values.as_slice()),
+        Value::Struct(values) => put_struct(out, ty, values.as_slice()),
+    }
+}
+
+#[cycle(put)]
+fn put_list(out: &mut Bytes, ty: &Ty, values: &[Value]) -> Result<(), NoMemory>
+    requires { Of (plain_type ty.now) (Items (values_of (map plain_value values.now))) }
+    ensures { OnOk result (out.new ≡ out.old ++ spelling (plain_type ty.now) (Items (values_of (map plain_value values.now))) (length out.old)) }
+{
     match ty {
-        Ty::Short => put_short(out, value),
-        Ty::Long => put_long(out, value),
-        Ty::LongLong => put_long_long(out, value),
-        Ty::UShort => put_ushort(out, value),
-        Ty::ULong => put_ulong(out, value),
-        Ty::ULongLong => put_ulong_long(out, value),
-        Ty::Char => put_char(out, value),
-        Ty::Boolean => put_boolean(out, value),
-        Ty::Octet => put_octet(out, value),
-        Ty::Str(bound) => put_string(out, *bound, value),
-        Ty::Seq(item, bound) => put_sequence(out, item, *bound, value),
-        Ty::Arr(item, count) => put_array(out, item, *count, value),
-        Ty::Struct(fields) => put_struct(out, fields, value),
-        Ty::Enum(names) => put_enumerator(out, names, value),
-        Ty::Ref(homes) => put_reference(out, homes, value),
-    }
-}
-
-#[cycle(put)]
-fn put_sequence(out: &mut Bytes, item: &Ty, bound: u32, value: &Value) -> Result<(), NoMemory>
-    requires { Of (Seq (plain_type item.now) bound) (plain_value value.now) }
-    ensures { OnOk result (out.new ≡ out.old ++ spelling (Seq (plain_type item.now) bound) (plain_value value.now) (length out.old)) }
-{
-    match value {
-        Value::List(values) => {
-            let items = values.as_slice();
-            put_number(out, 4, count_of(items) as u64)?;
-            put_items(out, item, items)
+        Ty::Seq(item, _) => {
+            put_number(out, Width::Four, count_of(values) as u64)?;
+            put_items(out, item, values)
         }
-        _ => unreachable!(),
-    }
-}
-
-#[cycle(put)]
-fn put_array(out: &mut Bytes, item: &Ty, count: u32, value: &Value) -> Result<(), NoMemory>
-    requires { Of (Arr (plain_type item.now) count) (plain_value value.now) }
-    ensures { OnOk result (out.new ≡ out.old ++ spelling (Arr (plain_type item.now) count) (plain_value value.now) (length out.old)) }
-{
-    match value {
-        Value::List(values) => put_items(out, item, values.as_slice()),
+        Ty::Arr(item, _) => put_items(out, item, values),
         _ => unreachable!(),
     }
 }
@@ -259,12 +147,16 @@ fn put_items(out: &mut Bytes, item: &Ty, values: &[Value]) -> Result<(), NoMemor
 }
 
 #[cycle(put)]
-fn put_struct(out: &mut Bytes, fields: &Fields, value: &Value) -> Result<(), NoMemory>
-    requires { Of (Struct (fields_of (plain_fields fields.now))) (plain_value value.now) }
-    ensures { OnOk result (out.new ≡ out.old ++ spelling (Struct (fields_of (plain_fields fields.now))) (plain_value value.now) (length out.old)) }
+fn put_struct(out: &mut Bytes, ty: &Ty, values: &[Value]) -> Result<(), NoMemory>
+    requires { Of (plain_type ty.now) (Parts (values_of (map plain_value values.now))) }
+    ensures { OnOk result (out.new ≡ out.old ++ spelling (plain_type ty.now) (Parts (values_of (map plain_value values.now))) (length out.old)) }
 {
-    match value {
-        Value::Struct(values) => put_fields(out, fields.as_slice(), values.as_slice()),
+    match ty {
+        Ty::Struct(fields) => put_fields(out, fields.as_slice(), values),
+        Ty::Str(_) => unreachable!(),
+        Ty::Seq(_, _) => unreachable!(),
+        Ty::Arr(_, _) => unreachable!(),
+        Ty::Ref(_) => unreachable!(),
         _ => unreachable!(),
     }
 }

@@ -1,13 +1,15 @@
 // The number of a record's octets.
 ghost use Rattle.std.specs.Prelude.{◌≡◌, ◌+◌, ◌≤◌, ◌-◌, ◌^◌, length, map, min};
-ghost use Rattle.type_layout.specs.Types.{Short, Long, LongLong, UShort, ULong, ULongLong, Enum, RefTo, Str, Seq, Arr, fields_of, values_of};
+ghost use Rattle.type_layout.specs.Types.{RefTo, Str, Seq, Arr, fields_of, values_of};
 ghost use Rattle.type_layout.specs.Views.{plain_type, plain_field, plain_value};
 ghost use Rattle.type_layout.specs.Members.{plain_member};
 ghost use Rattle.type_layout.specs.Values.{Of, AreOf, EachOf, IsRecord, layout_fields};
 ghost use Rattle.type_layout.specs.Spelling.{gap, each, spelling, spellings, record_spelling};
+ghost use Rattle.cdr_codec.specs.Widths.{octets_in};
 ghost use Rattle.cdr_codec.specs.Lengths.{place_behind, parts_of as values_in};
 
-use type_layout::{Field, HomeNos, Layout, Member, Names, Record, Ty, Value};
+use crate::width::{Width, width_of};
+use type_layout::{Field, HomeNos, Layout, Member, Record, Ty, Value};
 
 /// How many octets `encode_record` gives, or 18,446,744,073,709,551,615 where they are not fewer. It
 /// takes no memory.
@@ -19,88 +21,10 @@ pub fn record_len(layout: &Layout, value: &Record) -> u64
 }
 
 // A number begins at a multiple of its width.
-fn number_end(at: u64, width: u64) -> u64
-    requires low { 1 ≤ width }
-    requires high { width ≤ 8 }
-    ensures { result ≡ place_behind at (gap width at + width) }
+fn number_end(at: u64, width: Width) -> u64
+    ensures { result ≡ place_behind at (gap (octets_in width) at + octets_in width) }
 {
-    at.saturating_add((width - at % width) % width + width)
-}
-
-#[tactic(auto, using(crate::proofs::Ends::short_ends))]
-fn short_end(value: &Value, at: u64) -> u64
-    requires { Of Short (plain_value value.now) }
-    ensures { result ≡ place_behind at (length (spelling Short (plain_value value.now) at)) }
-{
-    match value {
-        Value::Int(_) => number_end(at, 2),
-        _ => unreachable!(),
-    }
-}
-
-#[tactic(auto, using(crate::proofs::Ends::long_ends))]
-fn long_end(value: &Value, at: u64) -> u64
-    requires { Of Long (plain_value value.now) }
-    ensures { result ≡ place_behind at (length (spelling Long (plain_value value.now) at)) }
-{
-    match value {
-        Value::Int(_) => number_end(at, 4),
-        _ => unreachable!(),
-    }
-}
-
-#[tactic(auto, using(crate::proofs::Ends::long_long_ends))]
-fn long_long_end(value: &Value, at: u64) -> u64
-    requires { Of LongLong (plain_value value.now) }
-    ensures { result ≡ place_behind at (length (spelling LongLong (plain_value value.now) at)) }
-{
-    match value {
-        Value::Int(_) => number_end(at, 8),
-        _ => unreachable!(),
-    }
-}
-
-#[tactic(auto, using(crate::proofs::Ends::ushort_ends))]
-fn ushort_end(value: &Value, at: u64) -> u64
-    requires { Of UShort (plain_value value.now) }
-    ensures { result ≡ place_behind at (length (spelling UShort (plain_value value.now) at)) }
-{
-    match value {
-        Value::Int(_) => number_end(at, 2),
-        _ => unreachable!(),
-    }
-}
-
-#[tactic(auto, using(crate::proofs::Ends::ulong_ends))]
-fn ulong_end(value: &Value, at: u64) -> u64
-    requires { Of ULong (plain_value value.now) }
-    ensures { result ≡ place_behind at (length (spelling ULong (plain_value value.now) at)) }
-{
-    match value {
-        Value::Int(_) => number_end(at, 4),
-        _ => unreachable!(),
-    }
-}
-
-#[tactic(auto, using(crate::proofs::Ends::ulong_long_ends))]
-fn ulong_long_end(value: &Value, at: u64) -> u64
-    requires { Of ULongLong (plain_value value.now) }
-    ensures { result ≡ place_behind at (length (spelling ULongLong (plain_value value.now) at)) }
-{
-    match value {
-        Value::Int(_) => number_end(at, 8),
-        _ => unreachable!(),
-    }
-}
-
-fn enumerator_end(names: &Names, value: &Value, at: u64) -> u64
-    requires { Of (Enum names.now) (plain_value value.now) }
-    ensures { result ≡ place_behind at (length (spelling (Enum names.now) (plain_value value.now) at)) }
-{
-    match value {
-        Value::Enum(_) => number_end(at, 4),
-        _ => unreachable!(),
-    }
+    at.saturating_add((width.gap(at as usize) + width.octets()) as u64)
 }
 
 fn reference_end(homes: &HomeNos, value: &Value, at: u64) -> u64
@@ -109,8 +33,8 @@ fn reference_end(homes: &HomeNos, value: &Value, at: u64) -> u64
 {
     match value {
         Value::Ref(_) => {
-            let middle = number_end(at, 4);
-            number_end(middle, 8)
+            let middle = number_end(at, Width::Four);
+            number_end(middle, Width::Eight)
         }
         _ => unreachable!(),
     }
@@ -121,7 +45,9 @@ fn string_end(bound: u32, value: &Value, at: u64) -> u64
     ensures { result ≡ place_behind at (length (spelling (Str bound) (plain_value value.now) at)) }
 {
     match value {
-        Value::Str(text) => number_end(at, 4).saturating_add(text.as_slice().len() as u64 + 1),
+        Value::Str(text) => number_end(at, Width::Four).saturating_add(
+            text.as_slice().len() as u64 + 1,
+        ),
         _ => unreachable!(),
     }
 }
@@ -141,22 +67,16 @@ fn value_end(ty: &Ty, value: &Value, at: u64) -> u64
     requires { Of (plain_type ty.now) (plain_value value.now) }
     ensures { result ≡ place_behind at (length (spelling (plain_type ty.now) (plain_value value.now) at)) }
 {
+    if let Some(width) = width_of(ty) {
+        return number_end(at, width);
+    }
     match ty {
-        Ty::Short => short_end(value, at),
-        Ty::Long => long_end(value, at),
-        Ty::LongLong => long_long_end(value, at),
-        Ty::UShort => ushort_end(value, at),
-        Ty::ULong => ulong_end(value, at),
-        Ty::ULongLong => ulong_long_end(value, at),
-        Ty::Char => number_end(at, 1),
-        Ty::Boolean => number_end(at, 1),
-        Ty::Octet => number_end(at, 1),
         Ty::Str(bound) => string_end(*bound, value, at),
         Ty::Seq(item, bound) => sequence_end(item, *bound, value, at),
         Ty::Arr(item, count) => array_end(item, *count, value, at),
         Ty::Struct(fields) => fields_end(fields.as_slice(), parts_of(value), at),
         Ty::Ref(homes) => reference_end(homes, value, at),
-        Ty::Enum(names) => enumerator_end(names, value, at),
+        _ => unreachable!(),
     }
 }
 
@@ -165,7 +85,7 @@ fn sequence_end(item: &Ty, bound: u32, value: &Value, at: u64) -> u64
     requires { Of (Seq (plain_type item.now) bound) (plain_value value.now) }
     ensures { result ≡ place_behind at (length (spelling (Seq (plain_type item.now) bound) (plain_value value.now) at)) }
 {
-    let first = number_end(at, 4);
+    let first = number_end(at, Width::Four);
     let parts = parts_of(value);
     items_end(item, parts, first)
 }

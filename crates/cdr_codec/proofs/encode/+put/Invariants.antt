@@ -1,28 +1,25 @@
 use Rattle.std.proofs.Common.{◌≡◌, ◌++◌, ◌+◌, ◌≤◌, length, map, drop}
 use Rattle.type_layout.specs.Types.{fields_of, values_of}
-use Rattle.type_layout.specs.Views.{plain_type, plain_field, plain_fields, plain_value}
+use Rattle.type_layout.specs.Views.{plain_type, plain_field, plain_value}
 use Rattle.type_layout.specs.Values.{Of, AreOf, EachOf}
 use Rattle.type_layout.specs.Spelling.{each, spelling, spellings}
 use Rattle.cdr_codec.proofs.Sizes.{size, sizes}
 use Rattle.cdr_codec.proofs.encode.+put.Given as goal
 
 abbrev pub decreases-put : goal.decreases-put
-decreases-put l = size (plain_type l.ty.now)
+decreases-put l = 1 + size (plain_type l.ty.now)
 
-abbrev pub decreases-put_sequence : goal.decreases-put_sequence
-decreases-put_sequence l = 2 + size (plain_type l.item.now)
-
-abbrev pub decreases-put_array : goal.decreases-put_array
-decreases-put_array l = 2 + size (plain_type l.item.now)
-
-abbrev pub decreases-put_items : goal.decreases-put_items
-decreases-put_items l = 1 + size (plain_type l.item.now)
+abbrev pub decreases-put_list : goal.decreases-put_list
+decreases-put_list l = size (plain_type l.ty.now)
 
 abbrev pub decreases-put_struct : goal.decreases-put_struct
-decreases-put_struct l = 2 + sizes (fields_of (plain_fields l.fields.now))
+decreases-put_struct l = size (plain_type l.ty.now)
+
+abbrev pub decreases-put_items : goal.decreases-put_items
+decreases-put_items l = 2 + size (plain_type l.item.now)
 
 abbrev pub decreases-put_fields : goal.decreases-put_fields
-decreases-put_fields l = 1 + sizes (fields_of (map plain_field l.fields.now))
+decreases-put_fields l = 2 + sizes (fields_of (map plain_field l.fields.now))
 
 abbrev pub invariant-put_items-loop-value : goal.invariant-put_items-loop-value
 invariant-put_items-loop-value l =

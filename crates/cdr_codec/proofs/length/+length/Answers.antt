@@ -5,7 +5,7 @@ use Rattle.type_layout.specs.Values.{Of, EachOf}
 use Rattle.type_layout.specs.Spelling.{each, spelling}
 use Rattle.cdr_codec.specs.Lengths.{place_behind}
 use Rattle.cdr_codec.proofs.Loop.{fields_out}
-use Rattle.cdr_codec.proofs.Ends.{sequence_ends, array_ends, items_fit, elements_fit, items_over, fields_over}
+use Rattle.cdr_codec.proofs.Ends.{number_ends, sequence_ends, array_ends, items_fit, elements_fit, items_over, fields_over}
 use Rattle.cdr_codec.proofs.length.+length.Goals as goal
 
 pub sequence_end-items_end-requires : goal.sequence_end-items_end-requires
@@ -25,3 +25,6 @@ items_end-returns t c = items_over (spelling (plain_type c.args.item.now)) c.arg
 
 pub fields_end-returns : goal.fields_end-returns
 fields_end-returns t c = fields_over (fields_of (map plain_field (drop c.loop-field.field-index c.args.fields.now))) (values_of (map plain_value c.loop-field.remaining.now)) c.loop-field.place _ (fields_out c.args.fields.now c.loop-field.field-index c.loop-field-test.false) c.loop-field.invariant.1 c.loop-field.invariant.0 c.loop-field.invariant.3
+
+pub value_end-returns-in-Some : goal.value_end-returns-in-Some
+value_end-returns-in-Some t c = number_ends (plain_type c.args.ty.now) c.in-Some.width (sym c.in-Some.ensures) (plain_value c.args.value.now) c.requires c.args.at c.number_end.result c.number_end.ensures

@@ -2,10 +2,11 @@
 //! reserved keys. What was reserved can be put without memory.
 //!
 //! Keys are bytes that strangers choose. The table hashes them by SipHash-1-3 under a key that is fixed and known, since a
-//! secret one takes random bytes from the operating system, and that call can fail. So a stranger who looks for them finds
-//! keys that meet in the table: in one of 32,768 places, some 33,000 trials give a key for a chosen place. A look-up passes
-//! the keys that meet its own, one step each: where all n keys meet, it takes time in proportion to n. Answers stay the
-//! same, and memory does not grow by it. `docs/DECISIONS.md` says why this is no ordered table.
+//! secret one takes random bytes from the operating system, and that call can fail. It has groups of 12 places, one for at
+//! most 9 keys on average, and their number is a power of two: 32,768 at 200,000 keys. So some 33,000 trials give a stranger
+//! a key whose look-up begins at a chosen group. n such keys fill n/12 groups in a row, and a look-up of one of them passes
+//! up to all of these: 16,667 at 200,000 keys. A key with a chosen hash of 32 bits takes 2^32 trials. Answers stay the same
+//! whatever the keys are, and memory does not grow by it. `docs/DECISIONS.md` says why this is no ordered table.
 #![tactic(auto)]
 
 mod index;

@@ -1,23 +1,23 @@
 -- Where values end.
-use Rattle.std.proofs.Common.{◌≡◌, ℕ, ◌+◌, ◌-◌, ◌^◌, ◌≤◌, ◌<◌, List, [], ◌∷◌, ◌++◌, length, get_or, map, take, drop, Some, None, sym, ap, subst, ◌∙◌, arith, inl, inr, length-append}
+use Rattle.std.proofs.Common.{◌≡◌, ℕ, ◌+◌, ◌-◌, ◌^◌, ◌≤◌, ◌<◌, List, [], ◌∷◌, ◌++◌, length, get_or, map, take, drop, Option, Some, None, sym, ap, subst, ◌∙◌, arith, inl, inr, length-append}
 use Rattle.std.specs.Prelude.{min}
 use Rattle.std.proofs.lemmas.Bool.{cases_lt}
 use Rattle.std.proofs.lemmas.List.{length-replicate, drop_all, drop_more, take_rest}
 use Rattle.byteorder.specs.Endian.{big_bytes}
 use Rattle.byteorder.specs.Numbers.{length-bytes_high_first}
+use Rattle.pss_base.specs.declared.pid.Pid.{Pid}
 use Rattle.type_layout.specs.declared.value.Value.{Value}
 use Rattle.type_layout.specs.declared.member.Member.{Member}
 use Rattle.type_layout.specs.Views.{plain_type, plain_value}
 use Rattle.type_layout.specs.Members.{plain_member}
 use Rattle.cdr_codec.proofs.Loop.{members_drop}
-use Rattle.type_layout.specs.declared.home.HomeNo.{HomeNo}
-use Rattle.type_layout.specs.Types.{PlainType, Str, Seq, Arr, Struct, RefTo, PlainFields, no_fields, field_and, PlainValue, Text, Items, Parts, Ref, PlainValues, no_values, value_and, values_of}
-use Rattle.type_layout.specs.Values.{Of, AreOf, EachOf, count, layout_fields}
-use Rattle.type_layout.specs.Spelling.{gap, padding, each, spelling, spellings}
+use Rattle.type_layout.specs.Types.{PlainType, Seq, PlainFields, no_fields, field_and, PlainValue, Items, PlainValues, no_values, value_and, values_of}
+use Rattle.type_layout.specs.Values.{Of, AreOf, count, layout_fields}
+use Rattle.type_layout.specs.Spelling.{gap, padding, reference, each, spelling, spellings}
 use Rattle.type_layout.specs.Keys.{key_part}
 use Rattle.cdr_codec.specs.declared.width.Width.{Width}
 use Rattle.cdr_codec.specs.Widths.{octets_in, number_width}
-use Rattle.cdr_codec.specs.Lengths.{place_behind, parts_of}
+use Rattle.cdr_codec.specs.Lengths.{place_behind}
 use Rattle.cdr_codec.proofs.Standing.{stands_in}
 
 -- a place that is kept up to a limit goes on as the place does
@@ -51,39 +51,17 @@ behind_number width n at first result f is done =
     let whole : length ((padding width at ++ big_bytes width n) ++ f (at + length (padding width at ++ big_bytes width n))) ≡ gap width at + width + length (f (at + (gap width at + width))) = length-both (padding width at ++ big_bytes width n) f at (gap width at + width) size in
     done ∙ kept (at + (gap width at + width)) first (2 ^ 64 - 1) (λ k. length (f k)) is ∙ omega (arith, whole)
 
-pub string_ends : (bound : ℕ) (text : List ℕ) (at first result : ℕ) → first ≡ place_behind at (gap 4 at + 4) → result ≡ place_behind first (length text + 1) → result ≡ place_behind at (length (spelling (Str bound) (Text text) at))
-string_ends bound text at first result is done =
+pub sequence_ends : (item : PlainType) (bound : ℕ) (vs : PlainValues) (at first result : ℕ) → first ≡ place_behind at (gap 4 at + 4) → result ≡ place_behind first (length (each (spelling item) vs first)) → result ≡ place_behind at (length (spelling (Seq item bound) (Items vs) at))
+sequence_ends item bound vs at first result is done = behind_number 4 (count vs) at first result (each (spelling item) vs) is done
+
+pub reference_ends : (pid : Option Pid) (at first result : ℕ) → first ≡ place_behind at (gap 4 at + 4) → result ≡ place_behind first (gap 8 first + 8) → result ≡ place_behind at (length (reference pid at))
+reference_ends None at first result is done = behind_number 4 0 at first result (λ k. padding 8 k ++ big_bytes 8 0) is (done ∙ ap (place_behind first) (sym (number_length 8 0 first)))
+reference_ends (Some pid) at first result is done = behind_number 4 pid.home at first result (λ k. padding 8 k ++ big_bytes 8 pid.serial) is (done ∙ ap (place_behind first) (sym (number_length 8 pid.serial first)))
+
+pub text_ends : (text : List ℕ) (at first result : ℕ) → first ≡ place_behind at (gap 4 at + 4) → result ≡ place_behind first (length text + 1) → result ≡ place_behind at (length ((padding 4 at ++ big_bytes 4 (length text + 1)) ++ (text ++ 0 ∷ [])))
+text_ends text at first result is done =
     let size : length (text ++ 0 ∷ []) ≡ length text + 1 = length-append text (0 ∷ []) in
     behind_number 4 (length text + 1) at first result (λ k. text ++ 0 ∷ []) is (done ∙ ap (place_behind first) (sym size))
-
-pub sequence_ends : (item : PlainType) (bound : ℕ) (v : PlainValue) (at first result : ℕ) → Of (Seq item bound) v → first ≡ place_behind at (gap 4 at + 4) → result ≡ place_behind first (length (each (spelling item) (parts_of v) first)) → result ≡ place_behind at (length (spelling (Seq item bound) v at))
-sequence_ends item bound (Items vs) at first result o is done = behind_number 4 (count vs) at first result (each (spelling item) vs) is done
-sequence_ends item bound _ at first result o is done = absurd o
-
-pub array_ends : (item : PlainType) (n : ℕ) (v : PlainValue) (at result : ℕ) → Of (Arr item n) v → result ≡ place_behind at (length (each (spelling item) (parts_of v) at)) → result ≡ place_behind at (length (spelling (Arr item n) v at))
-array_ends item n (Items vs) at result o done = done
-array_ends item n _ at result o done = absurd o
-
-pub struct_ends : (fields : PlainFields) (v : PlainValue) (at result : ℕ) → Of (Struct fields) v → result ≡ place_behind at (length (spellings fields (parts_of v) at)) → result ≡ place_behind at (length (spelling (Struct fields) v at))
-struct_ends fields (Parts vs) at result o done = done
-struct_ends fields _ at result o done = absurd o
-
-pub reference_ends : (homes : List HomeNo) (v : PlainValue) (at first result : ℕ) → Of (RefTo homes) v → first ≡ place_behind at (gap 4 at + 4) → result ≡ place_behind first (gap 8 first + 8) → result ≡ place_behind at (length (spelling (RefTo homes) v at))
-reference_ends homes (Ref None) at first result o is done = behind_number 4 0 at first result (λ k. padding 8 k ++ big_bytes 8 0) is (done ∙ ap (place_behind first) (sym (number_length 8 0 first)))
-reference_ends homes (Ref (Some pid)) at first result o is done = behind_number 4 pid.home at first result (λ k. padding 8 k ++ big_bytes 8 pid.serial) is (done ∙ ap (place_behind first) (sym (number_length 8 pid.serial first)))
-reference_ends homes _ at first result o is done = absurd o
-
-pub items_fit : (item : PlainType) (bound : ℕ) (v : PlainValue) → Of (Seq item bound) v → EachOf (Of item) (parts_of v)
-items_fit item bound (Items vs) o = o.0
-items_fit item bound _ o = absurd o
-
-pub elements_fit : (item : PlainType) (n : ℕ) (v : PlainValue) → Of (Arr item n) v → EachOf (Of item) (parts_of v)
-elements_fit item n (Items vs) o = o.0
-elements_fit item n _ o = absurd o
-
-pub fields_fit : (fields : PlainFields) (v : PlainValue) → Of (Struct fields) v → AreOf fields (parts_of v)
-fields_fit fields (Parts vs) o = o
-fields_fit fields _ o = absurd o
 
 -- ---- loops
 

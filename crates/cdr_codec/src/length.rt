@@ -1,15 +1,17 @@
 // The number of a record's octets.
-ghost use Rattle.std.specs.Prelude.{◌≡◌, ◌+◌, ◌≤◌, ◌-◌, ◌^◌, length, map, min};
-ghost use Rattle.type_layout.specs.Types.{RefTo, Str, Seq, Arr, fields_of, values_of};
+ghost use Rattle.std.specs.Int.{w32};
+ghost use Rattle.std.specs.Prelude.{◌≡◌, ◌++◌, [], ◌∷◌, Option, ◌+◌, ◌≤◌, ◌-◌, ◌^◌, length, map, min};
+ghost use Rattle.pss_base.specs.declared.pid.Pid.{Pid};
+ghost use Rattle.type_layout.specs.Types.{Items, Parts, fields_of, values_of};
 ghost use Rattle.type_layout.specs.Views.{plain_type, plain_field, plain_value};
 ghost use Rattle.type_layout.specs.Members.{plain_member};
 ghost use Rattle.type_layout.specs.Values.{Of, AreOf, EachOf, IsRecord, layout_fields};
-ghost use Rattle.type_layout.specs.Spelling.{gap, each, spelling, spellings, record_spelling};
+ghost use Rattle.type_layout.specs.Spelling.{gap, number as spelled, reference, each, spelling, spellings, record_spelling};
 ghost use Rattle.cdr_codec.specs.Widths.{octets_in};
-ghost use Rattle.cdr_codec.specs.Lengths.{place_behind, parts_of as values_in};
+ghost use Rattle.cdr_codec.specs.Lengths.{place_behind};
 
 use crate::width::{Width, width_of};
-use type_layout::{Field, HomeNos, Layout, Member, Record, Ty, Value};
+use type_layout::{Field, Layout, Member, Record, Ty, Value};
 
 /// How many octets `encode_record` gives, or 18,446,744,073,709,551,615 where they are not fewer. It
 /// takes no memory.
@@ -27,39 +29,19 @@ fn number_end(at: u64, width: Width) -> u64
     at.saturating_add((width.gap(at as usize) + width.octets()) as u64)
 }
 
-fn reference_end(homes: &HomeNos, value: &Value, at: u64) -> u64
-    requires { Of (RefTo homes.now) (plain_value value.now) }
-    ensures { result ≡ place_behind at (length (spelling (RefTo homes.now) (plain_value value.now) at)) }
+// The octets of a string, and a NUL.
+fn text_end(text: &[u8], at: u64) -> u64
+    ensures { result ≡ place_behind at (length (spelled w32 (length text.now + 1) at ++ (text.now ++ 0 ∷ []))) }
 {
-    match value {
-        Value::Ref(_) => {
-            let middle = number_end(at, Width::Four);
-            number_end(middle, Width::Eight)
-        }
-        _ => unreachable!(),
-    }
+    number_end(at, Width::Four).saturating_add(text.len() as u64 + 1)
 }
 
-fn string_end(bound: u32, value: &Value, at: u64) -> u64
-    requires { Of (Str bound) (plain_value value.now) }
-    ensures { result ≡ place_behind at (length (spelling (Str bound) (plain_value value.now) at)) }
+// All references have as many octets.
+fn reference_end(at: u64) -> u64
+    ensures { (pid : Option Pid) → result ≡ place_behind at (length (reference pid at)) }
 {
-    match value {
-        Value::Str(text) => number_end(at, Width::Four).saturating_add(
-            text.as_slice().len() as u64 + 1,
-        ),
-        _ => unreachable!(),
-    }
-}
-
-fn parts_of(value: &Value) -> &[Value]
-    ensures { values_of (map plain_value result.now) ≡ values_in (plain_value value.now) }
-{
-    match value {
-        Value::List(values) => values.as_slice(),
-        Value::Struct(values) => values.as_slice(),
-        _ => &[],
-    }
+    let middle = number_end(at, Width::Four);
+    number_end(middle, Width::Eight)
 }
 
 #[cycle(length)]
@@ -70,33 +52,43 @@ fn value_end(ty: &Ty, value: &Value, at: u64) -> u64
     if let Some(width) = width_of(ty) {
         return number_end(at, width);
     }
-    match ty {
-        Ty::Str(bound) => string_end(*bound, value, at),
-        Ty::Seq(item, bound) => sequence_end(item, *bound, value, at),
-        Ty::Arr(item, count) => array_end(item, *count, value, at),
-        Ty::Struct(fields) => fields_end(fields.as_slice(), parts_of(value), at),
-        Ty::Ref(homes) => reference_end(homes, value, at),
+    match value {
+        Value::Str(text) => text_end(text.as_slice(), at),
+        Value::Ref(_) => reference_end(at),
+        Value::List(values) => list_end(ty, values.as_slice(), at),
+        Value::Struct(values) => struct_end(ty, values.as_slice(), at),
         _ => unreachable!(),
     }
 }
 
 #[cycle(length)]
-fn sequence_end(item: &Ty, bound: u32, value: &Value, at: u64) -> u64
-    requires { Of (Seq (plain_type item.now) bound) (plain_value value.now) }
-    ensures { result ≡ place_behind at (length (spelling (Seq (plain_type item.now) bound) (plain_value value.now) at)) }
+fn list_end(ty: &Ty, values: &[Value], at: u64) -> u64
+    requires { Of (plain_type ty.now) (Items (values_of (map plain_value values.now))) }
+    ensures { result ≡ place_behind at (length (spelling (plain_type ty.now) (Items (values_of (map plain_value values.now))) at)) }
 {
-    let first = number_end(at, Width::Four);
-    let parts = parts_of(value);
-    items_end(item, parts, first)
+    match ty {
+        Ty::Seq(item, _) => {
+            let first = number_end(at, Width::Four);
+            items_end(item, values, first)
+        }
+        Ty::Arr(item, _) => items_end(item, values, at),
+        _ => unreachable!(),
+    }
 }
 
 #[cycle(length)]
-fn array_end(item: &Ty, count: u32, value: &Value, at: u64) -> u64
-    requires { Of (Arr (plain_type item.now) count) (plain_value value.now) }
-    ensures { result ≡ place_behind at (length (spelling (Arr (plain_type item.now) count) (plain_value value.now) at)) }
+fn struct_end(ty: &Ty, values: &[Value], at: u64) -> u64
+    requires { Of (plain_type ty.now) (Parts (values_of (map plain_value values.now))) }
+    ensures { result ≡ place_behind at (length (spelling (plain_type ty.now) (Parts (values_of (map plain_value values.now))) at)) }
 {
-    let parts = parts_of(value);
-    items_end(item, parts, at)
+    match ty {
+        Ty::Struct(fields) => fields_end(fields.as_slice(), values, at),
+        Ty::Str(_) => unreachable!(),
+        Ty::Seq(_, _) => unreachable!(),
+        Ty::Arr(_, _) => unreachable!(),
+        Ty::Ref(_) => unreachable!(),
+        _ => unreachable!(),
+    }
 }
 
 #[cycle(length)]

@@ -1,24 +1,39 @@
-use Rattle.std.proofs.Common.{◌≡◌, length, map, subst, sym, drop, rules}
-use Rattle.type_layout.specs.Types.{PlainValues, fields_of, values_of}
+use Rattle.std.proofs.Common.{◌≡◌, ◌∙◌, ap, arith, length, map, subst, sym, drop}
+use Rattle.type_layout.specs.declared.ty.Ty.{Ty}
+use Rattle.type_layout.specs.Types.{PlainType, Seq, Arr, Items, fields_of, values_of}
 use Rattle.type_layout.specs.Views.{plain_type, plain_field, plain_value}
-use Rattle.type_layout.specs.Values.{Of, EachOf}
+use Rattle.type_layout.specs.Values.{Of}
 use Rattle.type_layout.specs.Spelling.{each, spelling}
 use Rattle.cdr_codec.specs.Lengths.{place_behind}
+use Rattle.cdr_codec.proofs.Sizes.{size}
+use Rattle.cdr_codec.proofs.Nodes.{sequence_view, array_view}
 use Rattle.cdr_codec.proofs.Loop.{fields_out}
-use Rattle.cdr_codec.proofs.Ends.{number_ends, sequence_ends, array_ends, items_fit, elements_fit, items_over, fields_over}
+use Rattle.cdr_codec.proofs.Ends.{number_ends, sequence_ends, items_over, fields_over}
 use Rattle.cdr_codec.proofs.length.+length.Goals as goal
 
-pub sequence_end-items_end-requires : goal.sequence_end-items_end-requires
-sequence_end-items_end-requires t c = (search rules, subst (EachOf (Of (plain_type c.args.item.now))) (sym c.parts_of-parts.ensures) (items_fit (plain_type c.args.item.now) c.args.bound (plain_value c.args.value.now) c.requires))
+pub list_end-items_end-requires : goal.list_end-items_end-requires
+list_end-items_end-requires t c =
+    let is : plain_type c.args.ty.now ≡ Seq (plain_type c.in-Seq.item.value) c.in-Seq.field-1 = ap plain_type c.in-Seq.is ∙ sequence_view c.in-Seq.item c.in-Seq.field-1 in
+    let fits = subst (λ (t : PlainType). Of t (Items (values_of (map plain_value c.args.values.now)))) is c.requires in
+    let less = ap size is in
+    let same = ap (λ (t : Ty). size (plain_type t)) c.deref.ensures in
+    (omega (arith, less, same), rw c.deref.ensures fits.0)
 
-pub sequence_end-returns : goal.sequence_end-returns
-sequence_end-returns t c = sequence_ends (plain_type c.args.item.now) c.args.bound (plain_value c.args.value.now) c.args.at c.number_end-first.result c.items_end.result c.requires c.number_end-first.ensures (subst (λ (vs : PlainValues). c.items_end.result ≡ place_behind c.number_end-first.result (length (each (spelling (plain_type c.args.item.now)) vs c.number_end-first.result))) c.parts_of-parts.ensures c.items_end.ensures)
+pub list_end-items_end-requires-in-Arr : goal.list_end-items_end-requires-in-Arr
+list_end-items_end-requires-in-Arr t c =
+    let is : plain_type c.args.ty.now ≡ Arr (plain_type c.in-Arr.item.value) c.in-Arr.field-1 = ap plain_type c.in-Arr.is ∙ array_view c.in-Arr.item c.in-Arr.field-1 in
+    let fits = subst (λ (t : PlainType). Of t (Items (values_of (map plain_value c.args.values.now)))) is c.requires in
+    let less = ap size is in
+    let same = ap (λ (t : Ty). size (plain_type t)) c.deref-in-Arr.ensures in
+    (omega (arith, less, same), rw c.deref-in-Arr.ensures fits.0)
 
-pub array_end-items_end-requires : goal.array_end-items_end-requires
-array_end-items_end-requires t c = (search rules, subst (EachOf (Of (plain_type c.args.item.now))) (sym c.parts_of-parts.ensures) (elements_fit (plain_type c.args.item.now) c.args.count (plain_value c.args.value.now) c.requires))
-
-pub array_end-returns : goal.array_end-returns
-array_end-returns t c = array_ends (plain_type c.args.item.now) c.args.count (plain_value c.args.value.now) c.args.at c.items_end.result c.requires (subst (λ (vs : PlainValues). c.items_end.result ≡ place_behind c.args.at (length (each (spelling (plain_type c.args.item.now)) vs c.args.at))) c.parts_of-parts.ensures c.items_end.ensures)
+pub list_end-returns-in-Seq : goal.list_end-returns-in-Seq
+list_end-returns-in-Seq t c =
+    let item = plain_type c.in-Seq.item.value in
+    let vs = values_of (map plain_value c.args.values.now) in
+    let is : plain_type c.args.ty.now ≡ Seq item c.in-Seq.field-1 = ap plain_type c.in-Seq.is ∙ sequence_view c.in-Seq.item c.in-Seq.field-1 in
+    let items = subst (λ (t : Ty). c.items_end.result ≡ place_behind c.number_end-first.result (length (each (spelling (plain_type t)) vs c.number_end-first.result))) c.deref.ensures c.items_end.ensures in
+    subst (λ (t : PlainType). c.items_end.result ≡ place_behind c.args.at (length (spelling t (Items vs) c.args.at))) (sym is) (sequence_ends item c.in-Seq.field-1 vs c.args.at c.number_end-first.result c.items_end.result c.number_end-first.ensures items)
 
 pub items_end-returns : goal.items_end-returns
 items_end-returns t c = items_over (spelling (plain_type c.args.item.now)) c.args.values.now c.loop-value.value-index c.loop-value.place _ c.loop-value-test.false c.loop-value.invariant.1 c.loop-value.invariant.2
@@ -28,3 +43,11 @@ fields_end-returns t c = fields_over (fields_of (map plain_field (drop c.loop-fi
 
 pub value_end-returns-in-Some : goal.value_end-returns-in-Some
 value_end-returns-in-Some t c = number_ends (plain_type c.args.ty.now) c.in-Some.width (sym c.in-Some.ensures) (plain_value c.args.value.now) c.requires c.args.at c.number_end.result c.number_end.ensures
+
+pub list_end-returns-in-Arr : goal.list_end-returns-in-Arr
+list_end-returns-in-Arr t c =
+    let item = plain_type c.in-Arr.item.value in
+    let vs = values_of (map plain_value c.args.values.now) in
+    let is : plain_type c.args.ty.now ≡ Arr item c.in-Arr.field-1 = ap plain_type c.in-Arr.is ∙ array_view c.in-Arr.item c.in-Arr.field-1 in
+    let items = subst (λ (t : Ty). c.items_end-in-Arr.result ≡ place_behind c.args.at (length (each (spelling (plain_type t)) vs c.args.at))) c.deref-in-Arr.ensures c.items_end-in-Arr.ensures in
+    subst (λ (t : PlainType). c.items_end-in-Arr.result ≡ place_behind c.args.at (length (spelling t (Items vs) c.args.at))) (sym is) items

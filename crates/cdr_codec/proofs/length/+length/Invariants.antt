@@ -8,19 +8,19 @@ use Rattle.cdr_codec.proofs.Sizes.{size, sizes}
 use Rattle.cdr_codec.proofs.length.+length.Given as goal
 
 abbrev pub decreases-value_end : goal.decreases-value_end
-decreases-value_end l = size (plain_type l.ty.now)
+decreases-value_end l = 1 + size (plain_type l.ty.now)
 
-abbrev pub decreases-sequence_end : goal.decreases-sequence_end
-decreases-sequence_end l = 2 + size (plain_type l.item.now)
+abbrev pub decreases-list_end : goal.decreases-list_end
+decreases-list_end l = size (plain_type l.ty.now)
 
-abbrev pub decreases-array_end : goal.decreases-array_end
-decreases-array_end l = 2 + size (plain_type l.item.now)
+abbrev pub decreases-struct_end : goal.decreases-struct_end
+decreases-struct_end l = size (plain_type l.ty.now)
 
 abbrev pub decreases-items_end : goal.decreases-items_end
-decreases-items_end l = 1 + size (plain_type l.item.now)
+decreases-items_end l = 2 + size (plain_type l.item.now)
 
 abbrev pub decreases-fields_end : goal.decreases-fields_end
-decreases-fields_end l = 1 + sizes (fields_of (map plain_field l.fields.now))
+decreases-fields_end l = 2 + sizes (fields_of (map plain_field l.fields.now))
 
 abbrev pub invariant-items_end-loop-value : goal.invariant-items_end-loop-value
 invariant-items_end-loop-value l =

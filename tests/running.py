@@ -14,7 +14,6 @@ record_cases = os.environ.get("RECORD_CASES") or os.path.join(top, "crates", "re
 # A run has so many seconds. A build that is not optimised may need more.
 LONGEST = int(os.environ.get("PSSD_SECONDS") or 60)
 USAGE = b"usage: pssd check SCHEMA | init SCHEMA STORE | run SCHEMA STORE | demo N STORE\n"
-OVER = f"it took more than {LONGEST} s"
 
 results = {"passed": 0, "failed": 0}
 
@@ -50,7 +49,11 @@ def kill(child):
         pass
 
 
-def ended(words, script=b"", **how):
+def over(seconds):
+    return f"it took more than {seconds} s"
+
+
+def ended(words, script=b"", longest=LONGEST, **how):
     """The status of a run, what it spoke and what it wrote to standard error. Where it did not start or end, the status says so."""
     how = {"stdin": subprocess.PIPE, "stdout": subprocess.PIPE, "stderr": subprocess.PIPE, "start_new_session": True, **how}
     try:
@@ -58,11 +61,11 @@ def ended(words, script=b"", **how):
     except OSError as error:
         return str(error), b"", b""
     try:
-        spoken, complaint = child.communicate(script, timeout=LONGEST)
+        spoken, complaint = child.communicate(script, timeout=longest)
         return child.returncode, spoken, complaint
     except subprocess.TimeoutExpired:
         kill(child)
-        return OVER, *child.communicate()
+        return over(longest), *child.communicate()
     finally:
         # Also where the tests themselves are ended.
         if child.poll() is None:
@@ -133,7 +136,7 @@ class Dialogue:
         self.timer.cancel()
         self.child.stdout.close()
         self.child.stderr.close()
-        return (OVER if self.is_over else status), spoken, complaint
+        return (over(LONGEST) if self.is_over else status), spoken, complaint
 
 
 def dialogue(words):

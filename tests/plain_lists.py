@@ -1,12 +1,13 @@
 """Programs that compare the calls of a library with plain lists: `tables/NAME.txt` for the library NAME, with `told.txt`, which they
-share. `rt try` compiles them without any proof, in a temporary folder, and the program stops at a bad access."""
+share. `rt try` compiles them without any proof, in a temporary folder. It stops them at a bad access, and then has what they printed
+among its complaints."""
 import os
 import shutil
 
 from pages import below, listed
 from running import ended, here, tell, top
 
-# Seconds for the building and the run of a program, of which a quiet machine needs some twenty.
+# Seconds for the building and the run of a program, which take half a minute of the processor.
 LONGEST = 600
 
 # All that each library's program prints. The count shows that no operation was left out.
@@ -44,5 +45,5 @@ def plain_lists(folder):
         # `rt try` also has an interpreter, for which these programs are too long: it gets one step.
         run = ended(["rt", "try", "--steps", "1"], longest=LONGEST, cwd=os.path.join(crates, f"{name}_table"))
         status, spoken, complaint = run
-        seen = status, spoken[:1000], spoken[-100:], complaint[-1000:]
+        seen = status, spoken[:1000], spoken[-100:], complaint[:1000], complaint[-500:]
         tell(f"tests/tables/{name}.txt", (status, spoken) == (0, told), seen)

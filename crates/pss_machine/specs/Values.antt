@@ -1,35 +1,12 @@
 -- The values in the rest of a line.
-use Rattle.std.specs.Prelude.{ℕ, ◌+◌, ◌-◌, ◌&&◌, ◌||◌, ◌==◌, List, [], ◌∷◌, drop, length, map, Option, Some, None, Result, Ok, Err, Bool, if◌then◌else◌}
-use Rattle.std.specs.List.{prefix_len, slice_get, filter_map, slice_set}
+use Rattle.std.specs.Prelude.{ℕ, List, ◌∷◌, map, Result}
+use Rattle.std.specs.List.{slice_set}
 use Rattle.type_layout.specs.Types.{PlainType, PlainValue, PlainMember}
-use Rattle.type_layout.specs.Testing.{is_of}
 use Rattle.type_layout.specs.Defaults.{default_record}
-use Rattle.type_layout.specs.Schemas.{given}
-use Rattle.value_text.specs.Texts.{is_at_end}
-use Rattle.value_text.specs.Reading.{value_at}
+use Rattle.value_text.specs.Line.{values_from}
 use Rattle.pss_machine.specs.declared.command.Rest.{Rest}
 
-abbrev pub is_blank : ℕ → Bool
-is_blank b = b == 32 || b == 9
-
--- the value that stands at the front of a text, up to a blank or the end, and what is behind it
-abbrev pub one_value : PlainType → List ℕ → Option (PlainValue × List ℕ)
-one_value type text = given (value_at type text) None (λ x. if is_at_end x.1 && is_of type x.0 then Some x else None)
-
--- a value in front of others
-abbrev pub in_front : PlainValue → Result (List PlainValue) ℕ → Result (List PlainValue) ℕ
-in_front v (Ok vs) = Ok (v ∷ vs)
-in_front v (Err column) = Err column
-
--- One value of each type, with blanks between them, in a text that begins at a column. Else the column of the first
--- that does not read, of the first that is too much, or one past the end where one is missing.
-abbrev pub values_from : List PlainType → ℕ → List ℕ → Result (List PlainValue) ℕ
-values_from [] column text = if prefix_len is_blank text == length text then Ok [] else Err (column + prefix_len is_blank text)
-values_from (t ∷ ts) column text =
-    given (one_value t (drop (prefix_len is_blank text) text))
-    (Err (column + prefix_len is_blank text))
-    (λ x. in_front x.0 (values_from ts (column + length text - length x.1) x.1))
-
+-- one value of each type, or the column of what is wrong
 abbrev pub values_in : List PlainType → Rest → Result (List PlainValue) ℕ
 values_in types rest = values_from types rest.column rest.text
 

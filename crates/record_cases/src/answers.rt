@@ -1,16 +1,13 @@
 // The answers to the lines of commands.
-ghost use Rattle.std.specs.Prelude.{◌≡◌, ◌<◌};
-
-use crate::records::{append_decoded, append_default, append_encoded};
+use crate::reading::{append_counted, append_flips};
+use crate::records::{append_decoded, append_default, append_encoded, append_length};
 use crate::types::{append_descends, append_is};
 use crate::values::{append_octets_read, append_value_read};
 use crate::words::first_word;
 use psdl_check::check;
 use psdl_syntax::parse;
-use pss_base::{Bytes, NoMemory, Steps};
+use pss_base::{Bytes, NoMemory};
 use std::alloc::Global;
-use std::marker::Brand;
-use std::sync::ledger::{Blank, Ledger};
 use type_layout::{Layout, Schema};
 
 // The schema of a text, none where the text is refused.
@@ -32,17 +29,19 @@ struct Subject<'a> {
 }
 
 // The answer to a command. The table of them is in `main.rt`.
-fn append_answer<L: Ledger>(
+fn append_answer(
     alloc: Global,
     out: &mut Bytes,
     subject: Subject<'_>,
     line: &[u8],
-    steps: &mut Steps<L>,
 ) -> Result<(), NoMemory> {
     let (command, rest) = first_word(line);
     match command {
         b"encode" => append_encoded(alloc, out, subject.layout, rest, command.len() + 1)?,
-        b"decode" => append_decoded(alloc, out, subject.layout, rest, steps)?,
+        b"length" => append_length(alloc, out, subject.layout, rest, command.len() + 1)?,
+        b"decode" => append_decoded(alloc, out, subject.layout, rest)?,
+        b"steps" => append_counted(alloc, out, subject.layout, rest)?,
+        b"flips" => append_flips(alloc, out, subject.layout, rest)?,
         b"default" => append_default(alloc, out, subject.layout)?,
         b"value" => append_value_read(alloc, out, subject.layout, rest)?,
         b"octets" => append_octets_read(alloc, out, subject.layout, rest)?,
@@ -54,12 +53,11 @@ fn append_answer<L: Ledger>(
 }
 
 // The same over the first home of the text that was named last.
-fn append_answer_over<L: Ledger>(
+fn append_answer_over(
     alloc: Global,
     out: &mut Bytes,
     schema: &Option<Schema>,
     line: &[u8],
-    steps: &mut Steps<L>,
 ) -> Result<(), NoMemory> {
     let Some(schema) = schema else {
         return out.extend(b"no schema\n");
@@ -71,28 +69,19 @@ fn append_answer_over<L: Ledger>(
         schema,
         layout: &home.layout,
     };
-    append_answer(alloc, out, subject, line, steps)
+    append_answer(alloc, out, subject, line)
 }
 
-fn answers_to<L: Ledger>(alloc: Global, input: &[u8], blank: Blank) -> Result<Bytes, NoMemory>
-    requires name { blank.name ≡ L.name }
-    requires parts { blank.parts ≡ L.parts }
-    requires some { 0 < blank.parts }
-{
-    let mut steps = Steps::<L>::new(blank);
+/// The answers to all lines of commands, a line for each.
+pub fn answers(alloc: Global, input: &[u8]) -> Result<Bytes, NoMemory> {
     let mut out = Bytes::new(alloc);
     let mut schema: Option<Schema> = None;
     for line in input.split(|byte| *byte == b'\n') {
         match line {
             [] => {}
             [b't', b'e', b'x', b't', b' ', text @ ..] => schema = schema_of(alloc, text),
-            _ => append_answer_over(alloc, &mut out, &schema, line, &mut steps)?,
+            _ => append_answer_over(alloc, &mut out, &schema, line)?,
         }
     }
     Ok(out)
-}
-
-/// The answers to all lines of commands, a line for each.
-pub fn answers(alloc: Global, input: &[u8]) -> Result<Bytes, NoMemory> {
-    answers_to::<Brand>(alloc, input, Blank::new(1))
 }

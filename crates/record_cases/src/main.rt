@@ -4,7 +4,10 @@
 //! | Command | Answer |
 //! |---|---|
 //! | `encode V V ..` | the octets of the record with these values, two hexadecimal digits for each; or `BADVALUE` and the column of the first value that is none of its member's type, or that is one too many, or behind the line's end where one is missing |
+//! | `length V V ..` | how many octets these are, or `BADVALUE` and the column likewise |
 //! | `decode OCTETS` | the values of the record with these octets, a space between them, or why they are no record, and where |
+//! | `steps OCTETS` | what `decode` answers, `after`, and how many steps were taken |
+//! | `flips AT OCTETS` | what `steps` answers where the octet at a place, counted from 0, is 0, 1, 127, 255, and itself but for its lowest bit; `/` stands between the five |
 //! | `default` | the values of a record in which nothing was set yet |
 //! | `value AT TEXT` | the place where the value ends that stands at a place of the text, counted from 0, and what is printed for it, or `BADVALUE`; its type is that of the first member |
 //! | `octets AT OCTETS` | the same, of a text that is given by its octets |
@@ -13,6 +16,7 @@
 #![tactic(auto)]
 
 mod answers;
+mod reading;
 mod records;
 mod types;
 mod values;

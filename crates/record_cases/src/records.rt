@@ -1,10 +1,9 @@
-// Commands on records: `encode`, `decode` and `default`.
+// Commands on records: `encode`, `length`, `decode` and `default`.
 use crate::values::append_value;
 use crate::words::{append_octets, octets_of};
-use cdr_codec::{RecordFault, decode_record, encode_record};
-use pss_base::{Bytes, NoMemory, Steps, skip_blanks};
+use cdr_codec::{RecordFault, decode, encode_record, record_len};
+use pss_base::{Bytes, NoMemory, skip_blanks};
 use std::alloc::Global;
-use std::sync::ledger::Ledger;
 use type_layout::{Layout, Record, Ty, Values, default_of, is_record};
 use value_text::{LineFault, read_values};
 
@@ -32,6 +31,43 @@ fn append_octets_of(
     }
 }
 
+fn append_length_of(
+    alloc: Global,
+    out: &mut Bytes,
+    layout: &Layout,
+    record: &Record,
+) -> Result<(), NoMemory> {
+    if is_record(layout, record) {
+        out.extend(format!(in alloc; "{}", record_len(layout, record))?.as_bytes())
+    } else {
+        out.extend(b"no record of the layout")
+    }
+}
+
+// The record whose values stand in the rest of a line from a column on.
+fn record_in(
+    alloc: Global,
+    layout: &Layout,
+    rest: &[u8],
+    column: usize,
+) -> Result<Record, LineFault> {
+    if column > MOST_LINE || rest.len() > MOST_LINE {
+        return Err(LineFault::BadValue(0));
+    }
+    let types = types_of(alloc, layout)?;
+    match read_values(alloc, types.as_slice(), rest, column as u32) {
+        Ok(values) => Ok(Record(values)),
+        Err(fault) => Err(fault),
+    }
+}
+
+fn append_line_fault(alloc: Global, out: &mut Bytes, fault: LineFault) -> Result<(), NoMemory> {
+    match fault {
+        LineFault::BadValue(at) => out.extend(format!(in alloc; "BADVALUE {at}")?.as_bytes()),
+        LineFault::NoMemory => Err(NoMemory),
+    }
+}
+
 /// `encode V V ..`: the octets of the record with these values, which stand in the rest of the line from a column on.
 pub fn append_encoded(
     alloc: Global,
@@ -40,14 +76,23 @@ pub fn append_encoded(
     rest: &[u8],
     column: usize,
 ) -> Result<(), NoMemory> {
-    if column > MOST_LINE || rest.len() > MOST_LINE {
-        return out.extend(b"too long");
+    match record_in(alloc, layout, rest, column) {
+        Ok(record) => append_octets_of(alloc, out, layout, &record),
+        Err(fault) => append_line_fault(alloc, out, fault),
     }
-    let types = types_of(alloc, layout)?;
-    match read_values(alloc, types.as_slice(), rest, column as u32) {
-        Ok(values) => append_octets_of(alloc, out, layout, &Record(values)),
-        Err(LineFault::BadValue(at)) => out.extend(format!(in alloc; "BADVALUE {at}")?.as_bytes()),
-        Err(LineFault::NoMemory) => Err(NoMemory),
+}
+
+/// `length V V ..`: the number of these octets.
+pub fn append_length(
+    alloc: Global,
+    out: &mut Bytes,
+    layout: &Layout,
+    rest: &[u8],
+    column: usize,
+) -> Result<(), NoMemory> {
+    match record_in(alloc, layout, rest, column) {
+        Ok(record) => append_length_of(alloc, out, layout, &record),
+        Err(fault) => append_line_fault(alloc, out, fault),
     }
 }
 
@@ -70,19 +115,33 @@ fn append_fault(alloc: Global, out: &mut Bytes, fault: RecordFault) -> Result<()
     }
 }
 
+/// The values of a record, or why octets are none, and where.
+pub fn append_read(
+    alloc: Global,
+    out: &mut Bytes,
+    layout: &Layout,
+    read: &Result<Record, RecordFault>,
+) -> Result<(), NoMemory> {
+    match read {
+        Ok(record) => append_record(alloc, out, layout, record),
+        Err(fault) => append_fault(alloc, out, *fault),
+    }
+}
+
 /// `decode OCTETS`: the values of the record with these octets, or why they are no record, and where.
-pub fn append_decoded<L: Ledger>(
+pub fn append_decoded(
     alloc: Global,
     out: &mut Bytes,
     layout: &Layout,
     rest: &[u8],
-    steps: &mut Steps<L>,
 ) -> Result<(), NoMemory> {
     let octets = octets_of(alloc, skip_blanks(rest))?;
-    match decode_record(alloc, layout, octets.as_slice(), steps) {
-        Ok(record) => append_record(alloc, out, layout, &record),
-        Err(fault) => append_fault(alloc, out, fault),
-    }
+    append_read(
+        alloc,
+        out,
+        layout,
+        &decode(alloc, layout, octets.as_slice()),
+    )
 }
 
 /// `default`: the values that the members have until others are given.

@@ -1,5 +1,5 @@
 // Commands on one value: `value` and `octets`.
-use crate::words::{next_word, number_of, octets_of};
+use crate::words::{next_word, octets_of, place_of};
 use pss_base::{Bytes, NoMemory, skip_blanks};
 use std::alloc::Global;
 use type_layout::{Layout, Ty, Value, is_of};
@@ -46,7 +46,7 @@ fn append_read_of_first(
     text: &[u8],
     place: &[u8],
 ) -> Result<(), NoMemory> {
-    let Some(at) = number_of(place).and_then(|at| usize::try_from(at).ok()) else {
+    let Some(at) = place_of(place) else {
         return out.extend(b"no such place");
     };
     match layout.members.as_slice() {

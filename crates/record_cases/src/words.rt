@@ -26,6 +26,11 @@ pub fn number_of(word: &[u8]) -> Option<i128> {
     from_utf8(word).ok()?.parse::<i128>().ok()
 }
 
+/// The place that a word writes likewise.
+pub fn place_of(word: &[u8]) -> Option<usize> {
+    usize::try_from(number_of(word)?).ok()
+}
+
 /// The octets that pairs of hexadecimal digits stand for, up to the first pair that is none.
 pub fn octets_of(alloc: Global, digits: &[u8]) -> Result<Bytes, NoMemory> {
     let mut octets = Bytes::new(alloc);

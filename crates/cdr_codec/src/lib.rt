@@ -20,6 +20,3 @@ pub use fault::RecordFault;
 pub use key::key_of_octets;
 pub use length::record_len;
 pub use member::read_member;
-
-#[cfg(test)]
-mod tests;

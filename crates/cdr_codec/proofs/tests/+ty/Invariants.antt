@@ -1,8 +1,0 @@
-use Rattle.std.proofs.Common.{◌*◌, ◌+◌}
-use Rattle.cdr_codec.proofs.tests.+ty.Given as goal
-
-abbrev pub decreases-ty : goal.decreases-ty
-decreases-ty l = 2 * l.depth
-
-abbrev pub decreases-fields : goal.decreases-fields
-decreases-fields l = 2 * l.depth + 1

@@ -1,8 +1,0 @@
-use Rattle.std.proofs.Common.{◌*◌, ◌+◌}
-use Rattle.cdr_codec.proofs.tests.+value.Given as goal
-
-abbrev pub decreases-value : goal.decreases-value
-decreases-value l = 2 * l.depth
-
-abbrev pub decreases-values : goal.decreases-values
-decreases-values l = 2 * l.depth + 1

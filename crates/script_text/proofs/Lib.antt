@@ -1,0 +1,7 @@
+pub mod WordLaws
+pub mod NumberLaws
+pub mod VerbLaws
+pub mod KindLaws
+pub mod RowLaws
+pub mod CommandLaws
+pub mod Reading

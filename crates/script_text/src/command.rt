@@ -1,0 +1,354 @@
+// Lines as commands.
+ghost use Rattle.std.specs.Prelude.{◌≡◌, ◌≤◌, ◌∷◌, length, false, IsTrue, IsSome, MatchOption, Ok, Err, codes};
+ghost use Rattle.script_text.specs.Words.{words, words_in};
+ghost use Rattle.script_text.specs.Spelling as spelling;
+ghost use Rattle.script_text.specs.Spelling.{Reads, is_silent};
+ghost use Rattle.script_text.specs.Telling.{Exactly, Tells};
+ghost use Rattle.script_text.specs.Meaning as meaning;
+ghost use Rattle.script_text.specs.Meaning.{given, step, OneOf};
+ghost use Rattle.script_text.specs.inner.Seen.{seen, seen_word, Gives};
+
+use crate::CommandFault;
+use crate::owned::{own, own_last, own_two};
+use crate::parts::{any_in, choice_in, entry_in, name_in, pid_in, serial_in};
+use crate::tail::Tail;
+use crate::verb::{
+    AloneVerb, EntryVerb, HomeVerb, KeyVerb, MemberVerb, SessionVerb, TransactionVerb, Verb,
+    verb_of,
+};
+use crate::words::{Word, finish, next_word};
+use pss_base::Bytes;
+use pss_machine::{Command, Rest};
+use std::alloc::Global;
+
+fn alone(verb: AloneVerb) -> Command
+    ensures { result ≡ meaning.alone verb }
+{
+    match verb {
+        AloneVerb::Checkpoint => Command::Checkpoint,
+        AloneVerb::Stat => Command::Stat,
+        AloneVerb::History => Command::History,
+    }
+}
+
+fn of_session(verb: SessionVerb, s: Bytes) -> Command
+    ensures { result ≡ meaning.of_session verb s }
+{
+    match verb {
+        SessionVerb::Close => Command::Close { s },
+        SessionVerb::Suspend => Command::Suspend { s },
+        SessionVerb::Status => Command::Status { s },
+        SessionVerb::FreeAll => Command::FreeAll { s },
+        SessionVerb::Flush => Command::Flush { s },
+        SessionVerb::Refresh => Command::Refresh { s },
+    }
+}
+
+fn of_transaction(verb: TransactionVerb, t: Bytes) -> Command
+    ensures { result ≡ meaning.of_transaction verb t }
+{
+    match verb {
+        TransactionVerb::Commit => Command::Commit { t },
+        TransactionVerb::Rollback => Command::Rollback { t },
+    }
+}
+
+fn of_home(verb: HomeVerb, s: Bytes, home: Bytes) -> Command
+    ensures { result ≡ meaning.of_home verb s home }
+{
+    match verb {
+        HomeVerb::Home => Command::Home { s, home },
+        HomeVerb::Count => Command::Count { s, home },
+        HomeVerb::List => Command::List { s, home },
+    }
+}
+
+fn of_key(verb: KeyVerb, s: Bytes, home: Bytes, name: Bytes, values: Rest) -> Command
+    ensures { result ≡ meaning.of_key verb s home name values }
+{
+    match verb {
+        KeyVerb::Make => Command::Make {
+            s,
+            home,
+            factory: name,
+            values,
+        },
+        KeyVerb::Find => Command::Find {
+            s,
+            home,
+            key: name,
+            values,
+        },
+        KeyVerb::FindRef => Command::FindRef {
+            s,
+            home,
+            key: name,
+            values,
+        },
+    }
+}
+
+fn of_entry(verb: EntryVerb, s: Bytes, entry: u64) -> Command
+    ensures { result ≡ meaning.of_entry verb s entry }
+{
+    match verb {
+        EntryVerb::Exists => Command::Exists { s, entry },
+        EntryVerb::Destroy => Command::Destroy { s, entry },
+        EntryVerb::PidOf => Command::PidOf { s, entry },
+        EntryVerb::Dup => Command::Dup { s, entry },
+        EntryVerb::Release => Command::Release { s, entry },
+    }
+}
+
+fn of_member(verb: MemberVerb, s: Bytes, entry: u64, member: Bytes) -> Command
+    ensures { result ≡ meaning.of_member verb s entry member }
+{
+    match verb {
+        MemberVerb::Get => Command::Get { s, entry, member },
+        MemberVerb::Follow => Command::Follow { s, entry, member },
+    }
+}
+
+fn read_alone(verb: AloneVerb, tail: Tail<'_>) -> Result<Command, CommandFault>
+    ensures { Gives (λ c. c) result (meaning.command_in (Verb.Alone verb) (seen tail.entry)) }
+{
+    finish(tail)?;
+    Ok(alone(verb))
+}
+
+fn read_session(alloc: Global, verb: SessionVerb, tail: Tail<'_>) -> Result<Command, CommandFault>
+    ensures { Gives (λ c. c) result (meaning.command_in (Verb.Session verb) (seen tail.entry)) }
+{
+    let (s, tail) = name_in(tail)?;
+    finish(tail)?;
+    Ok(of_session(verb, own(alloc, s)?))
+}
+
+fn read_transaction(
+    alloc: Global,
+    verb: TransactionVerb,
+    tail: Tail<'_>,
+) -> Result<Command, CommandFault>
+    ensures { Gives (λ c. c) result (meaning.command_in (Verb.Transaction verb) (seen tail.entry)) }
+{
+    let (t, tail) = name_in(tail)?;
+    finish(tail)?;
+    Ok(of_transaction(verb, own(alloc, t)?))
+}
+
+fn read_home(alloc: Global, verb: HomeVerb, tail: Tail<'_>) -> Result<Command, CommandFault>
+    ensures { Gives (λ c. c) result (meaning.command_in (Verb.Home verb) (seen tail.entry)) }
+{
+    let (s, tail) = name_in(tail)?;
+    let (home, tail) = any_in(tail)?;
+    finish(tail)?;
+    let (s, home) = own_two(alloc, s, home)?;
+    Ok(of_home(verb, s, home))
+}
+
+fn read_key(alloc: Global, verb: KeyVerb, tail: Tail<'_>) -> Result<Command, CommandFault>
+    ensures { Gives (λ c. c) result (meaning.command_in (Verb.Key verb) (seen tail.entry)) }
+{
+    let (s, tail) = name_in(tail)?;
+    let (home, tail) = any_in(tail)?;
+    let (name, tail) = any_in(tail)?;
+    let (s, home) = own_two(alloc, s, home)?;
+    let (name, values) = own_last(alloc, name, tail)?;
+    Ok(of_key(verb, s, home, name, values))
+}
+
+fn read_entry(alloc: Global, verb: EntryVerb, tail: Tail<'_>) -> Result<Command, CommandFault>
+    ensures { Gives (λ c. c) result (meaning.command_in (Verb.Entry verb) (seen tail.entry)) }
+{
+    let (s, tail) = name_in(tail)?;
+    let (entry, tail) = entry_in(tail)?;
+    finish(tail)?;
+    Ok(of_entry(verb, own(alloc, s)?, entry))
+}
+
+fn read_member(alloc: Global, verb: MemberVerb, tail: Tail<'_>) -> Result<Command, CommandFault>
+    ensures { Gives (λ c. c) result (meaning.command_in (Verb.Member verb) (seen tail.entry)) }
+{
+    let (s, tail) = name_in(tail)?;
+    let (entry, tail) = entry_in(tail)?;
+    let (member, tail) = any_in(tail)?;
+    finish(tail)?;
+    let (s, member) = own_two(alloc, s, member)?;
+    Ok(of_member(verb, s, entry, member))
+}
+
+fn read_open(alloc: Global, tail: Tail<'_>) -> Result<Command, CommandFault>
+    ensures { Gives (λ c. c) result (meaning.command_in Verb.Open (seen tail.entry)) }
+{
+    let (s, tail) = name_in(tail)?;
+    let (tx, tail) = choice_in(tail, b"tx", b"basic")?;
+    let (write, tail) = choice_in(tail, b"rw", b"ro")?;
+    finish(tail)?;
+    Ok(Command::OpenSession {
+        s: own(alloc, s)?,
+        tx,
+        write,
+    })
+}
+
+// Whether a transaction is to be serializable.
+fn level_in<'a>(tail: Tail<'a>) -> Result<(bool, Tail<'a>), CommandFault>
+    ensures { Gives (λ x. (x.0, seen x.1)) result (step (OneOf (codes "SERIALIZABLE") (codes "READ_COMMITTED")) (seen tail.entry)) }
+{
+    choice_in(tail, b"SERIALIZABLE", b"READ_COMMITTED")
+}
+
+fn read_begin(alloc: Global, tail: Tail<'_>) -> Result<Command, CommandFault>
+    ensures { Gives (λ c. c) result (meaning.command_in Verb.Begin (seen tail.entry)) }
+{
+    let (t, tail) = name_in(tail)?;
+    let (serializable, tail) = level_in(tail)?;
+    finish(tail)?;
+    Ok(Command::Begin {
+        t: own(alloc, t)?,
+        serializable,
+    })
+}
+
+fn read_start(alloc: Global, tail: Tail<'_>) -> Result<Command, CommandFault>
+    ensures { Gives (λ c. c) result (meaning.command_in Verb.Start (seen tail.entry)) }
+{
+    let (s, tail) = name_in(tail)?;
+    let (t, tail) = name_in(tail)?;
+    finish(tail)?;
+    let (s, t) = own_two(alloc, s, t)?;
+    Ok(Command::Start { s, t })
+}
+
+fn read_end(alloc: Global, tail: Tail<'_>) -> Result<Command, CommandFault>
+    ensures { Gives (λ c. c) result (meaning.command_in Verb.End (seen tail.entry)) }
+{
+    let (s, tail) = name_in(tail)?;
+    let (ok, tail) = choice_in(tail, b"ok", b"fail")?;
+    finish(tail)?;
+    Ok(Command::End {
+        s: own(alloc, s)?,
+        ok,
+    })
+}
+
+fn read_create(alloc: Global, tail: Tail<'_>) -> Result<Command, CommandFault>
+    ensures { Gives (λ c. c) result (meaning.command_in Verb.Create (seen tail.entry)) }
+{
+    let (s, tail) = name_in(tail)?;
+    let (home, tail) = any_in(tail)?;
+    let s = own(alloc, s)?;
+    let (home, values) = own_last(alloc, home, tail)?;
+    Ok(Command::Create { s, home, values })
+}
+
+fn read_pid(alloc: Global, tail: Tail<'_>) -> Result<Command, CommandFault>
+    ensures { Gives (λ c. c) result (meaning.command_in Verb.Pid (seen tail.entry)) }
+{
+    let (s, tail) = name_in(tail)?;
+    let (pid, tail) = pid_in(tail)?;
+    finish(tail)?;
+    Ok(Command::Pid {
+        s: own(alloc, s)?,
+        pid,
+    })
+}
+
+fn read_short(alloc: Global, tail: Tail<'_>) -> Result<Command, CommandFault>
+    ensures { Gives (λ c. c) result (meaning.command_in Verb.Short (seen tail.entry)) }
+{
+    let (s, tail) = name_in(tail)?;
+    let (home, tail) = any_in(tail)?;
+    let (serial, tail) = serial_in(tail)?;
+    finish(tail)?;
+    let (s, home) = own_two(alloc, s, home)?;
+    Ok(Command::Short { s, home, serial })
+}
+
+fn read_set(alloc: Global, tail: Tail<'_>) -> Result<Command, CommandFault>
+    ensures { Gives (λ c. c) result (meaning.command_in Verb.Set (seen tail.entry)) }
+{
+    let (s, tail) = name_in(tail)?;
+    let (entry, tail) = entry_in(tail)?;
+    let (member, tail) = any_in(tail)?;
+    let s = own(alloc, s)?;
+    let (member, value) = own_last(alloc, member, tail)?;
+    Ok(Command::Set {
+        s,
+        entry,
+        member,
+        value,
+    })
+}
+
+// The command of a verb, by what stands behind it.
+fn read_behind(alloc: Global, verb: Verb, tail: Tail<'_>) -> Result<Command, CommandFault>
+    ensures { Gives (λ c. c) result (meaning.command_in verb (seen tail.entry)) }
+{
+    match verb {
+        Verb::Open => read_open(alloc, tail),
+        Verb::Begin => read_begin(alloc, tail),
+        Verb::Start => read_start(alloc, tail),
+        Verb::End => read_end(alloc, tail),
+        Verb::Create => read_create(alloc, tail),
+        Verb::Pid => read_pid(alloc, tail),
+        Verb::Short => read_short(alloc, tail),
+        Verb::Set => read_set(alloc, tail),
+        Verb::Alone(verb) => read_alone(verb, tail),
+        Verb::Session(verb) => read_session(alloc, verb, tail),
+        Verb::Transaction(verb) => read_transaction(alloc, verb, tail),
+        Verb::Home(verb) => read_home(alloc, verb, tail),
+        Verb::Key(verb) => read_key(alloc, verb, tail),
+        Verb::Entry(verb) => read_entry(alloc, verb, tail),
+        Verb::Member(verb) => read_member(alloc, verb, tail),
+    }
+}
+
+// The command of a line that begins with this word.
+fn read_from(alloc: Global, word: Word<'_>) -> Result<Command, CommandFault>
+    ensures { Gives (λ c. c) result (given (meaning.verb_of word.entry.text.now) (Err word.entry.column) (λ v. meaning.command_in v (seen word.entry.rest))) }
+{
+    match verb_of(word.text) {
+        Some(verb) => read_behind(alloc, verb, word.rest),
+        None => Err(CommandFault::Column(word.column)),
+    }
+}
+
+fn begins_comment(word: &[u8]) -> bool
+    ensures { result ≡ spelling.begins_comment word.now }
+{
+    match word.first() {
+        Some(byte) => *byte == b'#',
+        None => false,
+    }
+}
+
+// The first word of a line that has a reply.
+fn first_word<'a>(line: &'a [u8]) -> Option<Word<'a>>
+    requires { length line.now ≤ 65536 }
+    ensures first { MatchOption result (IsTrue (is_silent (words line.now))) (λ word. words line.now ≡ seen_word word ∷ words_in (seen word.rest)) }
+    ensures loud { IsSome result → is_silent (words line.now) ≡ false }
+{
+    let word = next_word(Tail {
+        column: 1,
+        text: line,
+    })?;
+    if begins_comment(word.text) {
+        None
+    } else {
+        Some(word)
+    }
+}
+
+/// The command of a line of at most 65,536 bytes. `None`: the line has no reply, since it has no word or its first one
+/// begins with `#`. `Column`: the line spells no command.
+pub fn read_command(alloc: Global, line: &[u8]) -> Result<Option<Command>, CommandFault>
+    requires { length line.now ≤ 65536 }
+    ensures reads { Tells (Exactly (Reads line.now)) result }
+    ensures meaning { Tells (λ said. said ≡ meaning.meaning line.now) result }
+{
+    let Some(word) = first_word(line) else {
+        return Ok(None);
+    };
+    Ok(Some(read_from(alloc, word)?))
+}

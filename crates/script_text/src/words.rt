@@ -1,0 +1,77 @@
+// The words of a line.
+ghost use Rattle.std.specs.Prelude.{◌≡◌, ◌≤◌, [], ◌∷◌, MatchOption, length, not};
+ghost use Rattle.std.specs.List.{prefix_len};
+ghost use Rattle.pss_base.specs.Blanks as blanks;
+ghost use Rattle.script_text.specs.Words.{words_in, end_of};
+ghost use Rattle.script_text.specs.Meaning as meaning;
+ghost use Rattle.script_text.specs.inner.Seen.{seen, seen_word, Gives};
+
+use crate::CommandFault;
+use crate::tail::Tail;
+use pss_base::{is_blank, skip_blanks};
+
+/// A word of a line.
+#[derive(Clone, Copy)]
+pub struct Word<'a> {
+    pub text: &'a [u8],
+    /// That of its first byte, from 1.
+    pub column: u32,
+    /// What stands directly behind it.
+    pub rest: Tail<'a>,
+}
+
+// How many bytes a text has in front of its first blank.
+fn count_word(text: &[u8]) -> usize
+    ensures count { result ≡ prefix_len (λ b. not (blanks.is_blank b)) text.now }
+    ensures within { result ≤ length text.now }
+{
+    text.iter().take_while(|byte| !is_blank(**byte)).count()
+}
+
+/// The first word of what is left of a line.
+pub fn next_word<'a>(tail: Tail<'a>) -> Option<Word<'a>>
+    ensures { MatchOption result (words_in (seen tail.entry) ≡ []) (λ word. words_in (seen tail.entry) ≡ seen_word word ∷ words_in (seen word.rest)) }
+{
+    let behind = skip_blanks(tail.text);
+    let len = count_word(behind);
+    if len == 0 {
+        return None;
+    }
+    let column = tail.column + (tail.text.len() - behind.len()) as u32;
+    let (text, after) = behind.split_at(len);
+    Some(Word {
+        text,
+        column,
+        rest: Tail {
+            column: column + len as u32,
+            text: after,
+        },
+    })
+}
+
+fn end_column(tail: Tail<'_>) -> u32
+    ensures { result ≡ end_of (seen tail.entry) }
+{
+    tail.column + tail.text.len() as u32
+}
+
+/// The first word, which must be there.
+pub fn word_in<'a>(tail: Tail<'a>) -> Result<Word<'a>, CommandFault>
+    ensures { Gives seen_word result (meaning.word_in (seen tail.entry)) }
+{
+    match next_word(tail) {
+        Some(word) => Ok(word),
+        None => Err(CommandFault::Column(end_column(tail))),
+    }
+}
+
+/// No word may be left.
+#[tactic(auto, unfolding(crate::specs::Meaning::nothing_in))]
+pub fn finish(tail: Tail<'_>) -> Result<(), CommandFault>
+    ensures { Gives (λ x. x) result (meaning.nothing_in (seen tail.entry)) }
+{
+    match next_word(tail) {
+        Some(word) => Err(CommandFault::Column(word.column)),
+        None => Ok(()),
+    }
+}

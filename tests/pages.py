@@ -7,6 +7,7 @@
     script     lines of a script over examples/cells.psdl, each with its reply behind two blanks or more
     console    commands behind `$ `, each with what it prints; a line `..` stands for any lines
     records    lines of the program record_cases, each with its answer under it; `text` has none, nor has a line that begins with `#`
+    journal    lines of the program journal_cases, each with its answer under it; `store` and `octets` have none, nor has a line that begins with `#`
     refusals   texts of one line, and octets of records with a line under them that marks the place of the refusal: `^ BadBool(15)`
 
 Blocks of the words `grammar` and `commands` are not tried: notation, and commands that prove or build. Any other block is a failed case, and so
@@ -15,7 +16,7 @@ import glob
 import os
 import re
 
-from running import cells, contents, each, ended, expect, expect_answer, lines_of, program, record_cases, shortened, tell, top, written
+from running import cells, contents, each, ended, expect, expect_answer, journal_cases, lines_of, program, record_cases, shortened, tell, top, written
 
 BLOCK = re.compile(r"^```([^\n]*)\n(.*?)^```$", re.M | re.S)
 EXAMPLE = re.compile(r"^\.EX\n(.*?)^\.EE$", re.M | re.S)
@@ -69,11 +70,11 @@ class Page:
                 same = re.fullmatch(pattern, run[1].decode(), re.S) and run[2] == b""
                 tell(self.told(line), bool(same), shortened(run))
 
-    def asked(self, lines):
-        """What record_cases answers to these lines."""
-        status, spoken, complaint = ended([record_cases], "".join(f"{line}\n" for line in lines).encode())
+    def asked(self, lines, cases=record_cases):
+        """What a program of cases answers to these lines."""
+        status, spoken, complaint = ended([cases], "".join(f"{line}\n" for line in lines).encode())
         if (status, complaint) != (0, b""):
-            tell(self.told("record_cases"), False, (status, complaint))
+            tell(self.told(os.path.basename(cases)), False, (status, complaint))
         return spoken.decode().splitlines()
 
     def answers(self, lines, wanted):
@@ -93,6 +94,24 @@ class Page:
                 answer = lines.pop(0) if lines else ""
                 wanted.append(joined(answer).strip() if line.startswith("encode ") and not answer.startswith("BADVALUE") else answer)
         self.answers(asked, wanted)
+
+    def journal(self, block):
+        """Octets may have blanks between them."""
+        lines = [line for line in block.splitlines() if line and not line.startswith("#")]
+        asked, questions, wanted = [], [], []
+        while lines:
+            verb, rest = lines.pop(0).split(" ", 1)
+            words = rest.split(" ")
+            places = {"append": 2, "octets": 1}.get(verb, len(words))
+            asked.append(" ".join([verb, *words[:places], "".join(words[places:])]).rstrip())
+            if verb not in ("store", "octets"):
+                answer = lines.pop(0) if lines else ""
+                questions.append(asked[-1])
+                wanted.append(answer.replace(" ", "") if verb == "show" else answer)
+        seen = self.asked(asked, journal_cases)
+        seen += ["no answer"] * (len(questions) - len(seen))
+        for question, want, told in zip(questions, wanted, seen):
+            tell(self.told(question), told == want, told)
 
     def refusals(self, block):
         """Octets are pairs of digits with blanks between them; any other line is the text for those that follow."""
@@ -147,7 +166,7 @@ def try_page(folder, path):
         kind, _, name = words.partition(" ")
         if kind in NOT_TRIED:
             continue
-        if kind not in ("psdl", "canonical", "shape", "faults", "script", "console", "records", "refusals"):
+        if kind not in ("psdl", "canonical", "shape", "faults", "script", "console", "records", "journal", "refusals"):
             tell(page.told(block), False, f"a block of the kind {kind!r}")
         elif name:
             getattr(page, kind)(block, name)
@@ -204,7 +223,7 @@ def tables(_):
     text = contents(os.path.join(top, "README.md")).decode()
     sentence = re.search(r"The program does not run ([^.]*)\.", text)
     seen = re.findall(r"`(\w+)`", sentence[1]) if sentence else []
-    run = below("pssd", dict(crates)) | {"record_cases"}
+    run = below("pssd", dict(crates)) | {"record_cases", "journal_cases"}
     tell("README.md has the crates that the program does not run", seen == [name for name in names if name not in run], seen)
     for folder, pattern in [("crates/NAME/must-fail/", "crates/*/must-fail/*.edit"), ("tests/edits/NAME/", "tests/edits/*/*.edit")]:
         row = re.search(rf"^\| `{folder}` \|[^|]*\| ([^|]*) \|$", text, re.M)

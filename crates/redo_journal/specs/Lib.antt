@@ -1,0 +1,4 @@
+pub mod Journal
+pub mod Faults
+pub mod inner
+pub mod Laws

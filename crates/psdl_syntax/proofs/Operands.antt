@@ -1,11 +1,11 @@
 -- An operand behind its operator, as functions read it.
-use Rattle.std.proofs.Common.{◌≡◌, ℕ, ◌-◌, ◌<◌, List, Option, Ok, refl, ap, sym, ◌∙◌}
+use Rattle.std.proofs.Common.{◌≡◌, ℕ, ◌-◌, ◌<◌, List, Bool, Option, Ok, refl, ap, sym, ◌∙◌}
 use Rattle.psdl_tokens.specs.declared.token.Mark.TheVariants as marks
 use Rattle.psdl_tree.specs.Trees.{Expression}
 use Rattle.psdl_syntax.proofs.Depths.{inside_is}
 use Rattle.pss_base.specs.declared.place.Place.{Place}
 use Rattle.part_readers.specs.declared.refusal.Refusal.{Refusal}
-use Rattle.part_readers.specs.Reading.{Fails, both}
+use Rattle.part_readers.specs.Reading.{Fails, mapped, both, many, separated}
 use Rattle.part_readers.proofs.Loops.{first_fails, second_fails, both_gives, mapped_fails, mapped_gives}
 use Rattle.psdl_syntax.specs.declared.fault.Fault.{Fault}
 use Rattle.psdl_tokens.specs.declared.token.Mark.{Mark}
@@ -44,3 +44,13 @@ unfolding group_with
 group_gives d toks mid end rest p x lt open_read inner close =
     let e : expression_inside d mid ≡ Ok (x, end) = ap (λ (r : Reads Expression). r mid) (sym (inside_is d lt)) ∙ inner in
     rw (open_read, e, close) refl
+
+-- a level of operators: its first operand, and the others behind their operators
+pub level_gives : {A B X : Type 0} (made : A → List B → X) (is : Seen → Bool) (first : Reads A) (other : Reads B) (toks mid rest : List Seen) (x : A) (ys : List B) → first toks ≡ Ok (x, mid) → many is other mid ≡ Ok (ys, rest) → mapped (λ p. made p.0 p.1) (separated is first other) toks ≡ Ok (made x ys, rest)
+level_gives made is first other toks mid rest x ys g h = mapped_gives (λ p. made p.0 p.1) (separated is first other) toks (x, ys) rest (both_gives first (many is other) toks x mid ys rest g h)
+
+pub level_fails : {A B X : Type 0} (refusal : Refusal Fault) (made : A → List B → X) (is : Seen → Bool) (first : Reads A) (other : Reads B) (toks : List Seen) → Fails refusal (first toks) → Fails refusal (mapped (λ p. made p.0 p.1) (separated is first other) toks)
+level_fails refusal made is first other toks h = mapped_fails refusal (λ p. made p.0 p.1) (separated is first other) toks (first_fails refusal first (many is other) toks h)
+
+pub behind_first_fails : {A B X : Type 0} (refusal : Refusal Fault) (made : A → List B → X) (is : Seen → Bool) (first : Reads A) (other : Reads B) (toks mid : List Seen) (x : A) → first toks ≡ Ok (x, mid) → Fails refusal (many is other mid) → Fails refusal (mapped (λ p. made p.0 p.1) (separated is first other) toks)
+behind_first_fails refusal made is first other toks mid x g h = mapped_fails refusal (λ p. made p.0 p.1) (separated is first other) toks (second_fails refusal first (many is other) toks x mid g h)

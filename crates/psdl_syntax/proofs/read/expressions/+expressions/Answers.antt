@@ -4,10 +4,10 @@ use Rattle.part_readers.specs.Reading.{many}
 use Rattle.part_readers.proofs.Loops.{pushed_on, stops, no_more, is_done}
 use Rattle.psdl_tokens.specs.declared.token.Mark.TheVariants as marks
 use Rattle.psdl_syntax.specs.Seen.{seen}
-use Rattle.psdl_tree.specs.Views.{product_part_view, sum_part_view, shift_part_view, and_part_view, xor_part_view, or_part_view, unary_view, product_view, sum_view, shift_view, and_view, xor_view, expression_view}
-use Rattle.psdl_syntax.specs.Productions.{is_mark, is_operator, shift_operator, sum_operator, product_operator, operand_at, operator_operand_at, unary_with, product_with, sum_with, shift_with, and_with, xor_with, expression_inside}
-use Rattle.psdl_syntax.proofs.Rolled.{or_part_rolled, xor_part_rolled, and_part_rolled, shift_part_rolled, sum_part_rolled, product_part_rolled, group_rolled}
-use Rattle.psdl_syntax.proofs.Operands.{sign_fails, operand_fails, operand_gives, operator_fails, behind_operator_fails, operator_gives, group_gives}
+use Rattle.psdl_tree.specs.Views.{product_part_view, sum_part_view, shift_part_view, and_part_view, xor_part_view, or_part_view, unary_view, product_view, sum_view, shift_view, and_view, xor_view, expression_view, product_of, sum_of, shift_of, and_of, xor_of, expression_of}
+use Rattle.psdl_syntax.specs.Productions.{is_mark, is_operator, shift_operator, sum_operator, product_operator, operand_at, operator_operand_at, unary_with, product_with, sum_with, shift_with, and_with, xor_with, expression_inside, expression_at, expression_with}
+use Rattle.psdl_syntax.proofs.Rolled.{or_part_rolled, xor_part_rolled, and_part_rolled, shift_part_rolled, sum_part_rolled, product_part_rolled, group_rolled, expression_rolled, xor_rolled, and_rolled, shift_rolled, sum_rolled, product_rolled}
+use Rattle.psdl_syntax.proofs.Operands.{sign_fails, operand_fails, operand_gives, operator_fails, behind_operator_fails, operator_gives, group_gives, level_gives, level_fails, behind_first_fails}
 use Rattle.psdl_syntax.proofs.read.expressions.+expressions.Goals as goal
 
 pub or_parts_of-returns-then-not-at_mark : goal.or_parts_of-returns-then-not-at_mark
@@ -134,3 +134,111 @@ pub group_of-returns : goal.group_of-returns
 group_of-returns t c =
     rw (group_rolled c.in_ok-place.place c.in_ok-new.field-0, c.in_ok-new.ensures.ok, c.in_ok-enclosed.ensures.kept)
     (group_gives c.args.depth (map seen c.args.tokens.now) (map seen c.in_ok-place.rest.now) (map seen c.in_ok-inner.rest.now) (map seen c.in_ok-enclosed.rest.now) c.in_ok-place.place (expression_view c.in_ok-inner.inner) c.in_ok-place.ensures.room c.in_ok-place.ensures.read c.in_ok-inner.ensures c.in_ok-enclosed.ensures.sign)
+
+pub product_of-returns : goal.product_of-returns
+unfolding product_with
+product_of-returns t c =
+    rw (product_rolled c.in_ok-first.first c.in_ok-others.others)
+    (level_gives product_of (is_operator product_operator) (unary_with (expression_inside c.args.depth) c.args.depth) (operator_operand_at product_operator (unary_with (expression_inside c.args.depth) c.args.depth)) (map seen c.args.tokens.now) (map seen c.in_ok-first.rest.now) (map seen c.in_ok-others.rest.now) (unary_view c.in_ok-first.first) (map product_part_view c.in_ok-others.others.items) c.in_ok-first.ensures c.in_ok-others.ensures)
+
+pub product_of-returns-in_err-first : goal.product_of-returns-in_err-first
+unfolding product_with
+product_of-returns-in_err-first t c =
+    let p = err_from_is_err_and c.from_residual.result c.from_residual.ensures.1 in
+    rw (p.1, p.2) (level_fails c.in_err-first.field-0.0 product_of (is_operator product_operator) (unary_with (expression_inside c.args.depth) c.args.depth) (operator_operand_at product_operator (unary_with (expression_inside c.args.depth) c.args.depth)) (map seen c.args.tokens.now) c.in_err-first.ensures)
+
+pub product_of-returns-in_err-others : goal.product_of-returns-in_err-others
+unfolding product_with
+product_of-returns-in_err-others t c =
+    let p = err_from_is_err_and c.from_residual-in_err-others.result c.from_residual-in_err-others.ensures.1 in
+    rw (p.1, p.2) (behind_first_fails c.in_err-others.field-0.0 product_of (is_operator product_operator) (unary_with (expression_inside c.args.depth) c.args.depth) (operator_operand_at product_operator (unary_with (expression_inside c.args.depth) c.args.depth)) (map seen c.args.tokens.now) (map seen c.in_ok-first.rest.now) (unary_view c.in_ok-first.first) c.in_ok-first.ensures c.in_err-others.ensures)
+
+pub sum_of-returns : goal.sum_of-returns
+unfolding sum_with
+sum_of-returns t c =
+    rw (sum_rolled c.in_ok-first.first c.in_ok-others.others)
+    (level_gives sum_of (is_operator sum_operator) (product_with (expression_inside c.args.depth) c.args.depth) (operator_operand_at sum_operator (product_with (expression_inside c.args.depth) c.args.depth)) (map seen c.args.tokens.now) (map seen c.in_ok-first.rest.now) (map seen c.in_ok-others.rest.now) (product_view c.in_ok-first.first) (map sum_part_view c.in_ok-others.others.items) c.in_ok-first.ensures c.in_ok-others.ensures)
+
+pub sum_of-returns-in_err-first : goal.sum_of-returns-in_err-first
+unfolding sum_with
+sum_of-returns-in_err-first t c =
+    let p = err_from_is_err_and c.from_residual.result c.from_residual.ensures.1 in
+    rw (p.1, p.2) (level_fails c.in_err-first.field-0.0 sum_of (is_operator sum_operator) (product_with (expression_inside c.args.depth) c.args.depth) (operator_operand_at sum_operator (product_with (expression_inside c.args.depth) c.args.depth)) (map seen c.args.tokens.now) c.in_err-first.ensures)
+
+pub sum_of-returns-in_err-others : goal.sum_of-returns-in_err-others
+unfolding sum_with
+sum_of-returns-in_err-others t c =
+    let p = err_from_is_err_and c.from_residual-in_err-others.result c.from_residual-in_err-others.ensures.1 in
+    rw (p.1, p.2) (behind_first_fails c.in_err-others.field-0.0 sum_of (is_operator sum_operator) (product_with (expression_inside c.args.depth) c.args.depth) (operator_operand_at sum_operator (product_with (expression_inside c.args.depth) c.args.depth)) (map seen c.args.tokens.now) (map seen c.in_ok-first.rest.now) (product_view c.in_ok-first.first) c.in_ok-first.ensures c.in_err-others.ensures)
+
+pub shift_of-returns : goal.shift_of-returns
+unfolding shift_with
+shift_of-returns t c =
+    rw (shift_rolled c.in_ok-first.first c.in_ok-others.others)
+    (level_gives shift_of (is_operator shift_operator) (sum_with (expression_inside c.args.depth) c.args.depth) (operator_operand_at shift_operator (sum_with (expression_inside c.args.depth) c.args.depth)) (map seen c.args.tokens.now) (map seen c.in_ok-first.rest.now) (map seen c.in_ok-others.rest.now) (sum_view c.in_ok-first.first) (map shift_part_view c.in_ok-others.others.items) c.in_ok-first.ensures c.in_ok-others.ensures)
+
+pub shift_of-returns-in_err-first : goal.shift_of-returns-in_err-first
+unfolding shift_with
+shift_of-returns-in_err-first t c =
+    let p = err_from_is_err_and c.from_residual.result c.from_residual.ensures.1 in
+    rw (p.1, p.2) (level_fails c.in_err-first.field-0.0 shift_of (is_operator shift_operator) (sum_with (expression_inside c.args.depth) c.args.depth) (operator_operand_at shift_operator (sum_with (expression_inside c.args.depth) c.args.depth)) (map seen c.args.tokens.now) c.in_err-first.ensures)
+
+pub shift_of-returns-in_err-others : goal.shift_of-returns-in_err-others
+unfolding shift_with
+shift_of-returns-in_err-others t c =
+    let p = err_from_is_err_and c.from_residual-in_err-others.result c.from_residual-in_err-others.ensures.1 in
+    rw (p.1, p.2) (behind_first_fails c.in_err-others.field-0.0 shift_of (is_operator shift_operator) (sum_with (expression_inside c.args.depth) c.args.depth) (operator_operand_at shift_operator (sum_with (expression_inside c.args.depth) c.args.depth)) (map seen c.args.tokens.now) (map seen c.in_ok-first.rest.now) (sum_view c.in_ok-first.first) c.in_ok-first.ensures c.in_err-others.ensures)
+
+pub and_of-returns : goal.and_of-returns
+unfolding and_with
+and_of-returns t c =
+    rw (and_rolled c.in_ok-first.first c.in_ok-others.others)
+    (level_gives and_of (is_mark marks.And) (shift_with (expression_inside c.args.depth) c.args.depth) (operand_at marks.And (shift_with (expression_inside c.args.depth) c.args.depth)) (map seen c.args.tokens.now) (map seen c.in_ok-first.rest.now) (map seen c.in_ok-others.rest.now) (shift_view c.in_ok-first.first) (map and_part_view c.in_ok-others.others.items) c.in_ok-first.ensures c.in_ok-others.ensures)
+
+pub and_of-returns-in_err-first : goal.and_of-returns-in_err-first
+unfolding and_with
+and_of-returns-in_err-first t c =
+    let p = err_from_is_err_and c.from_residual.result c.from_residual.ensures.1 in
+    rw (p.1, p.2) (level_fails c.in_err-first.field-0.0 and_of (is_mark marks.And) (shift_with (expression_inside c.args.depth) c.args.depth) (operand_at marks.And (shift_with (expression_inside c.args.depth) c.args.depth)) (map seen c.args.tokens.now) c.in_err-first.ensures)
+
+pub and_of-returns-in_err-others : goal.and_of-returns-in_err-others
+unfolding and_with
+and_of-returns-in_err-others t c =
+    let p = err_from_is_err_and c.from_residual-in_err-others.result c.from_residual-in_err-others.ensures.1 in
+    rw (p.1, p.2) (behind_first_fails c.in_err-others.field-0.0 and_of (is_mark marks.And) (shift_with (expression_inside c.args.depth) c.args.depth) (operand_at marks.And (shift_with (expression_inside c.args.depth) c.args.depth)) (map seen c.args.tokens.now) (map seen c.in_ok-first.rest.now) (shift_view c.in_ok-first.first) c.in_ok-first.ensures c.in_err-others.ensures)
+
+pub xor_of-returns : goal.xor_of-returns
+unfolding xor_with
+xor_of-returns t c =
+    rw (xor_rolled c.in_ok-first.first c.in_ok-others.others)
+    (level_gives xor_of (is_mark marks.Xor) (and_with (expression_inside c.args.depth) c.args.depth) (operand_at marks.Xor (and_with (expression_inside c.args.depth) c.args.depth)) (map seen c.args.tokens.now) (map seen c.in_ok-first.rest.now) (map seen c.in_ok-others.rest.now) (and_view c.in_ok-first.first) (map xor_part_view c.in_ok-others.others.items) c.in_ok-first.ensures c.in_ok-others.ensures)
+
+pub xor_of-returns-in_err-first : goal.xor_of-returns-in_err-first
+unfolding xor_with
+xor_of-returns-in_err-first t c =
+    let p = err_from_is_err_and c.from_residual.result c.from_residual.ensures.1 in
+    rw (p.1, p.2) (level_fails c.in_err-first.field-0.0 xor_of (is_mark marks.Xor) (and_with (expression_inside c.args.depth) c.args.depth) (operand_at marks.Xor (and_with (expression_inside c.args.depth) c.args.depth)) (map seen c.args.tokens.now) c.in_err-first.ensures)
+
+pub xor_of-returns-in_err-others : goal.xor_of-returns-in_err-others
+unfolding xor_with
+xor_of-returns-in_err-others t c =
+    let p = err_from_is_err_and c.from_residual-in_err-others.result c.from_residual-in_err-others.ensures.1 in
+    rw (p.1, p.2) (behind_first_fails c.in_err-others.field-0.0 xor_of (is_mark marks.Xor) (and_with (expression_inside c.args.depth) c.args.depth) (operand_at marks.Xor (and_with (expression_inside c.args.depth) c.args.depth)) (map seen c.args.tokens.now) (map seen c.in_ok-first.rest.now) (and_view c.in_ok-first.first) c.in_ok-first.ensures c.in_err-others.ensures)
+
+pub expression_of-returns : goal.expression_of-returns
+unfolding expression_at expression_with
+expression_of-returns t c =
+    rw (expression_rolled c.in_ok-first.first c.in_ok-others.others)
+    (level_gives expression_of (is_mark marks.Or) (xor_with (expression_inside c.args.depth) c.args.depth) (operand_at marks.Or (xor_with (expression_inside c.args.depth) c.args.depth)) (map seen c.args.tokens.now) (map seen c.in_ok-first.rest.now) (map seen c.in_ok-others.rest.now) (xor_view c.in_ok-first.first) (map or_part_view c.in_ok-others.others.items) c.in_ok-first.ensures c.in_ok-others.ensures)
+
+pub expression_of-returns-in_err-first : goal.expression_of-returns-in_err-first
+unfolding expression_at expression_with
+expression_of-returns-in_err-first t c =
+    let p = err_from_is_err_and c.from_residual.result c.from_residual.ensures.1 in
+    rw (p.1, p.2) (level_fails c.in_err-first.field-0.0 expression_of (is_mark marks.Or) (xor_with (expression_inside c.args.depth) c.args.depth) (operand_at marks.Or (xor_with (expression_inside c.args.depth) c.args.depth)) (map seen c.args.tokens.now) c.in_err-first.ensures)
+
+pub expression_of-returns-in_err-others : goal.expression_of-returns-in_err-others
+unfolding expression_at expression_with
+expression_of-returns-in_err-others t c =
+    let p = err_from_is_err_and c.from_residual-in_err-others.result c.from_residual-in_err-others.ensures.1 in
+    rw (p.1, p.2) (behind_first_fails c.in_err-others.field-0.0 expression_of (is_mark marks.Or) (xor_with (expression_inside c.args.depth) c.args.depth) (operand_at marks.Or (xor_with (expression_inside c.args.depth) c.args.depth)) (map seen c.args.tokens.now) (map seen c.in_ok-first.rest.now) (xor_view c.in_ok-first.first) c.in_ok-first.ensures c.in_err-others.ensures)

@@ -2,6 +2,7 @@ pub mod Spelled
 pub mod Numbers
 pub mod Depths
 pub mod Operands
+pub mod Primaries
 pub mod Rolled
 pub mod Psdl
 pub mod Enclosed

@@ -1,5 +1,5 @@
 -- A part that was put together, seen as a tree.
-use Rattle.std.proofs.Common.{◌≡◌, ◌∙◌, sym, ap, map, Box, Vec, Global}
+use Rattle.std.proofs.Common.{◌≡◌, ◌∙◌, sym, ap, map, Option, Box, Vec, Global}
 use Rattle.psdl_tree.specs.declared.names.Identifier.{Identifier}
 use Rattle.psdl_tree.specs.declared.definitions.Definition.{Definition as DefinitionNode}
 use Rattle.psdl_tree.specs.declared.definitions.Definition.TheViews.{Module, roll-Module}
@@ -17,16 +17,18 @@ use Rattle.psdl_tree.specs.declared.expressions.Shift.{Shift as ShiftNode}
 use Rattle.psdl_tree.specs.declared.expressions.Sum.{Sum as SumNode}
 use Rattle.psdl_tree.specs.declared.expressions.Product.{Product as ProductNode}
 use Rattle.psdl_tree.specs.declared.expressions.Unary.{Unary as UnaryNode}
+use Rattle.psdl_tree.specs.declared.expressions.UnarySign.{UnarySign}
+use Rattle.psdl_tree.specs.declared.expressions.Primary.{Primary as PrimaryNode}
 use Rattle.psdl_tree.specs.declared.expressions.ProductPart.{ProductPart as ProductPartNode}
 use Rattle.psdl_tree.specs.declared.expressions.SumPart.{SumPart as SumPartNode}
 use Rattle.psdl_tree.specs.declared.expressions.ShiftPart.{ShiftPart as ShiftPartNode}
 use Rattle.psdl_tree.specs.declared.expressions.AndPart.{AndPart as AndPartNode}
 use Rattle.psdl_tree.specs.declared.expressions.XorPart.{XorPart as XorPartNode}
 use Rattle.psdl_tree.specs.declared.expressions.OrPart.{OrPart as OrPartNode}
-use Rattle.psdl_tree.specs.declared.expressions.Primary.TheViews.{roll-Expression, roll-Xor, roll-And, roll-Shift, roll-Sum, roll-Product, roll-OrPart, roll-XorPart, roll-AndPart, roll-ShiftPart, roll-SumPart, roll-ProductPart, roll-Group}
-use Rattle.psdl_tree.specs.declared.expressions.Primary.TheFolds.{fold-roll-Expression, fold-roll-Xor, fold-roll-And, fold-roll-Shift, fold-roll-Sum, fold-roll-Product, fold-roll-OrPart, fold-roll-XorPart, fold-roll-AndPart, fold-roll-ShiftPart, fold-roll-SumPart, fold-roll-ProductPart, fold-roll-Group}
-use Rattle.psdl_tree.specs.Trees.{Definition, ModuleDefinition, Primary, And, Expression, Product, Shift, Sum, Unary, Xor}
-use Rattle.psdl_tree.specs.Views.{primary_step, and_step, and_part_step, expression_step, group_step, or_part_step, product_step, product_part_step, shift_step, shift_part_step, sum_step, sum_part_step, unary_step, xor_step, xor_part_step, or_part_view, xor_part_view, and_part_view, shift_part_view, sum_part_view, product_part_view, xor_view, and_view, shift_view, sum_view, product_view, unary_view, group_view, expression_view, definition_view, definition_step, module_step, definitions_of, product_of, sum_of, shift_of, and_of, xor_of, expression_of}
+use Rattle.psdl_tree.specs.declared.expressions.Primary.TheViews.{roll-Expression, roll-Xor, roll-And, roll-Shift, roll-Sum, roll-Product, roll-Unary, roll-OrPart, roll-XorPart, roll-AndPart, roll-ShiftPart, roll-SumPart, roll-ProductPart, roll-Group}
+use Rattle.psdl_tree.specs.declared.expressions.Primary.TheFolds.{fold-roll-Expression, fold-roll-Xor, fold-roll-And, fold-roll-Shift, fold-roll-Sum, fold-roll-Product, fold-roll-Unary, fold-roll-OrPart, fold-roll-XorPart, fold-roll-AndPart, fold-roll-ShiftPart, fold-roll-SumPart, fold-roll-ProductPart, fold-roll-Group}
+use Rattle.psdl_tree.specs.Trees.{Definition, ModuleDefinition, Primary, And, Expression, Product, Shift, Sum, Unary, Signed, Xor}
+use Rattle.psdl_tree.specs.Views.{primary_step, and_step, and_part_step, expression_step, group_step, or_part_step, product_step, product_part_step, shift_step, shift_part_step, sum_step, sum_part_step, unary_step, xor_step, xor_part_step, or_part_view, xor_part_view, and_part_view, shift_part_view, sum_part_view, product_part_view, xor_view, and_view, shift_view, sum_view, product_view, primary_view, unary_view, group_view, expression_view, definition_view, definition_step, module_step, definitions_of, product_of, sum_of, shift_of, and_of, xor_of, expression_of}
 
 pub or_part_rolled : (place : Place) (operand : XorNode) → or_part_view (roll-OrPart (record { place = place; operand = operand })) ≡ (place, xor_view operand)
 or_part_rolled place operand = fold-roll-OrPart Primary And (Place × Shift) Expression (Place × Expression) (Place × Xor) Product (Place × ProductOperator × Unary) Shift (Place × ShiftOperator × Sum) Sum (Place × SumOperator × Product) Unary Xor (Place × And) primary_step and_step and_part_step expression_step group_step or_part_step product_step product_part_step shift_step shift_part_step sum_step sum_part_step unary_step xor_step xor_part_step (record { place = place; operand = operand })
@@ -48,6 +50,9 @@ product_part_rolled place operator operand = fold-roll-ProductPart Primary And (
 
 pub group_rolled : (place : Place) (inner : Box ExpressionNode Global) → group_view (roll-Group (record { place = place; inner = inner })) ≡ (place, expression_view inner.value)
 group_rolled place inner = fold-roll-Group Primary And (Place × Shift) Expression (Place × Expression) (Place × Xor) Product (Place × ProductOperator × Unary) Shift (Place × ShiftOperator × Sum) Sum (Place × SumOperator × Product) Unary Xor (Place × And) primary_step and_step and_part_step expression_step group_step or_part_step product_step product_part_step shift_step shift_part_step sum_step sum_part_step unary_step xor_step xor_part_step (record { place = place; inner = inner })
+
+pub unary_rolled : (sign : Option UnarySign) (operand : PrimaryNode) → unary_view (roll-Unary (record { sign = sign; operand = operand })) ≡ Signed sign (primary_view operand)
+unary_rolled sign operand = fold-roll-Unary Primary And (Place × Shift) Expression (Place × Expression) (Place × Xor) Product (Place × ProductOperator × Unary) Shift (Place × ShiftOperator × Sum) Sum (Place × SumOperator × Product) Unary Xor (Place × And) primary_step and_step and_part_step expression_step group_step or_part_step product_step product_part_step shift_step shift_part_step sum_step sum_part_step unary_step xor_step xor_part_step (record { sign = sign; operand = operand })
 
 pub product_rolled : (first : UnaryNode) (others : Vec ProductPartNode Global) → product_view (roll-Product (record { first = first; others = others })) ≡ product_of (unary_view first) (map product_part_view others.items)
 product_rolled first others = fold-roll-Product Primary And (Place × Shift) Expression (Place × Expression) (Place × Xor) Product (Place × ProductOperator × Unary) Shift (Place × ShiftOperator × Sum) Sum (Place × SumOperator × Product) Unary Xor (Place × And) primary_step and_step and_part_step expression_step group_step or_part_step product_step product_part_step shift_step shift_part_step sum_step sum_part_step unary_step xor_step xor_part_step (record { first = first; others = others })

@@ -1,6 +1,6 @@
 -- The tokens of a level of operators, by what it holds; and a group that was printed.
 use Rattle.std.proofs.Common.{◌≡◌, ◌++◌, ◌∷◌, [], map, ap, sym, ◌∙◌}
-use Rattle.part_readers.specs.Sentences.{joined}
+use Rattle.part_readers.specs.Sentences.{joined, maybe}
 use Rattle.psdl_syntax.specs.Seen.{Sign, Placed}
 use Rattle.psdl_tokens.specs.declared.token.Mark.TheVariants as marks
 use Rattle.psdl_syntax.specs.declared.printing.printer.Printer.{Printer}
@@ -11,11 +11,12 @@ use Rattle.psdl_syntax.proofs.Printed.{printed_append}
 use Rattle.psdl_tree.specs.declared.expressions.Primary.{Primary as PrimaryNode}
 use Rattle.psdl_tree.specs.declared.expressions.Primary.TheVariants as nodes
 use Rattle.psdl_tree.specs.declared.expressions.Primary.TheOpen as open_primary
-use Rattle.psdl_tree.specs.declared.expressions.Primary.TheFolds.{fold-roll-Primary}
+use Rattle.psdl_tree.specs.declared.expressions.Primary.TheFolds.{fold-roll-Primary, fold_out-Unary}
 use Rattle.pss_base.specs.declared.place.Place.{Place}
 use Rattle.psdl_tree.specs.declared.expressions.ShiftOperator.{ShiftOperator}
 use Rattle.psdl_tree.specs.declared.expressions.SumOperator.{SumOperator}
 use Rattle.psdl_tree.specs.declared.expressions.ProductOperator.{ProductOperator}
+use Rattle.psdl_tree.specs.declared.expressions.Unary.{Unary as UnaryNode}
 use Rattle.psdl_tree.specs.declared.expressions.Product.{Product as ProductNode}
 use Rattle.psdl_tree.specs.declared.expressions.Sum.{Sum as SumNode}
 use Rattle.psdl_tree.specs.declared.expressions.Shift.{Shift as ShiftNode}
@@ -23,8 +24,8 @@ use Rattle.psdl_tree.specs.declared.expressions.And.{And as AndNode}
 use Rattle.psdl_tree.specs.declared.expressions.Xor.{Xor as XorNode}
 use Rattle.psdl_tree.specs.declared.expressions.Expression.{Expression as ExpressionNode}
 use Rattle.psdl_tree.specs.declared.expressions.Group.{Group as GroupNode}
-use Rattle.psdl_tree.specs.declared.expressions.Primary.TheViews.{out-Product, out-Sum, out-Shift, out-And, out-Xor, out-Expression, out-Group}
-use Rattle.psdl_tree.specs.Trees.{Primary, Group, And, Expression, Product, Shift, Sum, Unary, Xor}
+use Rattle.psdl_tree.specs.declared.expressions.Primary.TheViews.{out-Product, out-Sum, out-Shift, out-And, out-Xor, out-Expression, out-Group, out-Unary}
+use Rattle.psdl_tree.specs.Trees.{Primary, Group, Signed, And, Expression, Product, Shift, Sum, Unary, Xor}
 use Rattle.psdl_tree.specs.Views.{primary_step, and_step, and_part_step, expression_step, group_step, or_part_step, product_step, product_part_step, shift_step, shift_part_step, sum_step, sum_part_step, unary_step, xor_step, xor_part_step, unary_view, primary_view, product_view, product_part_view, sum_view, sum_part_view, shift_view, shift_part_view, and_view, and_part_view, xor_view, xor_part_view, expression_view, or_part_view}
 use Rattle.psdl_tree.proofs.Opened.{product_opened, sum_opened, shift_opened, and_opened, xor_opened, expression_opened, group_opened}
 
@@ -53,3 +54,10 @@ pub group_printed : (p m e : Printer) (x : PrimaryNode) (g : GroupNode) (inner :
 group_printed p m e x g inner is is_inner is_m is_e =
     rw (is, is_e, is_inner, is_m)
     (sym (ap (printed p) (group_spelled g) ∙ printed_append (put_mark p marks.LeftParen) (grammar.expression (expression_view (out-Group g).inner.value)) (Sign marks.RightParen ∷ [])))
+
+unary_opened : (x : UnaryNode) → unary_view x ≡ Signed (out-Unary x).sign (primary_view (out-Unary x).operand)
+unary_opened x = fold_out-Unary Primary And (Place × Shift) Expression (Place × Expression) (Place × Xor) Product (Place × ProductOperator × Unary) Shift (Place × ShiftOperator × Sum) Sum (Place × SumOperator × Product) Unary Xor (Place × And) primary_step and_step and_part_step expression_step group_step or_part_step product_step product_part_step shift_step shift_part_step sum_step sum_part_step unary_step xor_step xor_part_step x
+
+pub unary_printed : (p s : Printer) (x : UnaryNode) → s ≡ printed p (maybe grammar.unary_sign (out-Unary x).sign) → printed s (grammar.primary (primary_view (out-Unary x).operand)) ≡ printed p (grammar.unary (unary_view x))
+unary_printed p s x is_s =
+    rw is_s (sym (ap (λ (u : Unary). printed p (grammar.unary u)) (unary_opened x) ∙ printed_append p (maybe grammar.unary_sign (out-Unary x).sign) (grammar.primary (primary_view (out-Unary x).operand))))

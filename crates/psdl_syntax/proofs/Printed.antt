@@ -1,5 +1,5 @@
 -- Tokens that were printed one behind the other.
-use Rattle.std.proofs.Common.{◌≡◌, ℕ, zero, suc, ◌+◌, ◌<◌, List, [], ◌∷◌, ◌++◌, length, map, drop, get_or, refl, sym, ◌∙◌, ap, arith, add-one, append_assoc}
+use Rattle.std.proofs.Common.{◌≡◌, ℕ, zero, suc, ◌+◌, ◌<◌, ◌≤◌, List, [], ◌∷◌, ◌++◌, length, map, drop, get_or, refl, sym, ◌∙◌, ap, arith, add-one, append_assoc}
 use Rattle.part_readers.specs.Sentences.{joined}
 use Rattle.psdl_syntax.specs.declared.printing.printer.Printer.{Printer}
 use Rattle.psdl_tokens.specs.declared.token.Mark.{Mark}
@@ -33,6 +33,16 @@ goes_on spell view p next all xs i x lt is put_x so_far =
 pub begins : {A N : Type 0} (spell : A → List Seen) (view : N → A) (front whole : List Seen) (p q : Printer) (items xs : List N) → q ≡ printed p front → items ≡ xs → whole ≡ front ++ joined spell (map view xs) → printed q (joined spell (map view items)) ≡ printed p whole
 begins spell view front whole p q items xs is_q is_items is_whole =
     rw (is_q, is_items, is_whole) (sym (printed_append p front (joined spell (map view xs))))
+
+none_left : {N : Type 0} (xs : List N) (i : ℕ) → length xs ≤ i → drop i xs ≡ []
+none_left [] zero le = refl
+none_left [] (suc i) le = refl
+none_left (x ∷ xs) zero le = absurd (omega (arith, le))
+none_left (x ∷ xs) (suc i) le = none_left xs i (omega (arith, le))
+
+-- a loop over parts ends where none is left
+pub ends : {A N : Type 0} (spell : A → List Seen) (view : N → A) (p all : Printer) (xs : List N) (i : ℕ) → length xs ≤ i → printed p (joined spell (map view (drop i xs))) ≡ all → p ≡ all
+ends spell view p all xs i le so_far = rw (none_left xs i le) at so_far
 
 -- a mark, and what follows it
 pub behind_mark : (p m q : Printer) (mark other : Mark) (rest : List Seen) → mark ≡ other → m ≡ put_mark p mark → q ≡ printed m rest → q ≡ printed (put_mark p other) rest

@@ -11,6 +11,7 @@ pub mod NameLaws
 pub mod ExpressionLaws
 pub mod TypeLaws
 pub mod SpecLaws
+pub mod SpecParts
 pub mod MemberLaws
 pub mod StoreLaws
 pub mod DefinitionLaws

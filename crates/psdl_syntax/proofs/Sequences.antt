@@ -5,14 +5,15 @@ use Rattle.psdl_tokens.specs.declared.token.Keyword.TheVariants as keywords
 use Rattle.psdl_tokens.specs.declared.token.Mark.TheVariants as marks
 use Rattle.psdl_syntax.specs.declared.printing.printer.Printer.{Printer}
 use Rattle.psdl_tree.specs.declared.expressions.Expression.{Expression as ExpressionNode}
+use Rattle.psdl_tree.specs.declared.types.PlainType.{PlainType as PlainTypeNode}
 use Rattle.psdl_tree.specs.declared.types.TypeSpec.{TypeSpec as TypeSpecNode}
 use Rattle.psdl_tree.specs.declared.types.TypeSpec.TheVariants as nodes
 use Rattle.psdl_tree.specs.declared.types.TypeSpec.TheOpen as open_spec
 use Rattle.psdl_tree.specs.declared.types.TypeSpec.TheFolds.{fold-roll-TypeSpec}
 use Rattle.psdl_syntax.specs.Seen.{Seen, Word, Sign}
-use Rattle.psdl_tree.specs.Trees.{TypeSpec, Sequence}
+use Rattle.psdl_tree.specs.Trees.{TypeSpec, Sequence, PlainSpec}
 use Rattle.psdl_syntax.specs.Grammar as grammar
-use Rattle.psdl_tree.specs.Views.{spec_step, type_spec_view, expression_view}
+use Rattle.psdl_tree.specs.Views.{spec_step, type_spec_view, plain_type_view, expression_view}
 use Rattle.psdl_syntax.specs.Printing.{put, put_mark, printed}
 use Rattle.psdl_syntax.proofs.Printed.{printed_append}
 
@@ -23,8 +24,11 @@ bounded bound = maybe (grammar.behind (grammar.sign marks.Comma) grammar.express
 abbrev pub behind_less : Printer → Printer
 behind_less p = put_mark (put p (Word keywords.Sequence)) marks.Less
 
-sequence_view : (item : Box TypeSpecNode Global) (bound : Option ExpressionNode) → type_spec_view (nodes.Sequence item bound) ≡ Sequence (type_spec_view item.value) (option_map expression_view bound)
+pub sequence_view : (item : Box TypeSpecNode Global) (bound : Option ExpressionNode) → type_spec_view (nodes.Sequence item bound) ≡ Sequence (type_spec_view item.value) (option_map expression_view bound)
 sequence_view item bound = ap type_spec_view (sym (nodes.rolls-Sequence item bound)) ∙ fold-roll-TypeSpec TypeSpec spec_step (open_spec.Sequence item bound)
+
+pub plain_view : (plain : PlainTypeNode) → type_spec_view (nodes.Plain plain) ≡ PlainSpec (plain_type_view plain)
+plain_view plain = ap type_spec_view (sym (nodes.rolls-Plain plain)) ∙ fold-roll-TypeSpec TypeSpec spec_step (open_spec.Plain plain)
 
 sequence_is : (p : Printer) (item : Box TypeSpecNode Global) (bound : Option ExpressionNode) → printed p (grammar.type_spec (type_spec_view (nodes.Sequence item bound))) ≡ put_mark (printed (printed (behind_less p) (grammar.type_spec (type_spec_view item.value))) (bounded bound)) marks.Greater
 sequence_is p item bound =

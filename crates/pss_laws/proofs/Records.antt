@@ -13,10 +13,12 @@ use Rattle.type_layout.specs.Keys.{chosen}
 use Rattle.type_layout.specs.Schemas.{given}
 use Rattle.type_layout.proofs.OfType.{type_tells}
 use Rattle.value_text.specs.Texts.{is_at_end}
-use Rattle.value_text.specs.Reading.{value_at}
+use Rattle.pss_base.specs.Blanks.{is_blank, behind_blanks}
+use Rattle.value_text.specs.Reading.{◌>>=◌, value_at, given as picked}
+use Rattle.value_text.specs.Line.{one_value, and_then, values_from}
 use Rattle.pss_machine.specs.declared.command.Rest.{Rest}
 use Rattle.pss_machine.specs.declared.reply.Reply.TheVariants as reply
-use Rattle.pss_machine.specs.Values.{is_blank, one_value, in_front, values_from, values_in, types_of, with_values}
+use Rattle.pss_machine.specs.Values.{values_in, types_of, with_values}
 use Rattle.pss_machine.specs.Asking.{read_values}
 use Rattle.pss_laws.proofs.Logic.{unlike, and_left, and_right}
 use Rattle.pss_laws.proofs.Coming.{Okay}
@@ -91,7 +93,7 @@ one_of_type t text x e = by_read (value_at t text) e
     by_test y true is e = (let same : y ≡ x = cc in subst (λ (z : PlainValue × List ℕ). Of t z.0) same ((type_tells t y.0).0 (and_right (is_at_end y.1) (is_of t y.0) is)))
     by_test y false is e = absurd cc
 
-    by_read : (o : Option (PlainValue × List ℕ)) → given o None (λ x. if is_at_end x.1 && is_of t x.0 then Some x else None) ≡ Some x → Of t x.0
+    by_read : (o : Option (PlainValue × List ℕ)) → (o >>= λ x. if is_at_end x.1 && is_of t x.0 then Some x else None) ≡ Some x → Of t x.0
     by_read None e = absurd cc
     by_read (Some y) e = by_test y (is_at_end y.1 && is_of t y.0) refl e
 
@@ -100,22 +102,22 @@ abbrev Reads : List PlainType → Result (List PlainValue) ℕ → Type 0
 Reads types (Ok vs) = AllOf types vs
 Reads types (Err column) = Unit {0}
 
-front_reads : (t : PlainType) (ts : List PlainType) (v : PlainValue) (r : Result (List PlainValue) ℕ) → Of t v → Reads ts r → Reads (t ∷ ts) (in_front v r)
+front_reads : (t : PlainType) (ts : List PlainType) (v : PlainValue) (r : Result (List PlainValue) ℕ) → Of t v → Reads ts r → Reads (t ∷ ts) (and_then r (λ vs. Ok (v ∷ vs)))
 front_reads t ts v (Ok vs) of h = (of, h)
 front_reads t ts v (Err column) of h = tt
 
 from_reads : (types : List PlainType) (column : ℕ) (text : List ℕ) → Reads types (values_from types column text)
-from_reads [] column text = by_test (prefix_len is_blank text == length text)
+from_reads [] column text = by_test (length (behind_blanks text) == 0)
   where
     by_test : (b : Bool) → Reads [] (if b then Ok [] else Err (column + prefix_len is_blank text))
     by_test true = tt
     by_test false = tt
-from_reads (t ∷ ts) column text = by_value (one_value t (drop (prefix_len is_blank text) text)) refl (λ c x. from_reads ts c x)
+from_reads (t ∷ ts) column text = by_value (one_value t (behind_blanks text)) refl (λ c x. from_reads ts c x)
   where
-    by_value : (o : Option (PlainValue × List ℕ)) → one_value t (drop (prefix_len is_blank text) text) ≡ o → ((c : ℕ) (x : List ℕ) → Reads ts (values_from ts c x))
-        → Reads (t ∷ ts) (given o (Err (column + prefix_len is_blank text)) (λ x. in_front x.0 (values_from ts (column + length text - length x.1) x.1)))
+    by_value : (o : Option (PlainValue × List ℕ)) → one_value t (behind_blanks text) ≡ o → ((c : ℕ) (x : List ℕ) → Reads ts (values_from ts c x))
+        → Reads (t ∷ ts) (and_then (picked o (Err (column + prefix_len is_blank text)) (λ x. Ok x)) (λ x. and_then (values_from ts (column + length text - length x.1) x.1) (λ vs. Ok (x.0 ∷ vs))))
     by_value None e rest = tt
-    by_value (Some x) e rest = front_reads t ts x.0 (values_from ts (column + length text - length x.1) x.1) (one_of_type t (drop (prefix_len is_blank text) text) x e) (rest (column + length text - length x.1) x.1)
+    by_value (Some x) e rest = front_reads t ts x.0 (values_from ts (column + length text - length x.1) x.1) (one_of_type t (behind_blanks text) x e) (rest (column + length text - length x.1) x.1)
 
 pub read_fits : (types : List PlainType) (rest : Rest) → Okay (AllOf types) (read_values types rest)
 read_fits types rest = by_result (values_in types rest) refl (from_reads types rest.column rest.text)

@@ -2,17 +2,17 @@
 use Rattle.std.proofs.Common.{◌≡◌, ℕ, zero, suc, ◌<◌, ◌≤◌, ◌+◌, Bool, true, false, cond, not, ◌==◌, List, [], ◌∷◌, ◌++◌, length, Option, Some, None, refl, sym, ap, subst, ◌∙◌, inl, inr, arith}
 use Rattle.std.proofs.lemmas.Bool.{eqb-true}
 use Rattle.std.proofs.lemmas.Bool.Decides.{nat_tests}
-use Rattle.std.specs.Prelude.{slice_set, nat_lt, IsSome, unwrap_or, if◌then◌else◌}
+use Rattle.std.specs.Prelude.{slice_set, nat_lt, IsSome, unwrap_or, if◌then◌else◌, map, sum}
 use Rattle.std.specs.List.{slice_get, flat_map}
 use Rattle.std.specs.Ordering.{nat_cmp}
-use Rattle.std.specs.FinMap.{get, insert, remove, get-empty}
+use Rattle.std.specs.FinMap.{get, insert, remove, get-empty, entries, len-entries, len-empty, empty}
 use Rattle.pss_base.specs.declared.pid.Pid.{Pid}
 use Rattle.type_layout.specs.declared.schema.Schema.{Schema}
 use Rattle.type_layout.specs.declared.home.HomeNo.{HomeNo}
 use Rattle.type_layout.specs.Types.{PlainValue}
 use Rattle.type_layout.specs.Sound.{IsSoundSchema}
 use Rattle.type_layout.specs.Schemas.{given, home_at, members_at}
-use Rattle.pss_catalog.specs.Catalog.{Object, Catalog, has, references, object_spelling, total, IsGiven, AreGiven, IsGood}
+use Rattle.pss_catalog.specs.Catalog.{Object, Catalog, has, references, object_spelling, total, IsGiven, AreGiven, IsGood, weight}
 use Rattle.pss_catalog.specs.Changes.{Change, over, last_state}
 use Rattle.pss_catalog.proofs.Uniqueness.{found_over}
 use Rattle.pss_machine.specs.declared.limits.Limits.{Limits}
@@ -31,7 +31,7 @@ use Rattle.pss_machine.specs.Run.{Said, Silent, Says, Wrong, Machine, first, tur
 use Rattle.pss_machine.specs.Allowed.{TakesNext, May, IsStepOf}
 use Rattle.pss_machine.proofs.Cases.{of_given}
 use Rattle.pss_machine.proofs.Allowing.{decision_right, step_is}
-use Rattle.pss_laws.specs.Good.{IsFine, FitsSchema}
+use Rattle.pss_laws.specs.Good.{IsFine, FitsSchema, EmptyIsGood}
 use Rattle.pss_laws.proofs.Logic.{unlike}
 use Rattle.pss_laws.proofs.Footprint.{get_one, object_there}
 use Rattle.pss_laws.proofs.Nets.{view_stepped, view_new, over_net}
@@ -295,3 +295,25 @@ stays_good S limits M next lines sound within good =
       unique = sound_after.unique;
       bounded = fine.bounded;
     }
+
+pub empty_good : EmptyIsGood
+empty_good S = record {
+  homes = λ s object e. absurd (no object (sym (get-empty nat_cmp s) ∙ e));
+  records = λ s object e. absurd (no object (sym (get-empty nat_cmp s) ∙ e));
+  short = λ s object e. absurd (no object (sym (get-empty nat_cmp s) ∙ e));
+  positive = omega arith;
+  serials = λ s object e. absurd (no object (sym (get-empty nat_cmp s) ∙ e));
+  targets = λ s object e. absurd (no object (sym (get-empty nat_cmp s) ∙ e));
+  unique = λ k bytes s t x y at_s at_t holds_x holds_y. absurd (no x (sym (get-empty nat_cmp s) ∙ at_s));
+  bounded = (let none : total S empty ≡ 0 = ap (λ es. sum (map (λ e. weight S e.1) es)) no_entries in omega (arith, none));
+}
+  where
+    no : (object : Object) → None ≡ Some object → ⊥
+    no object e = cc
+
+    by_length : (es : List (ℕ × Object)) → length es ≡ 0 → es ≡ []
+    by_length [] e = refl
+    by_length (x ∷ es) e = absurd (omega arith)
+
+    no_entries : entries (empty {X = Object} {R = nat_cmp}) ≡ []
+    no_entries = by_length (entries empty) (sym (len-entries (empty {X = Object} {R = nat_cmp})) ∙ len-empty nat_cmp Object)

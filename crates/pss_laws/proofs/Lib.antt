@@ -23,3 +23,4 @@ pub mod Records
 pub mod Fitting
 pub mod Fine
 pub mod Storing
+pub mod Counting

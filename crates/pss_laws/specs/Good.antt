@@ -1,5 +1,6 @@
 -- Objects as the store may have them, and that what commands ask for makes no others.
 use Rattle.std.specs.Prelude.{ℕ, ◌≡◌, ◌≤◌, List, length, Some, IsSome}
+use Rattle.std.specs.FinMap.{empty}
 use Rattle.std.specs.List.{flat_map}
 use Rattle.type_layout.specs.declared.schema.Schema.{Schema}
 use Rattle.type_layout.specs.Types.{PlainMember}
@@ -31,3 +32,7 @@ abbrev pub GoodStaysGood : Type 0
 GoodStaysGood =
     (S : Schema) (limits : Limits) (M : Catalog) (next : ℕ) (lines : List Said) → IsSoundSchema S → limits.total ≤ 67108864 → IsGood S M next
     → IsGood S (run S limits (first M next) lines).kept.catalog (run S limits (first M next) lines).kept.next
+
+-- a catalog without objects is good, with 1 as the next serial
+abbrev pub EmptyIsGood : Type 0
+EmptyIsGood = (S : Schema) → IsGood S empty 1

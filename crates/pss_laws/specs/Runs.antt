@@ -1,5 +1,5 @@
 -- What holds of every run.
-use Rattle.std.specs.Prelude.{ℕ, ◌≡◌, List, ◌++◌, take}
+use Rattle.std.specs.Prelude.{ℕ, ◌≡◌, List, ◌++◌, length, take}
 use Rattle.type_layout.specs.declared.schema.Schema.{Schema}
 use Rattle.type_layout.specs.Sound.{IsSoundSchema}
 use Rattle.pss_catalog.specs.Catalog.{Catalog, IsUnique}
@@ -33,6 +33,10 @@ ReadsAreOwnOrLast = InEachRun (λ S M next q. OwnOrLast S M q.lists.history q.li
 -- creates rise from the next one at first on, so each is given once. It is so whatever the schema and the catalog are
 abbrev pub RunsAreLive : Type 0
 RunsAreLive = (S : Schema) (limits : Limits) (M : Catalog) (next : ℕ) (lines : List Said) → Live M next (run S limits (first M next) lines).lists.trace
+
+-- what is counted as commits is as many as the history has members
+abbrev pub CommitsAreCounted : Type 0
+CommitsAreCounted = (S : Schema) (limits : Limits) (M : Catalog) (next : ℕ) (lines : List Said) → (run S limits (first M next) lines).kept.commits ≡ length (run S limits (first M next) lines).lists.history
 
 -- ---- runs one after the other
 

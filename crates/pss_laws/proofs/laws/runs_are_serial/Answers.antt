@@ -1,6 +1,7 @@
 use Rattle.pss_laws.proofs.History.{each_run}
 use Rattle.pss_laws.proofs.Rising.{always_rise}
 use Rattle.pss_laws.proofs.Sourcing.{always_live}
+use Rattle.pss_laws.proofs.Counting.{always_counted}
 use Rattle.pss_laws.proofs.Again.{next_serial}
 use Rattle.pss_laws.proofs.laws.runs_are_serial.Goals as goal
 
@@ -21,3 +22,6 @@ returns-clause-live c = λ S limits M next lines. record { followed = always_liv
 
 pub returns-clause-again : goal.returns-clause-again
 returns-clause-again c = next_serial
+
+pub returns-clause-counted : goal.returns-clause-counted
+returns-clause-counted c = always_counted

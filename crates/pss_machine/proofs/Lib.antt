@@ -8,3 +8,4 @@ pub mod Telling
 pub mod Parting
 pub mod Distinct
 pub mod Fruitless
+pub mod Orderly

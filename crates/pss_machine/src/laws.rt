@@ -1,6 +1,6 @@
 // Laws over the definitions, for those that prove something above them.
 ghost use Rattle.pss_machine.specs.Allowed.{EffectsAreAllowed, StepsAreOfOwners};
-ghost use Rattle.pss_machine.specs.Entries.{BodiesAreAlwaysRight};
+ghost use Rattle.pss_machine.specs.Entries.{BodiesAreAlwaysRight, EntriesAreOrderly};
 ghost use Rattle.pss_machine.specs.Laws.{RunsGoOn, RefusalsChangeNothing, FruitlessChangesNoObject};
 ghost use Rattle.pss_machine.specs.Owning.{OwnersAreAlwaysTold, LocksAreAlwaysApart};
 
@@ -35,4 +35,10 @@ pub fn owners_are_told()
 /// entries.
 pub fn bodies_are_right()
     ensures { BodiesAreAlwaysRight }
+{}
+
+/// In every run the numbers of a session's entries rise up to the last one that was given, each object has one entry
+/// in it at most, and each entry counts one or more.
+pub fn entries_are_orderly()
+    ensures { EntriesAreOrderly }
 {}

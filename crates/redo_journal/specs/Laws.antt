@@ -1,4 +1,4 @@
--- Of each image the journal of an epoch is one thing.
+-- In each image the journal of an epoch is one thing.
 use Rattle.std.specs.Prelude.{ℕ, ◌≡◌, ◌<◌, ◌⊎◌, List}
 use Rattle.pss_disk.specs.Parts.{octet_at}
 use Rattle.redo_journal.specs.Journal.{Holds, IsDamaged}

@@ -5,7 +5,7 @@ ghost use Rattle.script_text.specs.Meaning as meaning;
 ghost use Rattle.script_text.specs.Meaning.{verb_text};
 ghost use Rattle.script_text.specs.inner.Likely as likely;
 
-/// Of those with no other word.
+/// The verbs with no other word.
 #[derive(Clone, Copy, Debug, PartialEq, Eq, Drop)]
 pub enum AloneVerb {
     Checkpoint,
@@ -13,7 +13,7 @@ pub enum AloneVerb {
     History,
 }
 
-/// Of those that name a session alone.
+/// The verbs that name a session alone.
 #[derive(Clone, Copy, Debug, PartialEq, Eq, Drop)]
 pub enum SessionVerb {
     Close,
@@ -24,14 +24,14 @@ pub enum SessionVerb {
     Refresh,
 }
 
-/// Of those that name a transaction alone.
+/// The verbs that name a transaction alone.
 #[derive(Clone, Copy, Debug, PartialEq, Eq, Drop)]
 pub enum TransactionVerb {
     Commit,
     Rollback,
 }
 
-/// Of those that name a session and a home.
+/// The verbs that name a session and a home.
 #[derive(Clone, Copy, Debug, PartialEq, Eq, Drop)]
 pub enum HomeVerb {
     Home,
@@ -39,7 +39,7 @@ pub enum HomeVerb {
     List,
 }
 
-/// Of those that name a session, a home, and a factory or a key, and have values.
+/// The verbs that name a session, a home, and a factory or a key, and have values.
 #[derive(Clone, Copy, Debug, PartialEq, Eq, Drop)]
 pub enum KeyVerb {
     Make,
@@ -47,7 +47,7 @@ pub enum KeyVerb {
     FindRef,
 }
 
-/// Of those that name a session and an entry.
+/// The verbs that name a session and an entry.
 #[derive(Clone, Copy, Debug, PartialEq, Eq, Drop)]
 pub enum EntryVerb {
     Exists,
@@ -57,7 +57,7 @@ pub enum EntryVerb {
     Release,
 }
 
-/// Of those that name a session, an entry and a member.
+/// The verbs that name a session, an entry and a member.
 #[derive(Clone, Copy, Debug, PartialEq, Eq, Drop)]
 pub enum MemberVerb {
     Get,

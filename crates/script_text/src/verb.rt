@@ -6,7 +6,7 @@ ghost use Rattle.script_text.specs.Meaning.{verb_text};
 ghost use Rattle.script_text.specs.inner.Likely as likely;
 
 /// The verbs with no other word.
-#[derive(Clone, Copy, Debug, PartialEq, Eq, Drop)]
+#[derive(Clone, Copy, Drop)]
 pub enum AloneVerb {
     Checkpoint,
     Stat,
@@ -14,7 +14,7 @@ pub enum AloneVerb {
 }
 
 /// The verbs that name a session alone.
-#[derive(Clone, Copy, Debug, PartialEq, Eq, Drop)]
+#[derive(Clone, Copy, Drop)]
 pub enum SessionVerb {
     Close,
     Suspend,
@@ -25,14 +25,14 @@ pub enum SessionVerb {
 }
 
 /// The verbs that name a transaction alone.
-#[derive(Clone, Copy, Debug, PartialEq, Eq, Drop)]
+#[derive(Clone, Copy, Drop)]
 pub enum TransactionVerb {
     Commit,
     Rollback,
 }
 
 /// The verbs that name a session and a home.
-#[derive(Clone, Copy, Debug, PartialEq, Eq, Drop)]
+#[derive(Clone, Copy, Drop)]
 pub enum HomeVerb {
     Home,
     Count,
@@ -40,7 +40,7 @@ pub enum HomeVerb {
 }
 
 /// The verbs that name a session, a home, and a factory or a key, and have values.
-#[derive(Clone, Copy, Debug, PartialEq, Eq, Drop)]
+#[derive(Clone, Copy, Drop)]
 pub enum KeyVerb {
     Make,
     Find,
@@ -48,7 +48,7 @@ pub enum KeyVerb {
 }
 
 /// The verbs that name a session and an entry.
-#[derive(Clone, Copy, Debug, PartialEq, Eq, Drop)]
+#[derive(Clone, Copy, Drop)]
 pub enum EntryVerb {
     Exists,
     Destroy,
@@ -58,14 +58,14 @@ pub enum EntryVerb {
 }
 
 /// The verbs that name a session, an entry and a member.
-#[derive(Clone, Copy, Debug, PartialEq, Eq, Drop)]
+#[derive(Clone, Copy, Drop)]
 pub enum MemberVerb {
     Get,
     Follow,
 }
 
 /// The first word of a command, which tells what stands behind it.
-#[derive(Clone, Copy, Debug, PartialEq, Eq, Drop)]
+#[derive(Clone, Copy, Drop)]
 pub enum Verb {
     Open,
     Begin,

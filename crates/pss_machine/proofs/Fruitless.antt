@@ -39,7 +39,7 @@ use Rattle.std.specs.Option.{option_map}
 use Rattle.std.specs.FinMap.{get}
 
 -- the operation was not granted
-abbrev is_no : PlainAnswer → Bool
+abbrev pub is_no : PlainAnswer → Bool
 is_no NotFound = true
 is_no (Gone p) = true
 is_no Nil = true
@@ -56,7 +56,7 @@ is_still _ = false
 abbrev Fruitless : Kept → Decision → Type 0
 Fruitless k d = IsTrue (is_fruitless d.reply) → is_still d.effect ≡ true
 
-answer_no : (S : Schema) (k : Kept) (copies : Copies) (asked : Asked) (a : PlainAnswer) → IsTrue (is_fruitless (reply_to S k copies asked a)) → is_no a ≡ true
+pub answer_no : (S : Schema) (k : Kept) (copies : Copies) (asked : Asked) (a : PlainAnswer) → IsTrue (is_fruitless (reply_to S k copies asked a)) → is_no a ≡ true
 answer_no S k copies asked (Found p) e = grind arith
 answer_no S k copies asked Done e = absurd cc
 answer_no S k copies asked (IsThere b) e = absurd cc
@@ -207,7 +207,7 @@ nothing_alone S M (Destroy p) =
     of_given NoChange (object_of M p) (answers (Gone p)) (λ object. record { changes = record { serial = p.serial; state = None } ∷ []; answer = Done }) (λ _. refl) (λ object _ e. absurd cc)
 nothing_alone S M (Ask q) = λ _. refl
 
-nothing_own : (S : Schema) (M : Catalog) (owner : Owner) (copies : Copies) (asked : Asked) → is_no (step_of S M owner copies asked).answer ≡ true → (step_of S M owner copies asked).own ≡ []
+pub nothing_own : (S : Schema) (M : Catalog) (owner : Owner) (copies : Copies) (asked : Asked) → is_no (step_of S M owner copies asked).answer ≡ true → (step_of S M owner copies asked).own ≡ []
 nothing_own S M owner copies asked e = by_copy (copied_answer M owner copies asked) e
   where
     by_copy : (o : Option PlainAnswer) → is_no (given o (step_on_view S M owner asked.op) (step_on_copy asked.op)).answer ≡ true → (given o (step_on_view S M owner asked.op) (step_on_copy asked.op)).own ≡ []
@@ -284,7 +284,7 @@ only_locked owners n step none m owner there = by_place (same_or_apart m n)
     }
     by_place (inr apart) = record { now = owner; there = with_apart owners n (stepped step) m apart ∙ there; level = refl; changes = refl }
 
-step_still : (k : Kept) (n : OwnerNo) (s : SessionNo) (step : Step) (asked : Asked) → is_no step.answer ≡ true → step.own ≡ [] → ChangesNoObject k (moved k (Steps n s step asked))
+pub step_still : (k : Kept) (n : OwnerNo) (s : SessionNo) (step : Step) (asked : Asked) → is_no step.answer ≡ true → step.own ≡ [] → ChangesNoObject k (moved k (Steps n s step asked))
 step_still k n s step asked refused none = record {
   catalog = refl;
   sessions = refl;

@@ -9,3 +9,9 @@ pub mod Parting
 pub mod Distinct
 pub mod Fruitless
 pub mod Orderly
+pub mod Found
+pub mod Growing
+pub mod Attached
+pub mod Acting
+pub mod Granting
+pub mod Numbering

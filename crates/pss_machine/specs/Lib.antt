@@ -25,3 +25,6 @@ pub mod Laws
 pub mod Allowed
 pub mod Owning
 pub mod Entries
+pub mod Commands
+pub mod Granted
+pub mod Numbers

@@ -2,6 +2,8 @@
 ghost use Rattle.pss_machine.specs.Allowed.{EffectsAreAllowed, StepsAreOfOwners};
 ghost use Rattle.pss_machine.specs.Entries.{BodiesAreAlwaysRight, EntriesAreOrderly};
 ghost use Rattle.pss_machine.specs.Laws.{RunsGoOn, RefusalsChangeNothing, FruitlessChangesNoObject};
+ghost use Rattle.pss_machine.specs.Granted.{FruitlessKeepsLocks, MarkedIsRolledBack};
+ghost use Rattle.pss_machine.specs.Numbers.{SessionsComeOnce, EntriesComeOnce, SessionsStay, EntriesStay};
 ghost use Rattle.pss_machine.specs.Owning.{OwnersAreAlwaysTold, LocksAreAlwaysApart};
 
 /// A run goes on from where it has come.
@@ -10,10 +12,14 @@ pub fn runs_go_on()
 {}
 
 /// A command that is refused before the catalog is asked changes nothing, nor does a commit without room. One that
-/// the catalog does not grant changes no object, no session and no entry, nor what any owner has changed.
+/// the catalog does not grant changes no object, no session and no entry, nor what any owner has changed: its owner
+/// keeps the locks that it needed and has done one more command, a create has used its serial, and all else is as
+/// before. A commit that is refused because its transaction was marked is a rollback.
 pub fn refusals_change_nothing()
     ensures refused { RefusalsChangeNothing }
     ensures fruitless { FruitlessChangesNoObject }
+    ensures locked { FruitlessKeepsLocks }
+    ensures marked { MarkedIsRolledBack }
 {}
 
 /// A step is taken by an owner that is there, within the limits, where no other holds it up, and a create carries
@@ -41,4 +47,14 @@ pub fn bodies_are_right()
 /// in it at most, and each entry counts one or more.
 pub fn entries_are_orderly()
     ensures { EntriesAreOrderly }
+{}
+
+/// In every run the numbers of sessions rise as they come, and so do those of a session's entries: none comes again,
+/// also not after what had it went. As long as it is there, a number stands for one session, and in a session for one
+/// object; so a session that is opened under the name of one that was closed is another.
+pub fn numbers_come_once()
+    ensures sessions { SessionsComeOnce }
+    ensures entries { EntriesComeOnce }
+    ensures same_session { SessionsStay }
+    ensures same_object { EntriesStay }
 {}

@@ -76,7 +76,7 @@ keeps_attached M seen = record { number = λ e. number e (is_attached e); pid = 
     pid e false = refl
 
 module _ (f : Entry → Entry) (keeps : Keeps f) where
-  numbered_map : (n : ℕ) (es : List Entry) → find (λ e. e.number == n) (map f es) ≡ option_map f (find (λ e. e.number == n) es)
+  pub numbered_map : (n : ℕ) (es : List Entry) → find (λ e. e.number == n) (map f es) ≡ option_map f (find (λ e. e.number == n) es)
   numbered_map n [] = refl
   numbered_map n (e ∷ es) = ap (λ m. cond (m == n) (Some (f e)) (find (λ e. e.number == n) (map f es))) (keeps.number e) ∙ by (e.number == n) (numbered_map n es)
     where
@@ -114,7 +114,7 @@ none_left m e (y ∷ es) there = by (y.number == m) refl there (none_left m e es
     by true is there rest = rest there
     by false is there rest = rest (ap (λ b. cond b (Some y) (find (λ e. e.number == m) (filter (λ e. not (e.number == m)) es))) (sym is) ∙ there)
 
-still_there : (m n : ℕ) (es : List Entry) (e : Entry) → find (λ e. e.number == n) (filter (λ e. not (e.number == m)) es) ≡ Some e → find (λ e. e.number == n) es ≡ Some e
+pub still_there : (m n : ℕ) (es : List Entry) (e : Entry) → find (λ e. e.number == n) (filter (λ e. not (e.number == m)) es) ≡ Some e → find (λ e. e.number == n) es ≡ Some e
 still_there m n [] e there = there
 still_there m n (x ∷ es) e there = by (x.number == m) refl there (x.number == n) refl (still_there m n es e)
   where

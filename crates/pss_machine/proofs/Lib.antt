@@ -15,3 +15,4 @@ pub mod Attached
 pub mod Acting
 pub mod Granting
 pub mod Numbering
+pub mod Attaching

@@ -28,3 +28,4 @@ pub mod Entries
 pub mod Commands
 pub mod Granted
 pub mod Numbers
+pub mod Attaching

@@ -1,5 +1,6 @@
 // Laws over the definitions, for those that prove something above them.
 ghost use Rattle.pss_machine.specs.Allowed.{EffectsAreAllowed, StepsAreOfOwners};
+ghost use Rattle.pss_machine.specs.Attaching.{OnlyOpenHaveAttached, OnlyUsedAreAttached};
 ghost use Rattle.pss_machine.specs.Entries.{BodiesAreAlwaysRight, EntriesAreOrderly};
 ghost use Rattle.pss_machine.specs.Laws.{RunsGoOn, RefusalsChangeNothing, FruitlessChangesNoObject};
 ghost use Rattle.pss_machine.specs.Granted.{FruitlessKeepsLocks, MarkedIsRolledBack};
@@ -57,4 +58,12 @@ pub fn numbers_come_once()
     ensures entries { EntriesComeOnce }
     ensures same_session { SessionsStay }
     ensures same_object { EntriesStay }
+{}
+
+/// In every run only entries of sessions that are basic, active or suspended are attached. A command attaches no entry
+/// but in the session in which it is done: the one that it gives with its reply (`create`, `make`, `find`, `pid`,
+/// `short`, `follow`), and the one that it names (`get`, `set`, `follow`) where it did what it was asked for.
+pub fn entries_are_attached()
+    ensures in_open { OnlyOpenHaveAttached }
+    ensures used { OnlyUsedAreAttached }
 {}

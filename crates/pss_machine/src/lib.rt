@@ -18,7 +18,7 @@ mod session;
 pub use answer::Answer;
 pub use command::{Command, Rest};
 pub use laws::{
-    bodies_are_right, effects_are_allowed, entries_are_orderly, numbers_come_once,
+    bodies_are_right, effects_are_allowed, entries_are_attached, entries_are_orderly, numbers_come_once,
     owners_are_told, refusals_change_nothing, runs_go_on,
 };
 pub use level::Level;

@@ -1,0 +1,8 @@
+use Rattle.pss_machine.proofs.Attaching as attaching
+use Rattle.pss_machine.proofs.laws.entries_are_attached.Goals as goal
+
+pub returns-clause-in_open : goal.returns-clause-in_open
+returns-clause-in_open c = attaching.only_open
+
+pub returns-clause-used : goal.returns-clause-used
+returns-clause-used c = attaching.only_used

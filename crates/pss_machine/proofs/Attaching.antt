@@ -224,7 +224,7 @@ module _ (S : Schema) (limits : Limits) where
 pub only_open : OnlyOpenHaveAttached
 only_open S limits M next lines s n e =
     let at : OpenAt (run S limits (first M next) lines).kept.sessions s.0 =
-      run_sits S limits (first M next) lines (λ s n e. absurd (none_there n (sym (ap (λ o. attached_in (unwrap_or o no_copies) n) (get-empty {X = Copies} nat_cmp s)) ∙ e))) s.0 n e in
+    run_sits S limits (first M next) lines (λ s n e. absurd (none_there n (sym (ap (λ o. attached_in (unwrap_or o no_copies) n) (get-empty {X = Copies} nat_cmp s)) ∙ e))) s.0 n e in
     record { session = at.session; there = at.there; goes_on = at.goes_on }
 
 -- ---- by what entries are attached
@@ -389,9 +389,12 @@ module _ (S : Schema) (limits : Limits) (k : Kept) (command : Command) where
           used_before (inr used) = inr used
 
       by : ((t ≡ s.0) ⊎ (t ≡ s.0 → ⊥)) → (t ≡ s.0) × (is_used command reply m ≡ true)
-      by (inl same) = (same, here (get k.copies s.0) refl
-          (sym (ap (λ o. attached_in (unwrap_or o no_copies) m) (ap (get (with_at left s.0 seat)) same ∙ with_here left s.0 seat ∙ ap (option_map seat) (get_each left_of k.copies s.0))) ∙ e)
-          (sym (ap (λ t. seated_at k.copies t m) same) ∙ none))
+      by (inl same) = (
+        same,
+        here (get k.copies s.0) refl
+            (sym (ap (λ o. attached_in (unwrap_or o no_copies) m) (ap (get (with_at left s.0 seat)) same ∙ with_here left s.0 seat ∙ ap (option_map seat) (get_each left_of k.copies s.0))) ∙ e)
+            (sym (ap (λ t. seated_at k.copies t m) same) ∙ none),
+      )
       by (inr apart) = absurd (true_false (detached_none k.owners k.sessions (is_outdated n step) k.copies t m (sym (ap (λ o. attached_in (unwrap_or o no_copies) m) (with_apart left s.0 seat t apart)) ∙ e)) none)
 
   used_alone : (effect : Effect) (reply : Reply) → Known S k command effect reply → (t : SessionNo) (m : ℕ) → seated_at k.copies t.0 m ≡ false → seated_at (moved k effect).copies t.0 m ≡ true → IsDoneIn k command t × IsTrue (is_used command reply m)

@@ -16,3 +16,4 @@ pub mod Acting
 pub mod Granting
 pub mod Numbering
 pub mod Attaching
+pub mod AtLimits

@@ -274,7 +274,7 @@ moved_goes S k command (Steps n s step asked) reply known h = record {
   next = omega arith;
   sessions = stays_on IsSameSession k.sessions same_none k.next_session;
   copies = on_both Grown grown_both k.next_session k.next_session k.copies left (with_at left s.0 seat) (omega arith) (detached_on k.owners k.sessions (is_outdated n' step) k.copies k.next_session)
-    (with_on Grown left s.0 seat grown_none (grown_seated k.catalog (seen_in (owners_after k n' step) k.sessions s) asked step.answer) k.next_session);
+      (with_on Grown left s.0 seat grown_none (grown_seated k.catalog (seen_in (owners_after k n' step) k.sessions s) asked step.answer) k.next_session);
 }
   where
     n' : OwnerNo

@@ -29,3 +29,4 @@ pub mod Commands
 pub mod Granted
 pub mod Numbers
 pub mod Attaching
+pub mod AtLimits

@@ -1,5 +1,6 @@
 // Laws over the definitions, for those that prove something above them.
 ghost use Rattle.pss_machine.specs.Allowed.{EffectsAreAllowed, StepsAreOfOwners};
+ghost use Rattle.pss_machine.specs.AtLimits.{BelowAllLimits, ManyAt256, SerialsAtLast, EntriesAt65535, CommitsAt67108864, FullAt67108865, FlushesAt67108864, FlushFullAt67108865};
 ghost use Rattle.pss_machine.specs.Attaching.{OnlyOpenHaveAttached, OnlyUsedAreAttached};
 ghost use Rattle.pss_machine.specs.Entries.{BodiesAreAlwaysRight, EntriesAreOrderly};
 ghost use Rattle.pss_machine.specs.Laws.{RunsGoOn, RefusalsChangeNothing, FruitlessChangesNoObject};
@@ -66,4 +67,24 @@ pub fn numbers_come_once()
 pub fn entries_are_attached()
     ensures in_open { OnlyOpenHaveAttached }
     ensures used { OnlyUsedAreAttached }
+{}
+
+/// What commands come to at each limit of the program and one below, whatever else is kept: 256 objects that one owner
+/// has changed, the last serial of 64 bits, 65,535 entries of one session, and objects of 67,108,864 octets.
+///
+/// | At the limit | Then | One below |
+/// |---|---|---|
+/// | 256 objects are changed, and a command would change a further one | `MANY` | the catalog is asked |
+/// | the next serial is 18,446,744,073,709,551,615, and an object is to be made | `SERIALS` | the catalog is asked |
+/// | a session has 65,535 entries, and an object is to be obtained | `ENTRIES` | the catalog is asked |
+/// | after a commit or flush the objects would take 67,108,865 octets | `FULL` | it is done |
+pub fn limits_are_exact()
+    ensures below { BelowAllLimits }
+    ensures many { ManyAt256 }
+    ensures serials { SerialsAtLast }
+    ensures entries { EntriesAt65535 }
+    ensures commits { CommitsAt67108864 }
+    ensures full { FullAt67108865 }
+    ensures flushes { FlushesAt67108864 }
+    ensures flush_full { FlushFullAt67108865 }
 {}

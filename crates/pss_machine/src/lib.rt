@@ -18,8 +18,8 @@ mod session;
 pub use answer::Answer;
 pub use command::{Command, Rest};
 pub use laws::{
-    bodies_are_right, effects_are_allowed, entries_are_attached, entries_are_orderly, numbers_come_once,
-    owners_are_told, refusals_change_nothing, runs_go_on,
+    bodies_are_right, effects_are_allowed, entries_are_attached, entries_are_orderly,
+    limits_are_exact, numbers_come_once, owners_are_told, refusals_change_nothing, runs_go_on,
 };
 pub use level::Level;
 pub use limits::Limits;

@@ -1,7 +1,6 @@
 -- What each command comes to, and in which session it is done.
-use Rattle.std.proofs.Common.{arith, ◌≡◌, ℕ, ◌+◌, ◌-◌, ◌==◌, Bool, true, false, not, ◌&&◌, List, [], ◌∷◌, Option, Some, None, refl, sym, ap, ◌∙◌, subst}
-use Rattle.std.specs.Prelude.{IsTrue, IsSome, Result, Ok, Err, nat_le, ok_or, length, slice_index_or, ◌^◌, if◌then◌else◌}
-use Rattle.std.specs.List.{list_any}
+use Rattle.std.proofs.Common.{arith, ◌≡◌, ℕ, ◌+◌, ◌-◌, ◌==◌, Bool, true, false, ◌&&◌, List, [], ◌∷◌, Option, Some, None, refl, ap}
+use Rattle.std.specs.Prelude.{IsSome, Result, Ok, Err, nat_le, ok_or, length, slice_index_or, ◌^◌, if◌then◌else◌}
 use Rattle.std.specs.FinMap.{get, len}
 use Rattle.std.specs.Option.{option_map}
 use Rattle.pss_base.specs.declared.pid.Pid.{Pid}
@@ -9,29 +8,28 @@ use Rattle.pss_base.specs.declared.owner.OwnerNo.{OwnerNo}
 use Rattle.pss_base.specs.declared.session.SessionNo.{SessionNo}
 use Rattle.type_layout.specs.declared.schema.Schema.{Schema}
 use Rattle.type_layout.specs.declared.home.HomeNo.{HomeNo}
-use Rattle.type_layout.specs.Types.{PlainType, PlainValue, PlainMember, Ref}
-use Rattle.type_layout.specs.Keys.{chosen, key_members, value_bytes}
+use Rattle.type_layout.specs.Types.{PlainType, PlainMember, Ref}
+use Rattle.type_layout.specs.Keys.{chosen, key_members}
 use Rattle.type_layout.specs.Schemas.{given, members_at}
 use Rattle.pss_machine.specs.declared.limits.Limits.{Limits}
-use Rattle.pss_machine.specs.declared.session.Association.{Association}
 use Rattle.pss_machine.specs.declared.session.View.TheVariants.{Kept as InCopy}
 use Rattle.pss_machine.specs.declared.command.Rest.{Rest}
 use Rattle.pss_machine.specs.declared.command.Command.{Command}
 use Rattle.pss_machine.specs.declared.command.Command.TheVariants as command
 use Rattle.pss_machine.specs.declared.reply.Reply.{Reply}
 use Rattle.pss_machine.specs.declared.reply.Reply.TheVariants as reply
-use Rattle.pss_machine.specs.Operations.{Question, FindKey, FindPid, FindShort, Exists, Get, Follow, Count, ListOf, PlainOp, Create, Set, Destroy, Ask, PlainAnswer, Busy}
+use Rattle.pss_machine.specs.Operations.{FindPid, Follow, Count, ListOf, PlainOp, Create, Set, Destroy, Ask, Busy}
 use Rattle.pss_machine.specs.Commands.{data_session, named_entry, is_obtaining}
 use Rattle.pss_machine.specs.Names.{factory_named, key_named}
-use Rattle.pss_machine.specs.Values.{values_in, types_of, made_of}
-use Rattle.pss_machine.specs.Owners.{Owner, Owners, Step, blocker}
+use Rattle.pss_machine.specs.Values.{types_of, made_of}
+use Rattle.pss_machine.specs.Owners.{Owner, Step, blocker}
 use Rattle.pss_machine.specs.Sessions.{Session, session_named, acts_for, open_in, is_read_only}
 use Rattle.pss_machine.specs.Copies.{Copies, Entry, entry_numbered, body_in, same_view, detached_from}
 use Rattle.pss_machine.specs.Kept.{Kept, Actor, actor_in, copies_of, transaction_named}
-use Rattle.pss_machine.specs.Asking.{Asked, Place, ◌>>=◌, refused_where, obtaining, only, by_entry, creating, making, finding, shortening, asking_whether, getting, setting, destroying, following, asking_of_home, read_home, read_values, read_value, read_entry, read_member, as_writer, is_reference}
-use Rattle.pss_machine.specs.Effects.{Effect, Stays, OpensBasic, OpensTransactional, ClosesBasic, ClosesTransactional, Begins, Associates, Ends, Holds, Steps, Commits, Flushes, RollsBack, Decision, does, says}
-use Rattle.pss_machine.specs.Stepping.{within, changes_further, is_create, step_of, reply_to, unless_busy, decided, data_command}
-use Rattle.pss_machine.specs.Deciding.{in_session, for_transaction, opening, beginning, closing, starting, suspending, ending, telling_state, is_over_full, is_marked, unless_full, committing, flushing, with_entry, recounting, telling_pid, refreshing, telling_home, freeing, counting, decision}
+use Rattle.pss_machine.specs.Asking.{Asked, ◌>>=◌, refused_where, obtaining, only, by_entry, creating, making, finding, shortening, asking_whether, getting, setting, destroying, following, asking_of_home, read_home, read_values, read_value, read_entry, read_member, is_reference}
+use Rattle.pss_machine.specs.Effects.{Effect, Associates, Holds, Steps, Commits, Flushes, RollsBack, Decision, does, says}
+use Rattle.pss_machine.specs.Stepping.{within, changes_further, is_create, step_of, reply_to, decided, data_command}
+use Rattle.pss_machine.specs.Deciding.{in_session, for_transaction, opening, beginning, closing, starting, suspending, ending, telling_state, is_over_full, unless_full, committing, flushing, with_entry, recounting, telling_pid, refreshing, telling_home, freeing, counting, decision}
 use Rattle.pss_machine.specs.Laws.{is_fruitless}
 use Rattle.pss_machine.proofs.Cases.{of_given, of_if}
 use Rattle.pss_machine.proofs.Found.{found_there}

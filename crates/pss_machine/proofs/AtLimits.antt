@@ -1,7 +1,7 @@
 -- What commands come to at the limits of the program.
-use Rattle.std.proofs.Common.{◌≡◌, ℕ, ◌-◌, ◌==◌, Bool, true, false, ◌&&◌, List, length, Option, Some, None, refl, sym, ap, ◌∙◌}
+use Rattle.std.proofs.Common.{◌≡◌, ℕ, ◌-◌, ◌==◌, Bool, true, false, ◌&&◌, List, length, Some, None, refl, ap, ◌∙◌}
 use Rattle.std.specs.Prelude.{Result, Ok, Err, nat_le, nat_lt, ◌^◌, if◌then◌else◌}
-use Rattle.std.specs.FinMap.{get, len}
+use Rattle.std.specs.FinMap.{get}
 use Rattle.pss_base.specs.declared.owner.OwnerNo.{OwnerNo}
 use Rattle.pss_base.specs.declared.session.SessionNo.{SessionNo}
 use Rattle.type_layout.specs.declared.schema.Schema.{Schema}
@@ -20,11 +20,11 @@ use Rattle.pss_machine.specs.Operations.{FindPid, Count, ListOf, Ask}
 use Rattle.pss_machine.specs.Commands.{data_session}
 use Rattle.pss_machine.specs.Owners.{Owner, net}
 use Rattle.pss_machine.specs.Sessions.{Session, session_named, first_open}
-use Rattle.pss_machine.specs.Kept.{Kept, Actor, actor_in, copies_of, transaction_named}
+use Rattle.pss_machine.specs.Kept.{Kept, Actor, copies_of, transaction_named}
 use Rattle.pss_machine.specs.Asking.{Asked, refused_where, obtaining, only, creating, making, finding, shortening, asking_whether, getting, setting, destroying, following, asking_of_home, ◌>>=◌}
-use Rattle.pss_machine.specs.Effects.{Effect, Commits, Flushes, RollsBack, Decision, does, says}
+use Rattle.pss_machine.specs.Effects.{Effect, Commits, Flushes, RollsBack, does, says}
 use Rattle.pss_machine.specs.Stepping.{changes_further, is_create, within, decided, data_command}
-use Rattle.pss_machine.specs.Deciding.{in_session, for_transaction, is_marked, unless_full, committing, flushing, decision}
+use Rattle.pss_machine.specs.Deciding.{in_session, is_marked, unless_full, committing, flushing, decision}
 use Rattle.pss_machine.specs.AtLimits.{asks_for, IsAsked, BelowAllLimits, ManyAt256, SerialsAtLast, EntriesAt65535, CommitsAt67108864, FullAt67108865, FlushesAt67108864, FlushFullAt67108865}
 
 none_some : {A : Type 0} {x : A} → None ≡ Some x → ⊥

@@ -1,6 +1,6 @@
 -- Whether the entry of a number is attached, in the entries of one session.
-use Rattle.std.proofs.Common.{arith, ◌≡◌, ℕ, ◌+◌, ◌==◌, Bool, true, false, not, ◌&&◌, cond, List, [], ◌∷◌, ◌++◌, map, Option, Some, None, refl, sym, ap, ◌∙◌, subst}
-use Rattle.std.specs.Prelude.{◌||◌, find, if◌then◌else◌}
+use Rattle.std.proofs.Common.{◌≡◌, ℕ, ◌+◌, ◌==◌, Bool, true, false, ◌&&◌, cond, List, [], ◌∷◌, ◌++◌, map, Option, Some, None, refl, sym, ap, ◌∙◌, subst}
+use Rattle.std.specs.Prelude.{find, if◌then◌else◌}
 use Rattle.std.specs.Option.{option_map}
 use Rattle.std.proofs.lemmas.Bool.{eqb-true}
 use Rattle.std.specs.Cmp.{nat_eq_equiv}
@@ -12,7 +12,7 @@ use Rattle.pss_machine.specs.Operations.{PlainAnswer, Done, Found, IsThere, Val,
 use Rattle.pss_machine.specs.Same.{same_pid}
 use Rattle.pss_machine.specs.Copies.{Loose, Entry, Copies, entry_numbered, entry_for, number_for, with_count, with_stand, at_entry, without_entry, obtained, is_attached, Body, attached, detached_from}
 use Rattle.pss_machine.specs.Deciding.{counting}
-use Rattle.pss_machine.specs.Moving.{with_named, with_found, is_done}
+use Rattle.pss_machine.specs.Moving.{with_named, with_found}
 use Rattle.pss_machine.specs.Attaching.{attached_in}
 use Rattle.pss_machine.proofs.Cases.{of_if}
 use Rattle.pss_machine.proofs.Growing.{Keeps, keeps_if, keeps_count, keeps_stand, keeps_attached, numbered_map, still_there}

@@ -1,9 +1,9 @@
 -- Entries are attached only in open sessions, and only by commands that use them.
-use Rattle.std.proofs.Common.{arith, ◌≡◌, ℕ, ◌+◌, ◌==◌, ◌&&◌, Bool, true, false, cond, List, [], ◌∷◌, map, Option, Some, None, refl, sym, ap, ◌∙◌, subst, inl, inr}
-use Rattle.std.specs.Prelude.{◌⊎◌, ◌||◌, is_some, unwrap_or, IsTrue, IsSome, if◌then◌else◌}
+use Rattle.std.proofs.Common.{◌≡◌, ℕ, ◌==◌, ◌&&◌, Bool, true, false, List, [], ◌∷◌, map, Option, Some, None, refl, sym, ap, ◌∙◌, subst, inl, inr}
+use Rattle.std.specs.Prelude.{◌⊎◌, ◌||◌, is_some, unwrap_or, IsTrue, if◌then◌else◌}
 use Rattle.std.specs.Option.{option_map}
 use Rattle.std.specs.Ordering.{nat_cmp}
-use Rattle.std.specs.FinMap.{FinMap, get, insert, remove, get-empty}
+use Rattle.std.specs.FinMap.{get, insert, remove, get-empty}
 use Rattle.std.proofs.lemmas.Bool.{eq-eqb}
 use Rattle.pss_base.specs.declared.pid.Pid.{Pid}
 use Rattle.pss_base.specs.declared.owner.OwnerNo.{OwnerNo}
@@ -17,23 +17,22 @@ use Rattle.pss_machine.specs.declared.reply.Reply.{Reply}
 use Rattle.pss_machine.specs.declared.session.Kind.{Kind}
 use Rattle.pss_machine.specs.declared.session.Kind.TheVariants.{Basic, Transactional}
 use Rattle.pss_machine.specs.declared.session.View.{View}
-use Rattle.pss_machine.specs.declared.session.Access.{Access}
 use Rattle.pss_machine.specs.declared.session.Association.{Association}
 use Rattle.pss_machine.specs.declared.session.Association.TheVariants.{NoTransaction, Active, Suspended, Ending}
 use Rattle.pss_machine.specs.Operations.{PlainAnswer, Done, Found, IsThere, Val, Number, Listing, NotFound, Gone, Nil, Duplicate, TooLarge, Busy}
 use Rattle.pss_machine.specs.Maps.{each, with_at}
 use Rattle.pss_machine.specs.Commands.{named_entry, is_obtaining}
 use Rattle.pss_machine.specs.Owners.{Owners, Step, net}
-use Rattle.pss_machine.specs.Sessions.{Session, Sessions, is_basic, open_in, acts_for, transaction_of, is_owner, with_association, without_transaction}
-use Rattle.pss_machine.specs.Copies.{Loose, Entry, Copies, AllCopies, no_copies, entry_numbered, number_for, at_entry, with_stand, attached, is_attached, Body, body_in, detached_from, detached}
+use Rattle.pss_machine.specs.Sessions.{Session, Sessions, is_basic, open_in, acts_for, with_association, without_transaction}
+use Rattle.pss_machine.specs.Copies.{Loose, Entry, Copies, AllCopies, no_copies, with_stand, attached, is_attached, Body, body_in, detached_from, detached}
 use Rattle.pss_machine.specs.Kept.{Kept, copies_of}
 use Rattle.pss_machine.specs.Asking.{Asked}
 use Rattle.pss_machine.specs.Effects.{Effect, Stays, OpensBasic, OpensTransactional, ClosesBasic, ClosesTransactional, Begins, Associates, Ends, Holds, Steps, Commits, Flushes, RollsBack}
 use Rattle.pss_machine.specs.Stepping.{reply_to}
 use Rattle.pss_machine.specs.Deciding.{decision}
-use Rattle.pss_machine.specs.Moving.{seated, is_done, with_named, with_found, seen_in, owners_after, is_outdated, is_in, is_session, is_settled, without_transaction_of, settled, moved}
+use Rattle.pss_machine.specs.Moving.{seated, is_done, with_named, with_found, seen_in, owners_after, is_outdated, is_in, is_session, is_settled, settled, moved}
 use Rattle.pss_machine.specs.Run.{Said, Silent, Says, Wrong, Machine, first, turn, run}
-use Rattle.pss_machine.specs.Attaching.{attached_in, is_attached_at, is_open, IsInOpen, OnlyOpenHaveAttached, is_given, is_success, is_used, IsDoneIn, OnlyUsedAreAttached}
+use Rattle.pss_machine.specs.Attaching.{attached_in, is_open, OnlyOpenHaveAttached, is_given, is_success, is_used, IsDoneIn, OnlyUsedAreAttached}
 use Rattle.pss_machine.proofs.Cases.{of_given}
 use Rattle.pss_machine.proofs.Maps.{get_each, same_or_apart, insert_here, insert_apart, remove_here, remove_apart, with_here, with_apart}
 use Rattle.pss_machine.proofs.Found.{found_there}

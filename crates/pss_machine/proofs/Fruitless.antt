@@ -1,14 +1,13 @@
 -- What is not granted changes no object.
-use Rattle.std.proofs.Common.{arith, subst, ◌≡◌, ℕ, Bool, true, false, not, ◌&&◌, List, [], ◌∷◌, map, Option, Some, None, refl, sym, ap, ◌∙◌, inl, inr}
+use Rattle.std.proofs.Common.{arith, ◌≡◌, ℕ, Bool, true, false, ◌&&◌, List, [], ◌∷◌, map, Option, Some, None, refl, sym, ap, ◌∙◌, inl, inr}
 use Rattle.std.specs.List.{flat_map}
 use Rattle.type_layout.specs.declared.key.KeyNo.{KeyNo}
 use Rattle.std.specs.Prelude.{length, nat_lt, IsTrue, ◌⊎◌, ◌+◌, ◌-◌, Result, Ok, Err, if◌then◌else◌}
-use Rattle.std.specs.List.{slice_get, flat_map}
+use Rattle.std.specs.List.{flat_map}
 use Rattle.pss_base.specs.declared.pid.Pid.{Pid}
 use Rattle.pss_base.specs.declared.owner.OwnerNo.{OwnerNo}
 use Rattle.pss_base.specs.declared.session.SessionNo.{SessionNo}
 use Rattle.type_layout.specs.declared.schema.Schema.{Schema}
-use Rattle.type_layout.specs.Types.{PlainValue}
 use Rattle.type_layout.specs.Schemas.{given}
 use Rattle.pss_catalog.specs.Catalog.{Object, Catalog, references, object_spelling}
 use Rattle.pss_machine.specs.declared.limits.Limits.{Limits}
@@ -16,19 +15,19 @@ use Rattle.pss_machine.specs.declared.command.Command.{Command}
 use Rattle.pss_machine.specs.declared.command.Command.TheVariants as command
 use Rattle.pss_machine.specs.declared.reply.Reply.{Reply}
 use Rattle.pss_machine.specs.declared.reply.Reply.TheVariants as reply
-use Rattle.pss_machine.specs.Operations.{Question, FindKey, FindPid, FindShort, Exists, Get, Follow, Count, ListOf, PlainOp, Create, Set, Destroy, Ask, PlainAnswer, Done, Found, IsThere, Val, Number, Listing, NotFound, Gone, Nil, Duplicate, TooLarge, Busy}
+use Rattle.pss_machine.specs.Operations.{FindPid, Count, ListOf, PlainOp, Create, Set, Destroy, Ask, PlainAnswer, Done, Found, IsThere, Val, Number, Listing, NotFound, Gone, Nil, Duplicate, TooLarge, Busy}
 use Rattle.pss_machine.specs.Alone.{Outcome, answers, alone, stored, first_taken, unless_gone, first_gone, object_of, pid_at, with_member}
-use Rattle.pss_machine.specs.Owners.{Owner, Owners, is_basic, Step, stepped, step_on_view, view, blocker}
+use Rattle.pss_machine.specs.Owners.{Owner, Owners, Step, stepped, step_on_view, view, blocker}
 use Rattle.pss_machine.specs.Sessions.{Session, Sessions, session_named, owner_of, is_owner}
-use Rattle.pss_machine.specs.Copies.{Stand, Loose, Copies, AllCopies, Entry, entry_numbered, is_attached, with_stand, Body, body_in, detached_from, detached}
+use Rattle.pss_machine.specs.Copies.{Loose, Copies, AllCopies, Entry, entry_numbered, is_attached, with_stand, Body, body_in, detached_from, detached}
 use Rattle.pss_machine.specs.Kept.{Kept, Actor, actor_in, copies_of, transaction_named}
 use Rattle.pss_machine.specs.Asking.{Asked, ◌>>=◌, obtaining, only, creating, making, finding, shortening, asking_whether, getting, setting, destroying, following, asking_of_home}
 use Rattle.pss_machine.specs.Effects.{Effect, Stays, OpensBasic, OpensTransactional, ClosesBasic, ClosesTransactional, Begins, Associates, Ends, Holds, Steps, Commits, Flushes, RollsBack, Decision, does, says}
-use Rattle.pss_machine.specs.Stepping.{within, copied_values, copied_answer, step_on_copy, told_by_copy, step_of, reply_to, unless_busy, decided, data_command}
+use Rattle.pss_machine.specs.Stepping.{within, copied_answer, step_on_copy, step_of, reply_to, unless_busy, decided, data_command}
 use Rattle.pss_machine.specs.Deciding.{in_session, for_transaction, opening, beginning, closing, starting, suspending, ending, telling_state, unless_full, committing, flushing, with_entry, recounting, telling_pid, refreshing, telling_home, freeing, counting, decision}
 use Rattle.pss_machine.specs.Moving.{moved, is_outdated, is_done, with_named, with_found, seated, seen_in, owners_after}
 use Rattle.pss_machine.specs.Laws.{is_fruitless, HasOnlyLocked, ChangesNoObject, FruitlessChangesNoObject}
-use Rattle.pss_machine.proofs.Cases.{of_given, of_if}
+use Rattle.pss_machine.proofs.Cases.{of_given}
 use Rattle.pss_machine.proofs.Maps.{same_or_apart, with_here, with_apart, each_same, with_at_same}
 use Rattle.pss_machine.proofs.Refusing.{not_both}
 use Rattle.pss_machine.proofs.Allowing.{decision_right}

@@ -1,5 +1,5 @@
 -- What is not granted leaves locks, and a serial that is used.
-use Rattle.std.proofs.Common.{◌≡◌, ℕ, Bool, true, false, List, [], Option, Some, None, refl, sym, ap, ◌∙◌, subst, arith}
+use Rattle.std.proofs.Common.{◌≡◌, ℕ, Bool, true, false, List, [], Option, Some, None, refl, sym, ap, ◌∙◌, subst}
 use Rattle.std.specs.Prelude.{IsTrue, if◌then◌else◌}
 use Rattle.std.specs.FinMap.{get}
 use Rattle.type_layout.specs.Schemas.{given}
@@ -15,17 +15,15 @@ use Rattle.pss_machine.specs.declared.reply.Reply.{Reply}
 use Rattle.pss_machine.specs.declared.reply.Reply.TheVariants as reply
 use Rattle.pss_machine.specs.Changes.{with_changes}
 use Rattle.pss_machine.specs.Maps.{with_at}
-use Rattle.pss_machine.specs.Operations.{PlainAnswer}
 use Rattle.pss_machine.specs.Owners.{Owner, Owners, Step, stepped}
-use Rattle.pss_machine.specs.Sessions.{Session, first_open}
+use Rattle.pss_machine.specs.Sessions.{first_open}
 use Rattle.pss_machine.specs.Kept.{Kept, copies_of, transaction_named}
 use Rattle.pss_machine.specs.Effects.{Effect, Stays, OpensBasic, OpensTransactional, ClosesBasic, ClosesTransactional, Begins, Associates, Ends, Holds, Steps, Commits, Flushes, RollsBack, Decision, does, says}
-use Rattle.pss_machine.specs.Stepping.{step_of, reply_to}
-use Rattle.pss_machine.specs.Deciding.{decision, for_transaction, is_over_full, is_marked, unless_full, committing}
+use Rattle.pss_machine.specs.Deciding.{decision, is_over_full, is_marked, unless_full, committing}
 use Rattle.pss_machine.specs.Moving.{moved}
 use Rattle.pss_machine.specs.Allowed.{May, TakesNext, IsStepOf}
 use Rattle.pss_machine.specs.Laws.{is_fruitless, ChangesNoObject}
-use Rattle.pss_machine.specs.Granted.{with_locks, with_nothing_but_locks, OnlyLocked, FruitlessKeepsLocks, MarkedIsRolledBack}
+use Rattle.pss_machine.specs.Granted.{with_locks, OnlyLocked, FruitlessKeepsLocks, MarkedIsRolledBack}
 use Rattle.pss_machine.proofs.Allowing.{decision_right, step_is}
 use Rattle.pss_machine.proofs.Fruitless.{is_no, answer_no, nothing_own, step_still}
 use Rattle.pss_machine.proofs.Acting.{Known, decision_seen}

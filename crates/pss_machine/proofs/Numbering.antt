@@ -1,6 +1,6 @@
 -- Numbers of sessions and of entries rise over a run, and each stays with what it was given to.
 use Rattle.std.proofs.Common.{arith, ◌≡◌, ℕ, ◌+◌, ◌==◌, ◌<◌, ◌≤◌, Bool, true, false, cond, List, [], ◌∷◌, ◌++◌, Option, Some, None, refl, sym, ap, ◌∙◌, subst, inl, inr}
-use Rattle.std.specs.Prelude.{◌⊎◌, find, is_some, unwrap_or, IsTrue, nat_lt}
+use Rattle.std.specs.Prelude.{◌⊎◌, find, is_some, unwrap_or, nat_lt}
 use Rattle.std.specs.Option.{option_map}
 use Rattle.std.specs.Ordering.{nat_cmp}
 use Rattle.std.specs.FinMap.{FinMap, get, insert, remove, get-empty}
@@ -14,9 +14,7 @@ use Rattle.pss_catalog.specs.Catalog.{Catalog}
 use Rattle.pss_machine.specs.declared.limits.Limits.{Limits}
 use Rattle.pss_machine.specs.declared.command.Command.{Command}
 use Rattle.pss_machine.specs.declared.reply.Reply.{Reply}
-use Rattle.pss_machine.specs.declared.session.Kind.{Kind}
-use Rattle.pss_machine.specs.declared.session.Access.{Access}
-use Rattle.pss_machine.specs.declared.session.Association.TheVariants.{NoTransaction, Ending}
+use Rattle.pss_machine.specs.declared.session.Association.TheVariants.{Ending}
 use Rattle.pss_machine.specs.Maps.{each, with_at}
 use Rattle.pss_machine.specs.Owners.{Owners, net}
 use Rattle.pss_machine.specs.Sessions.{Session, Sessions, with_association, without_transaction}
@@ -24,10 +22,10 @@ use Rattle.pss_machine.specs.Copies.{Entry, Copies, AllCopies, no_copies, entry_
 use Rattle.pss_machine.specs.Kept.{Kept, copies_of}
 use Rattle.pss_machine.specs.Effects.{Effect, Stays, OpensBasic, OpensTransactional, ClosesBasic, ClosesTransactional, Begins, Associates, Ends, Holds, Steps, Commits, Flushes, RollsBack}
 use Rattle.pss_machine.specs.Deciding.{decision}
-use Rattle.pss_machine.specs.Moving.{seated, seen_in, owners_after, is_outdated, is_in, is_session, is_settled, with_session, without_session, without_transaction_of, settled, emptied, moved}
+use Rattle.pss_machine.specs.Moving.{seated, seen_in, owners_after, is_outdated, is_in, is_session, is_settled, without_transaction_of, settled, emptied, moved}
 use Rattle.pss_machine.specs.Run.{Said, Silent, Says, Wrong, Machine, first, turn, run}
 use Rattle.pss_machine.specs.Entries.{NumbersRise, AreOrderly}
-use Rattle.pss_machine.specs.Numbers.{has_session, has_entry, IsSameSession, SessionsComeOnce, EntriesComeOnce, SessionsStay, EntriesStay}
+use Rattle.pss_machine.specs.Numbers.{has_entry, IsSameSession, SessionsComeOnce, EntriesComeOnce, SessionsStay, EntriesStay}
 use Rattle.pss_machine.proofs.Cases.{of_given}
 use Rattle.pss_machine.proofs.Maps.{get_each, same_or_apart, insert_here, insert_apart, remove_here, remove_apart, with_here, with_apart}
 use Rattle.pss_machine.proofs.Running.{run_append}

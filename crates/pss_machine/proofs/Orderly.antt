@@ -4,7 +4,7 @@ use Rattle.std.specs.Prelude.{◌⊎◌, ◌||◌, Result, Ok, Err, filter, find
 use Rattle.std.specs.Option.{option_map}
 use Rattle.std.specs.List.{list_any}
 use Rattle.std.specs.Ordering.{nat_cmp}
-use Rattle.std.specs.FinMap.{get, insert, remove, empty, get-empty}
+use Rattle.std.specs.FinMap.{get, insert, remove, get-empty}
 use Rattle.std.proofs.lemmas.Bool.Decides.{nat_tests}
 use Rattle.pss_base.specs.declared.pid.Pid.{Pid}
 use Rattle.pss_base.specs.declared.owner.OwnerNo.{OwnerNo}

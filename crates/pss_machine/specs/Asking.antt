@@ -1,12 +1,11 @@
 -- What a data command asks of the catalog, or why its words ask nothing. The first refusal that holds is the one.
-use Rattle.std.specs.Prelude.{ℕ, List, [], ◌∷◌, map, Option, Some, None, Result, Ok, Err, Bool, true, false, if◌then◌else◌, slice_index_or, ok_or}
+use Rattle.std.specs.Prelude.{ℕ, List, [], ◌∷◌, Option, Some, None, Result, Ok, Err, Bool, true, false, if◌then◌else◌, slice_index_or, ok_or}
 use Rattle.pss_base.specs.declared.pid.Pid.{Pid}
 use Rattle.type_layout.specs.declared.home.HomeNo.{HomeNo}
-use Rattle.type_layout.specs.declared.key.KeyNo.{KeyNo}
 use Rattle.type_layout.specs.declared.schema.Schema.{Schema}
 use Rattle.type_layout.specs.Types.{PlainType, RefTo, PlainValue, PlainMember, Ref}
 use Rattle.type_layout.specs.Keys.{chosen, key_members, value_bytes}
-use Rattle.type_layout.specs.Schemas.{given, key_at, members_at}
+use Rattle.type_layout.specs.Schemas.{given, members_at}
 use Rattle.pss_machine.specs.declared.command.Rest.{Rest}
 use Rattle.pss_machine.specs.declared.reply.Reply.{Reply}
 use Rattle.pss_machine.specs.declared.reply.Reply.TheVariants as reply

@@ -1,6 +1,6 @@
 -- What comes of a command that the catalog does not grant.
 use Rattle.std.specs.Prelude.{ℕ, ◌≡◌, IsTrue, List, Some}
-use Rattle.std.specs.FinMap.{get, insert}
+use Rattle.std.specs.FinMap.{get}
 use Rattle.std.specs.FinSet as set
 use Rattle.pss_base.specs.declared.owner.OwnerNo.{OwnerNo}
 use Rattle.pss_base.specs.declared.session.SessionNo.{SessionNo}

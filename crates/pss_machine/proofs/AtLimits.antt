@@ -42,7 +42,7 @@ module _ (S : Schema) (limits : Limits) (k : Kept) (s : SessionNo) (session : Se
       ap (λ o. given o (says reply.NoSession) (λ e. data_command S limits k (record { 0 = e.0 }) e.1 (asked (record { 0 = e.0 }) e.1))) (ap (session_named k.sessions) (same_some same) ∙ named)
       ∙ ap (data_command S limits k s session) (same_some words)
 
-  decision_asks : (command : Command) → data_session command ≡ Some name → asks_for S k s session command ≡ Some r → decision S limits k command ≡ data_command S limits k s session r
+  pub decision_asks : (command : Command) → data_session command ≡ Some name → asks_for S k s session command ≡ Some r → decision S limits k command ≡ data_command S limits k s session r
   decision_asks (command.Create word home values) = in_is word (λ s session. creating S k.next session home values)
   decision_asks (command.Make word home factory values) = in_is word (λ s session. making S k.next session home factory values)
   decision_asks (command.Find word home key values) = in_is word (λ s session. finding S home key values >>= λ op. Ok (obtaining op))

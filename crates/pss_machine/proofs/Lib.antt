@@ -17,3 +17,4 @@ pub mod Granting
 pub mod Numbering
 pub mod Attaching
 pub mod AtLimits
+pub mod Worked

@@ -30,3 +30,4 @@ pub mod Granted
 pub mod Numbers
 pub mod Attaching
 pub mod AtLimits
+pub mod Worked

@@ -7,6 +7,7 @@ ghost use Rattle.pss_machine.specs.Laws.{RunsGoOn, RefusalsChangeNothing, Fruitl
 ghost use Rattle.pss_machine.specs.Granted.{FruitlessKeepsLocks, MarkedIsRolledBack};
 ghost use Rattle.pss_machine.specs.Numbers.{SessionsComeOnce, EntriesComeOnce, SessionsStay, EntriesStay};
 ghost use Rattle.pss_machine.specs.Owning.{OwnersAreAlwaysTold, LocksAreAlwaysApart};
+ghost use Rattle.pss_machine.specs.Worked.{AreAtSmallLimits};
 
 /// A run goes on from where it has come.
 pub fn runs_go_on()
@@ -87,4 +88,5 @@ pub fn limits_are_exact()
     ensures full { FullAt67108865 }
     ensures flushes { FlushesAt67108864 }
     ensures flush_full { FlushFullAt67108865 }
+    ensures worked { AreAtSmallLimits }
 {}

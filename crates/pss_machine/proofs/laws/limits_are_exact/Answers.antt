@@ -1,4 +1,5 @@
 use Rattle.pss_machine.proofs.AtLimits as limits
+use Rattle.pss_machine.proofs.Worked.{at_small_limits}
 use Rattle.pss_machine.proofs.laws.limits_are_exact.Goals as goal
 
 pub returns-clause-below : goal.returns-clause-below
@@ -24,3 +25,6 @@ returns-clause-flushes c = limits.flushes_at
 
 pub returns-clause-flush_full : goal.returns-clause-flush_full
 returns-clause-flush_full c = limits.flush_full_at
+
+pub returns-clause-worked : goal.returns-clause-worked
+returns-clause-worked c = at_small_limits

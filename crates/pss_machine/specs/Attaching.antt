@@ -1,19 +1,25 @@
 -- Where entries are attached, and by what.
-use Rattle.std.specs.Prelude.{ℕ, ◌≡◌, ◌==◌, ◌&&◌, ◌||◌, List, Some, Bool, true, false, is_some, IsTrue}
+use Rattle.std.specs.Prelude.{ℕ, ◌≡◌, ◌==◌, ◌&&◌, ◌||◌, not, List, Some, Bool, true, false, is_some, IsTrue}
 use Rattle.std.specs.FinMap.{get}
+use Rattle.pss_base.specs.declared.owner.OwnerNo.{OwnerNo}
 use Rattle.pss_base.specs.declared.session.SessionNo.{SessionNo}
 use Rattle.type_layout.specs.declared.schema.Schema.{Schema}
 use Rattle.type_layout.specs.Schemas.{given}
 use Rattle.pss_machine.specs.declared.limits.Limits.{Limits}
 use Rattle.pss_machine.specs.declared.command.Command.{Command}
+use Rattle.pss_machine.specs.declared.command.Command.TheVariants as command
 use Rattle.pss_machine.specs.declared.reply.Reply.{Reply}
 use Rattle.pss_machine.specs.declared.reply.Reply.TheVariants as reply
+use Rattle.pss_machine.specs.declared.session.Kind.TheVariants.{Basic}
+use Rattle.pss_machine.specs.declared.session.View.TheVariants.{Kept as InCopy}
 use Rattle.pss_machine.specs.Commands.{data_session, named_entry, is_obtaining}
 use Rattle.pss_machine.specs.Sessions.{Session, is_basic, open_in, session_named}
-use Rattle.pss_machine.specs.Copies.{Copies, entry_numbered, is_attached}
+use Rattle.pss_machine.specs.Owners.{net}
+use Rattle.pss_machine.specs.Copies.{Entry, Copies, entry_numbered, is_attached, Body, same_view, view_in, body_in, stand_in}
 use Rattle.pss_machine.specs.Kept.{Kept, copies_of}
+use Rattle.pss_machine.specs.Effects.{Effect, ClosesBasic, ClosesTransactional, Ends, Holds, Steps, Commits, Flushes, RollsBack}
 use Rattle.pss_machine.specs.Deciding.{decision}
-use Rattle.pss_machine.specs.Moving.{moved}
+use Rattle.pss_machine.specs.Moving.{is_outdated, is_settled, is_in, moved}
 use Rattle.pss_machine.specs.Owning.{InEveryRun}
 
 -- the entry of this number is there and attached
@@ -64,8 +70,53 @@ pub record IsDoneIn (k : Kept) (command : Command) (s : SessionNo) : Type 0 wher
   pub in_session : data_session command ≡ Some name
   pub named : session_named k.sessions name ≡ Some (s.0, session)
 
--- what is attached after a command, and was not before, is an entry that a data command used in its session
+-- ---- what stays attached
+
+-- a commit or flush of the owner leaves the body: it is the owner's own, or the committed one of an object that is changed
+abbrev pub is_left_by_commit : Kept → OwnerNo → SessionNo → Session → Body → Bool
+is_left_by_commit k n s session body = given (get k.owners n.0) false (λ owner. is_settled n (net k.catalog owner) s session body)
+
+-- the entries of the session that stand on the body are detached
+abbrev pub is_left : Kept → Effect → SessionNo → Session → Body → Bool
+is_left k (Steps n t step asked) s session body = is_outdated n step s session body
+is_left k (Ends t n failed) s session body = t.0 == s.0
+is_left k (Commits n) s session body = is_left_by_commit k n s session body || is_in n session
+is_left k (Flushes n) s session body = is_left_by_commit k n s session body
+is_left k (RollsBack n) s session body = is_in n session
+is_left k _ s session body = false
+
+-- the entry of this number is attached, and its body is not left
+abbrev pub stays_at : Kept → Effect → SessionNo → ℕ → Bool
+stays_at k effect s n = given (entry_numbered (copies_of k s) n) false (λ e. is_attached e && not (given (get k.sessions s.0) false (λ session. is_left k effect s session (body_in k.owners s session e.pid))))
+
+-- the entries of a session are as they were but for where they stand, and for one that may have come
+abbrev pub is_keeping : Effect → Bool
+is_keeping (ClosesBasic t n) = false
+is_keeping (ClosesTransactional t) = false
+is_keeping (Holds t copies) = false
+is_keeping _ = true
+
+-- in every run an entry stays attached unless its body is left
+abbrev pub OthersStayAttached : Type 0
+OthersStayAttached = InEveryRun (λ q. (effect : Effect) (s : SessionNo) (n : ℕ) → is_keeping effect ≡ true → IsTrue (stays_at q.kept effect s n) → IsTrue (is_attached_at (moved q.kept effect) s n))
+
+-- a data command in the session used the entry, which stands in the view in which the session then sees the object
+pub record IsAttachedBy (k new : Kept) (command : Command) (told : Reply) (s : SessionNo) (n : ℕ) : Type 0 where
+  pub by : IsDoneIn k command s
+  pub used : IsTrue (is_used command told n)
+  pub entry : Entry
+  pub there : entry_numbered (copies_of new s) n ≡ Some entry
+  pub stand : entry.stand ≡ stand_in k.catalog entry.pid (view_in new.owners s by.session entry.pid)
+
+-- what is attached after a command, and did not stay so, is an entry that a data command used
 abbrev pub OnlyUsedAreAttached : Type 0
 OnlyUsedAreAttached =
-    (S : Schema) (limits : Limits) (k : Kept) (command : Command) (s : SessionNo) (n : ℕ) → is_attached_at k s n ≡ false → IsTrue (is_attached_at (moved k (decision S limits k command).effect) s n)
-    → IsDoneIn k command s × IsTrue (is_used command (decision S limits k command).reply n)
+    (S : Schema) (limits : Limits) (k : Kept) (command : Command) (s : SessionNo) (n : ℕ) → stays_at k (decision S limits k command).effect s n ≡ false → IsTrue (is_attached_at (moved k (decision S limits k command).effect) s n)
+    → IsAttachedBy k (moved k (decision S limits k command).effect) command (decision S limits k command).reply s n
+
+-- `refresh` detaches the entries of a basic session that stand on copies of its own, and no others
+abbrev pub RefreshDetachesCopies : Type 0
+RefreshDetachesCopies =
+    (S : Schema) (limits : Limits) (k : Kept) (name : List ℕ) (s : SessionNo) (session : Session) (m : OwnerNo) (n : ℕ) → session_named k.sessions name ≡ Some (s.0, session) → session.kind ≡ Basic m
+    → is_attached_at (moved k (decision S limits k (command.Refresh name)).effect) s n
+    ≡ given (entry_numbered (copies_of k s) n) false (λ e. is_attached e && not (same_view (view_in k.owners s session e.pid) (InCopy s)))

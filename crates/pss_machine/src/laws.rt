@@ -1,7 +1,7 @@
 // Laws over the definitions, for those that prove something above them.
 ghost use Rattle.pss_machine.specs.Allowed.{EffectsAreAllowed, StepsAreOfOwners};
 ghost use Rattle.pss_machine.specs.AtLimits.{BelowAllLimits, ManyAt256, SerialsAtLast, EntriesAt65535, CommitsAt67108864, FullAt67108865, FlushesAt67108864, FlushFullAt67108865};
-ghost use Rattle.pss_machine.specs.Attaching.{OnlyOpenHaveAttached, OnlyUsedAreAttached};
+ghost use Rattle.pss_machine.specs.Attaching.{OnlyOpenHaveAttached, OthersStayAttached, OnlyUsedAreAttached, RefreshDetachesCopies};
 ghost use Rattle.pss_machine.specs.Entries.{BodiesAreAlwaysRight, EntriesAreOrderly};
 ghost use Rattle.pss_machine.specs.Laws.{RunsGoOn, RefusalsChangeNothing, FruitlessChangesNoObject};
 ghost use Rattle.pss_machine.specs.Granted.{FruitlessKeepsLocks, MarkedIsRolledBack};
@@ -62,12 +62,18 @@ pub fn numbers_come_once()
     ensures same_object { EntriesStay }
 {}
 
-/// In every run only entries of sessions that are basic, active or suspended are attached. A command attaches no entry
-/// but in the session in which it is done: the one that it gives with its reply (`create`, `make`, `find`, `pid`,
-/// `short`, `follow`), and the one that it names (`get`, `set`, `follow`) where it did what it was asked for.
+/// In every run only entries of sessions that are basic, active or suspended are attached. An attached entry stays so
+/// until its body is left: by `end`, `commit` and `rollback` all of the session or of the transaction's sessions; by
+/// `commit` and `flush` the owner's own and the committed ones of what changed; by `set` the older ones of the object
+/// in the owner's sessions, by `destroy` all of these; by `refresh` the session's copies. No other entry comes to be
+/// attached than, in the session in which a command is done, the one that it gives with its reply (`create`, `make`,
+/// `find`, `pid`, `short`, `follow`), and the one that it names (`get`, `set`, `follow`) where it did what it was asked
+/// for; such an entry stands in the view in which the session sees the object afterwards.
 pub fn entries_are_attached()
     ensures in_open { OnlyOpenHaveAttached }
+    ensures others { OthersStayAttached }
     ensures used { OnlyUsedAreAttached }
+    ensures refreshed { RefreshDetachesCopies }
 {}
 
 /// What commands come to at each limit of the program and one below, whatever else is kept: 256 objects that one owner

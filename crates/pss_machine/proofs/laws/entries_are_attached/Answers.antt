@@ -6,3 +6,9 @@ returns-clause-in_open c = attaching.only_open
 
 pub returns-clause-used : goal.returns-clause-used
 returns-clause-used c = attaching.only_used
+
+pub returns-clause-others : goal.returns-clause-others
+returns-clause-others c = attaching.others_stay
+
+pub returns-clause-refreshed : goal.returns-clause-refreshed
+returns-clause-refreshed c = attaching.refresh_detaches

@@ -1,5 +1,5 @@
 -- Commits are counted as the history is long.
-use Rattle.std.proofs.Common.{◌≡◌, ℕ, ◌+◌, Bool, true, false, List, [], ◌∷◌, ◌++◌, length, length-append, refl, sym, ap, subst, ◌∙◌, arith}
+use Rattle.std.proofs.Common.{◌≡◌, ℕ, ◌+◌, Bool, true, false, List, [], ◌∷◌, ◌++◌, length, length-append, refl, sym, subst, arith}
 use Rattle.std.specs.Prelude.{if◌then◌else◌}
 use Rattle.type_layout.specs.declared.schema.Schema.{Schema}
 use Rattle.pss_machine.specs.declared.limits.Limits.{Limits}
@@ -8,9 +8,9 @@ use Rattle.pss_machine.specs.Kept.{Kept}
 use Rattle.pss_machine.specs.Effects.{Effect, Stays, OpensBasic, OpensTransactional, ClosesBasic, ClosesTransactional, Begins, Associates, Ends, Holds, Steps, Commits, Flushes, RollsBack}
 use Rattle.pss_machine.specs.Deciding.{decision}
 use Rattle.pss_machine.specs.Moving.{joins, without_transaction_of, emptied, moved}
-use Rattle.pss_machine.specs.Beside.{Member, Lists, member_of, with_member, with_step, with_settled, grown}
+use Rattle.pss_machine.specs.Beside.{Member, Lists, member_of, with_settled, grown}
 use Rattle.pss_machine.specs.Run.{Said, Silent, Says, Wrong, Machine, first, turn, run}
-use Rattle.pss_machine.specs.Allowed.{May, MaySettle}
+use Rattle.pss_machine.specs.Allowed.{May}
 use Rattle.pss_machine.proofs.Allowing.{decision_right}
 use Rattle.pss_laws.specs.Runs.{CommitsAreCounted}
 use Rattle.pss_laws.proofs.Turns.{settled_there}

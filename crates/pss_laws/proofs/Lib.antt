@@ -24,3 +24,4 @@ pub mod Fitting
 pub mod Fine
 pub mod Storing
 pub mod Counting
+pub mod Changed

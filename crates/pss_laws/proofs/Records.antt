@@ -1,5 +1,5 @@
 -- Records: defaults, values that are read, and members that are set.
-use Rattle.std.proofs.Common.{arith, ◌≡◌, ℕ, zero, suc, ◌<◌, ◌+◌, Bool, true, false, cond, ◌==◌, ◌&&◌, List, [], ◌∷◌, ◌++◌, length, drop, Option, Some, None, refl, sym, subst}
+use Rattle.std.proofs.Common.{arith, ◌≡◌, ℕ, zero, suc, ◌<◌, ◌+◌, Bool, true, false, cond, ◌==◌, ◌&&◌, List, [], ◌∷◌, ◌++◌, length, Option, Some, None, refl, sym, subst}
 use Rattle.std.specs.Prelude.{IsSome, Result, Ok, Err, ◌-◌, nat_le, slice_set, if◌then◌else◌}
 use Rattle.std.specs.List.{slice_get, prefix_len, list_all}
 use Rattle.std.specs.Option.{option_to_list}
@@ -10,7 +10,6 @@ use Rattle.type_layout.specs.Testing.{is_of}
 use Rattle.type_layout.specs.Sound.{IsSound, AreSound, IsSoundLayout}
 use Rattle.type_layout.specs.Defaults.{copies, default, defaults, default_record}
 use Rattle.type_layout.specs.Keys.{chosen}
-use Rattle.type_layout.specs.Schemas.{given}
 use Rattle.type_layout.proofs.OfType.{type_tells}
 use Rattle.value_text.specs.Texts.{is_at_end}
 use Rattle.pss_base.specs.Blanks.{is_blank, behind_blanks}

@@ -39,7 +39,7 @@ use Rattle.pss_machine.proofs.Maps.{tie}
 use Rattle.pss_machine.proofs.Parting.{clash_back}
 use Rattle.pss_laws.specs.Within.{is_changed}
 use Rattle.pss_laws.specs.Sound.{NoneFrom, IsSoundOwner, IsSound}
-use Rattle.pss_laws.specs.Storable.{RiseFrom, EachChange, MayBecome, OwnersAreStorable}
+use Rattle.pss_laws.specs.Storable.{RiseFrom, EachChange, MayBecome, AreStorable, NothingOrStorable, OwnersAreStorable}
 use Rattle.pss_laws.proofs.Logic.{unlike}
 use Rattle.pss_laws.proofs.Footprint.{get_one, object_there}
 use Rattle.pss_laws.proofs.Overs.{unchanged_there}
@@ -359,6 +359,11 @@ module _ (S : Schema) (next : ℕ) (M : Catalog) (owner : Owner) where
 
 -- ---- every run
 
+-- changes are none, or one at least
+none_or_some : (S : Schema) (most next : ℕ) (M : Catalog) (cs : List Change) → (0 < length cs → AreStorable S most next M cs) → NothingOrStorable S most next M cs
+none_or_some S most next M [] may = inl refl
+none_or_some S most next M (c ∷ cs) may = inr (may (omega arith))
+
 pub owners_storable : OwnersAreStorable
 owners_storable S limits M next lines sound within good n owner there =
     let first_is : IsSound S (first M next).kept = first_sound S M next good.unique (good_given S M next good) in
@@ -368,12 +373,14 @@ owners_storable S limits M next lines sound within good n owner there =
       few = λ i x e. absurd (no x (sym (get-empty nat_cmp i) ∙ e));
     }) in
     let fine = all_fine S limits M next lines sound within good in
-    record {
+    none_or_some S limits.changes (run S limits (first M next) lines).kept.next (run S limits (first M next) lines).kept.catalog (net (run S limits (first M next) lines).kept.catalog owner)
+    (λ some. record {
+      some = some;
       few = net_few S (run S limits (first M next) lines).kept.next (run S limits (first M next) lines).kept.catalog owner limits.changes (keeping.few n owner there);
       rise = net_rise S (run S limits (first M next) lines).kept.next (run S limits (first M next) lines).kept.catalog owner;
       each = net_each S (run S limits (first M next) lines).kept.next (run S limits (first M next) lines).kept.catalog owner fine.catalog (fine.views n owner there) (keeping.homes n owner there);
       unique = subst (IsUnique S) (sym (over_net (run S limits (first M next) lines).kept.catalog owner)) (after.each n owner there).unique;
-    }
+    })
   where
     no : (x : Owner) → None ≡ Some x → ⊥
     no x e = cc

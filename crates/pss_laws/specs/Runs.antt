@@ -1,9 +1,11 @@
 -- What holds of every run.
-use Rattle.std.specs.Prelude.{ℕ, ◌≡◌, List, ◌++◌, length, take}
+use Rattle.std.specs.Prelude.{ℕ, ◌≡◌, ◌<◌, ◌⊎◌, List, [], ◌∷◌, ◌++◌, length, take}
 use Rattle.type_layout.specs.declared.schema.Schema.{Schema}
 use Rattle.type_layout.specs.Sound.{IsSoundSchema}
 use Rattle.pss_catalog.specs.Catalog.{Catalog, IsUnique}
 use Rattle.pss_machine.specs.declared.limits.Limits.{Limits}
+use Rattle.pss_machine.specs.declared.level.Level.TheVariants.{Serializable}
+use Rattle.pss_machine.specs.Beside.{Member}
 use Rattle.pss_machine.specs.Run.{Said, Machine, first, run}
 use Rattle.pss_machine.specs.Serial.{Serial, catalog_after, AllUnique, OwnOrLast}
 use Rattle.pss_machine.specs.Live.{Live}
@@ -37,6 +39,15 @@ RunsAreLive = (S : Schema) (limits : Limits) (M : Catalog) (next : ℕ) (lines :
 -- what is counted as commits is as many as the history has members
 abbrev pub CommitsAreCounted : Type 0
 CommitsAreCounted = (S : Schema) (limits : Limits) (M : Catalog) (next : ℕ) (lines : List Said) → (run S limits (first M next) lines).kept.commits ≡ length (run S limits (first M next) lines).lists.history
+
+-- each changed an object, or is serializable
+abbrev pub ChangedOrSerializable : List Member → Type 0
+ChangedOrSerializable [] = Unit {0}
+ChangedOrSerializable (x ∷ xs) = ((x.level ≡ Serializable) ⊎ (0 < length x.changes)) × ChangedOrSerializable xs
+
+-- so of each member of the history
+abbrev pub MembersChanged : Type 0
+MembersChanged = (S : Schema) (limits : Limits) (M : Catalog) (next : ℕ) (lines : List Said) → ChangedOrSerializable (run S limits (first M next) lines).lists.history
 
 -- ---- runs one after the other
 

@@ -1,5 +1,5 @@
 -- That what owners changed may be stored.
-use Rattle.std.specs.Prelude.{ℕ, ◌≡◌, ◌≤◌, ◌+◌, List, [], ◌∷◌, length, Option, Some, None, IsSome}
+use Rattle.std.specs.Prelude.{ℕ, ◌≡◌, ◌<◌, ◌≤◌, ◌+◌, ◌⊎◌, List, [], ◌∷◌, length, Option, Some, None, IsSome}
 use Rattle.std.specs.FinMap.{get}
 use Rattle.type_layout.specs.declared.schema.Schema.{Schema}
 use Rattle.type_layout.specs.Sound.{IsSoundSchema}
@@ -24,16 +24,21 @@ abbrev pub MayBecome : Schema → ℕ → Catalog → ℕ → Option Object → 
 MayBecome S next M serial None = IsSome (get M serial)
 MayBecome S next M serial (Some object) = IsFine S next serial object × ((old : Object) → get M serial ≡ Some old → old.home ≡ object.home)
 
--- few changes by rising serials that were given, each of which may be, after which keys are unique
+-- one change at least and few at most, by rising serials that were given, each of which may be, after which keys are unique
 pub record AreStorable (S : Schema) (most next : ℕ) (M : Catalog) (changes : List Change) : Type 0 where
+  pub some : 0 < length changes
   pub few : length changes ≤ most
   pub rise : RiseFrom 0 changes
   pub each : EachChange (λ c. IsGiven next c.serial × MayBecome S next M c.serial c.state) changes
   pub unique : IsUnique S (over M changes)
+
+-- a commit that changes nothing stores nothing
+abbrev pub NothingOrStorable : Schema → ℕ → ℕ → Catalog → List Change → Type 0
+NothingOrStorable S most next M changes = (changes ≡ []) ⊎ AreStorable S most next M changes
 
 -- so are the net changes of each owner, at any time in a run from a good catalog; that a commit has room is told by effects_are_allowed
 abbrev pub OwnersAreStorable : Type 0
 OwnersAreStorable =
     (S : Schema) (limits : Limits) (M : Catalog) (next : ℕ) (lines : List Said) → IsSoundSchema S → limits.total ≤ 67108864 → IsGood S M next
     → (n : ℕ) (owner : Owner) → get (run S limits (first M next) lines).kept.owners n ≡ Some owner
-    → AreStorable S limits.changes (run S limits (first M next) lines).kept.next (run S limits (first M next) lines).kept.catalog (net (run S limits (first M next) lines).kept.catalog owner)
+    → NothingOrStorable S limits.changes (run S limits (first M next) lines).kept.next (run S limits (first M next) lines).kept.catalog (net (run S limits (first M next) lines).kept.catalog owner)

@@ -2,7 +2,7 @@
 ghost use Rattle.pss_laws.specs.Good.{EmptyIsGood, GoodStaysGood};
 ghost use Rattle.pss_laws.specs.Operations.{AnswersAreAlike, ChangesAreNeeded, ChangesLeaveAlike, AlikeAfterBoth, UniqueStaysUnique, OnlyCreatesGive};
 ghost use Rattle.pss_laws.specs.Asked.{CommandsAskOfHomes};
-ghost use Rattle.pss_laws.specs.Runs.{RunsAreSerial, HistoryLeadsToCatalog, KeysAreAlwaysUnique, ReadsAreOwnOrLast, RunsAreLive, CommitsAreCounted, NextRunsAreSerial};
+ghost use Rattle.pss_laws.specs.Runs.{RunsAreSerial, HistoryLeadsToCatalog, KeysAreAlwaysUnique, ReadsAreOwnOrLast, RunsAreLive, CommitsAreCounted, MembersChanged, NextRunsAreSerial};
 ghost use Rattle.pss_laws.specs.Storable.{OwnersAreStorable};
 ghost use Rattle.pss_laws.specs.Sound.{CommandsKeepSound, RunsStaySound, GoodHasGiven, ChangedObjectsAreLocked, ChangedKeysAreLocked, ChangedExtentsAreLocked, LockedStaysAlike};
 
@@ -43,8 +43,9 @@ pub fn changes_are_locked()
 /// that the members before it leave. No key has two holders after any of them, and after all of them the catalog is
 /// that of the machine. Read-committed owners are answered from their own changes, and else from what was committed
 /// last. A reference that is followed, or nil, was there at first, or a create or a set gave it before, and no serial is
-/// given twice. As many commits are counted as the history has members. Runs that follow one another are serial
-/// together, where each begins from what the first members of the history before it leave, as after a crash.
+/// given twice. As many commits are counted as the history has members, each of which changed an object or is
+/// serializable. Runs that follow one another are serial together, where each begins from what the first members of
+/// the history before it leave, as after a crash.
 pub fn runs_are_serial()
     ensures serial { RunsAreSerial }
     ensures last { HistoryLeadsToCatalog }
@@ -52,6 +53,7 @@ pub fn runs_are_serial()
     ensures reads { ReadsAreOwnOrLast }
     ensures live { RunsAreLive }
     ensures counted { CommitsAreCounted }
+    ensures changed { MembersChanged }
     ensures again { NextRunsAreSerial }
 {}
 
@@ -61,9 +63,9 @@ pub fn commands_ask_of_homes()
 {}
 
 /// After every line of a run from a good catalog, under a sound schema and limits that are not above the store's, the
-/// catalog is good under the next serial. At any time the net changes of each owner may be stored: few, by rising
-/// serials, each of an object that is fine, in the home that it had, or of one that is there, and keys are unique after
-/// them. A catalog without objects is good.
+/// catalog is good under the next serial. At any time the net changes of each owner are none or may be stored: one at
+/// least and few at most, by rising serials, each of an object that is fine, in the home that it had, or of one that is
+/// there, and keys are unique after them. A catalog without objects is good.
 pub fn good_stays_good()
     ensures good { GoodStaysGood }
     ensures storable { OwnersAreStorable }

@@ -2,6 +2,7 @@ use Rattle.pss_laws.proofs.History.{each_run}
 use Rattle.pss_laws.proofs.Rising.{always_rise}
 use Rattle.pss_laws.proofs.Sourcing.{always_live}
 use Rattle.pss_laws.proofs.Counting.{always_counted}
+use Rattle.pss_laws.proofs.Changed.{always_changed}
 use Rattle.pss_laws.proofs.Again.{next_serial}
 use Rattle.pss_laws.proofs.laws.runs_are_serial.Goals as goal
 
@@ -25,3 +26,6 @@ returns-clause-again c = next_serial
 
 pub returns-clause-counted : goal.returns-clause-counted
 returns-clause-counted c = always_counted
+
+pub returns-clause-changed : goal.returns-clause-changed
+returns-clause-changed c = always_changed

@@ -18,6 +18,3 @@ pub use command::read_command;
 pub use fault::CommandFault;
 pub use laws::lines_say_one_thing;
 pub use reply::print_reply;
-
-#[cfg(test)]
-mod tests;

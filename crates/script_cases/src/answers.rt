@@ -1,0 +1,54 @@
+// The answers to cases.
+use crate::commands::append_said;
+use crate::replies::reply_of;
+use crate::words::{octets_of, split_word};
+use pss_base::{Bytes, NoMemory};
+use script_text::print_reply;
+use std::alloc::Global;
+
+/// A line of a script has at most so many bytes.
+const MOST_LINE: usize = 65536;
+
+fn append_line(alloc: Global, out: &mut Bytes, line: &[u8]) -> Result<(), NoMemory> {
+    if line.len() <= MOST_LINE {
+        append_said(alloc, out, line)
+    } else {
+        out.extend(b"too long")
+    }
+}
+
+fn append_octets(alloc: Global, out: &mut Bytes, digits: &[u8]) -> Result<(), NoMemory> {
+    let line = octets_of(alloc, digits)?;
+    append_line(alloc, out, line.as_slice())
+}
+
+fn append_reply(alloc: Global, out: &mut Bytes, rest: &[u8]) -> Result<(), NoMemory> {
+    let (name, parts) = split_word(rest);
+    match reply_of(alloc, name, parts)? {
+        Some(reply) => out.extend(print_reply(alloc, &reply)?.as_slice()),
+        None => out.extend(b"no such reply"),
+    }
+}
+
+fn append_answer(alloc: Global, out: &mut Bytes, case: &[u8]) -> Result<(), NoMemory> {
+    let (kind, rest) = split_word(case);
+    match kind {
+        b"line" => append_line(alloc, out, rest)?,
+        b"octets" => append_octets(alloc, out, rest)?,
+        b"reply" => append_reply(alloc, out, rest)?,
+        b"#" => return Ok(()),
+        _ => out.extend(b"no such case")?,
+    }
+    out.extend(b"\n")
+}
+
+/// The answers to all cases, a line for each.
+pub fn answers(alloc: Global, input: &[u8]) -> Result<Bytes, NoMemory> {
+    let mut out = Bytes::new(alloc);
+    for case in input.split(|byte| *byte == b'\n') {
+        if !case.is_empty() {
+            append_answer(alloc, &mut out, case)?;
+        }
+    }
+    Ok(out)
+}

@@ -16,5 +16,6 @@ pub mod Acting
 pub mod Granting
 pub mod Numbering
 pub mod Attaching
+pub mod Staying
 pub mod AtLimits
 pub mod Worked

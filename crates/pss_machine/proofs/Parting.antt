@@ -94,7 +94,7 @@ none_passes {A} test q x (e ∷ es) none there = by_head (eq_by_cmp nat_cmp q e.
 
 -- ---- all owners
 
-abbrev Apart : Owners → Type 0
+abbrev pub Apart : Owners → Type 0
 Apart owners =
     (m n : ℕ) (a b : Owner) (x y : Need) → get owners m ≡ Some a → get owners n ≡ Some b → (m ≡ n → ⊥) → IsTrue (contains a.locks x) → IsTrue (contains b.locks y) → clash x y ≡ false
 
@@ -152,7 +152,7 @@ module _ (owners : Owners) where
       by_place (inr apart) = (a, sym (with_apart owners n (λ owner. new_owner owner.level) m apart) ∙ there, has)
 
   -- what holds up no other clashes with no lock of another
-  unblocked : (n : OwnerNo) (wanted : List Need) → blocker owners n wanted ≡ None → (m : ℕ) (b : Owner) (y w : Need) → (m ≡ n.0 → ⊥) → get owners m ≡ Some b → IsTrue (contains b.locks y) → list_any (eq_by_cmp need_cmp w) wanted ≡ true → clash y w ≡ false
+  pub unblocked : (n : OwnerNo) (wanted : List Need) → blocker owners n wanted ≡ None → (m : ℕ) (b : Owner) (y w : Need) → (m ≡ n.0 → ⊥) → get owners m ≡ Some b → IsTrue (contains b.locks y) → list_any (eq_by_cmp need_cmp w) wanted ≡ true → clash y w ≡ false
   unblocked n wanted free m b y w differ there has among =
       let none : find (λ e. not (e.0 == n.0) && hold_up e.1.locks wanted) (entries owners) ≡ None = unmapped (find (λ e. not (e.0 == n.0) && hold_up e.1.locks wanted) (entries owners)) free in
       let passes : (not (m == n.0) && hold_up b.locks wanted) ≡ false = none_passes (λ e. not (e.0 == n.0) && hold_up e.1.locks wanted) m b (entries owners) none (sym (get-entries owners m) ∙ there) in
@@ -217,7 +217,7 @@ effect_apart S limits k a (Flushes n) may =
     (apart_less (with_at k.owners n.0 (λ owner. new_owner owner.level)) k.owners (emptied_less k.owners n.0) a)
 effect_apart S limits k a (RollsBack n) may = apart_less (remove k.owners n.0) k.owners (gone_less k.owners n.0) a
 
-turn_apart : (S : Schema) (limits : Limits) (q : Machine) (x : Said) → Apart q.kept.owners → Apart (turn S limits q x).kept.owners
+pub turn_apart : (S : Schema) (limits : Limits) (q : Machine) (x : Said) → Apart q.kept.owners → Apart (turn S limits q x).kept.owners
 turn_apart S limits q Silent a = a
 turn_apart S limits q (Wrong column) a = a
 turn_apart S limits q (Says command) a = effect_apart S limits q.kept a (decision S limits q.kept command).effect (decision_right S limits q.kept command)

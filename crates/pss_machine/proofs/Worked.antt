@@ -1,19 +1,16 @@
 -- Cases at small limits, worked out step by step.
 use Rattle.std.proofs.Common.{◌≡◌, ℕ, ◌-◌, ◌==◌, Bool, true, false, not, ◌&&◌, List, [], ◌∷◌, length, map, Option, Some, None, refl, sym, ap, ◌∙◌, arith}
-use Rattle.std.specs.Prelude.{Result, Ok, Err, filter, find, unwrap_or, is_some, nat_le, nat_lt, sum, codes, ◌^◌, if◌then◌else◌}
+use Rattle.std.specs.Prelude.{Result, Ok, filter, find, unwrap_or, is_some, nat_le, nat_lt, sum, codes, ◌^◌, if◌then◌else◌}
 use Rattle.std.specs.Option.{option_map}
 use Rattle.std.specs.Ordering.{nat_cmp}
 use Rattle.std.specs.Str.{bytes_eq}
 use Rattle.std.specs.Cmp.{nat_cmp_total}
-use Rattle.std.specs.FinMap.{FinMap, get, empty, insert, entries, len, contains_key, entries-insert, len-entries, len-empty, get-empty}
+use Rattle.std.specs.FinMap.{empty, insert, entries, len, contains_key, entries-insert, len-entries, len-empty, get-empty}
 use Rattle.std.specs.FinMap.Entries.{put}
-use Rattle.pss_base.specs.declared.pid.Pid.{Pid}
 use Rattle.pss_base.specs.declared.owner.OwnerNo.{OwnerNo}
-use Rattle.pss_base.specs.declared.session.SessionNo.{SessionNo}
 use Rattle.type_layout.specs.Schemas.{given}
-use Rattle.pss_catalog.specs.Catalog.{Object, Catalog, weight, total}
-use Rattle.pss_catalog.specs.Changes.{Change, over}
-use Rattle.pss_machine.specs.declared.command.Command.{Command}
+use Rattle.pss_catalog.specs.Catalog.{Object, weight, total}
+use Rattle.pss_catalog.specs.Changes.{over}
 use Rattle.pss_machine.specs.declared.command.Command.TheVariants as command
 use Rattle.pss_machine.specs.declared.reply.Reply.{Reply}
 use Rattle.pss_machine.specs.declared.reply.Reply.TheVariants as reply
@@ -25,12 +22,12 @@ use Rattle.pss_machine.specs.Operations.{Create, Busy}
 use Rattle.pss_machine.specs.Owners.{Owner, Step, net, blocker}
 use Rattle.pss_machine.specs.Sessions.{Session, session_named}
 use Rattle.pss_machine.specs.Copies.{Copies, no_copies, number_for}
-use Rattle.pss_machine.specs.Kept.{Kept, Actor, actor_in, copies_of}
+use Rattle.pss_machine.specs.Kept.{actor_in, copies_of}
 use Rattle.pss_machine.specs.Asking.{Asked, refused_where, obtaining}
 use Rattle.pss_machine.specs.Effects.{Decision, Steps, Flushes, does, says}
 use Rattle.pss_machine.specs.Stepping.{within, step_of, reply_to, decided}
-use Rattle.pss_machine.specs.Deciding.{flushing, decision}
-use Rattle.pss_machine.specs.Worked.{marks, mark, small, the_session, owner_with, only_with, none_made, one_made, two_made, one_entry, two_entries, created, flushed, gives, AreAtSmallLimits}
+use Rattle.pss_machine.specs.Deciding.{flushing}
+use Rattle.pss_machine.specs.Worked.{marks, mark, small, the_session, owner_with, only_with, none_made, one_made, two_made, one_entry, two_entries, created, flushed, AreAtSmallLimits}
 use Rattle.pss_machine.proofs.Maps.{insert_here, insert_apart}
 use Rattle.pss_machine.proofs.AtLimits.{decision_asks}
 

@@ -1,5 +1,5 @@
 -- Worked cases under small limits: `create` and `flush` at each limit and one below.
-use Rattle.std.specs.Prelude.{ℕ, ◌≡◌, List, [], ◌∷◌, codes, Some, None, false}
+use Rattle.std.specs.Prelude.{ℕ, ◌≡◌, [], ◌∷◌, codes, Some, None}
 use Rattle.std.specs.FinMap.{empty, insert}
 use Rattle.std.specs.FinSet as set
 use Rattle.type_layout.specs.declared.schema.Schema.{Schema}

@@ -171,7 +171,7 @@ module _ (S : Schema) (limits : Limits) (k : Kept) where
   abbrev Seen : Command → Decision → Type 0
   Seen command d = Known S k command d.effect d.reply
 
-  actor_acts : (session : Session) (actor : Actor) → actor_in k.owners session ≡ Some actor → acts_for session ≡ Some actor.number
+  pub actor_acts : (session : Session) (actor : Actor) → actor_in k.owners session ≡ Some actor → acts_for session ≡ Some actor.number
   actor_acts session actor e = by_acts (acts_for session) e
     where
       by_owner : (n : OwnerNo) (o : Option Owner) → option_map (λ owner. record { number = n; owner = owner }) o ≡ Some actor → Some n ≡ Some actor.number

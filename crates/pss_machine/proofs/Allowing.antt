@@ -114,7 +114,7 @@ module _ (S : Schema) (limits : Limits) (k : Kept) where
           let same : other ≡ asked = within_same k.next actor.owner (copies_of k s) asked other e in
           busy_right s actor other there (rw same (e ∙ ap Ok same)) (rw same serial)
 
-  actor_there : (session : Session) (actor : Actor) → actor_in k.owners session ≡ Some actor → get k.owners actor.number.0 ≡ Some actor.owner
+  pub actor_there : (session : Session) (actor : Actor) → actor_in k.owners session ≡ Some actor → get k.owners actor.number.0 ≡ Some actor.owner
   actor_there session actor e = by_acts (acts_for session) e
     where
       by_owner : (n : OwnerNo) (o : Option Owner) → get k.owners n.0 ≡ o → option_map (λ owner. record { number = n; owner = owner }) o ≡ Some actor → get k.owners actor.number.0 ≡ Some actor.owner

@@ -86,7 +86,7 @@ none_counting n count c =
 -- ---- entries that a step attaches
 
 -- the entry that is found has the number
-has_number : (n : ℕ) (es : List Entry) (e : Entry) → find (λ e. e.number == n) es ≡ Some e → e.number ≡ n
+pub has_number : (n : ℕ) (es : List Entry) (e : Entry) → find (λ e. e.number == n) es ≡ Some e → e.number ≡ n
 has_number n [] e there = absurd cc
 has_number n (x ∷ es) e there = by (x.number == n) refl there (has_number n es e)
   where

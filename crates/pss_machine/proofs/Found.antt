@@ -11,11 +11,11 @@ use Rattle.pss_machine.proofs.Maps.{tied, tied_self}
 less_is : (a b : ℕ) → T (is_lt (nat_cmp a b)) → a < b
 less_is a b e = grind (arith, nat_tests)
 
-first : (a b : Bool) → T (a && b) → T a
+pub first : (a b : Bool) → T (a && b) → T a
 first true b p = tt
 first false b p = p
 
-second : (a b : Bool) → T (a && b) → T b
+pub second : (a b : Bool) → T (a && b) → T b
 second true b p = p
 second false b p = absurd p
 
@@ -24,7 +24,7 @@ none_some e = cc
 
 module _ {A : Type 0} where
   -- a key below all others is no key of them
-  below_missed : (x t : ℕ) (es : List (ℕ × A)) → t ≡ x → T (below_all nat_cmp x es) → finite.find nat_cmp t es ≡ None
+  pub below_missed : (x t : ℕ) (es : List (ℕ × A)) → t ≡ x → T (below_all nat_cmp x es) → finite.find nat_cmp t es ≡ None
   below_missed x t [] e h = refl
   below_missed x t (y ∷ es) e h =
       let lower : x < y.0 = less_is x y.0 (first _ _ h) in

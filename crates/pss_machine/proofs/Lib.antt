@@ -19,3 +19,6 @@ pub mod Attaching
 pub mod Staying
 pub mod AtLimits
 pub mod Worked
+pub mod Views
+pub mod Using
+pub mod Used

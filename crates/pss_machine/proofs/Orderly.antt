@@ -113,7 +113,7 @@ keeps_attached M seen = record { number = λ e. number e (is_attached e); pid = 
     count e true h = h
     count e false h = h
 
-detached_orderly : (body : Pid → Body) (test : Body → Bool) (copies : Copies) → AreOrderly copies → AreOrderly (detached_from body test copies)
+pub detached_orderly : (body : Pid → Body) (test : Body → Bool) (copies : Copies) → AreOrderly copies → AreOrderly (detached_from body test copies)
 detached_orderly body test copies h =
     mapped_orderly (λ e. if is_attached e && test (body e.pid) then with_stand Loose e else e) (keeps_if (λ e. is_attached e && test (body e.pid)) (with_stand Loose) (keeps_stand (λ e. Loose))) copies h
 
@@ -208,7 +208,7 @@ obtained_orderly pid copies h = by (entry_for copies pid) refl
 -- ---- the entries of the session that takes a step
 
 module _ (M : Catalog) (seen : Pid → View) where
-  named_orderly : (named : Option ℕ) (copies : Copies) → AreOrderly copies → AreOrderly (with_named M seen named copies)
+  pub named_orderly : (named : Option ℕ) (copies : Copies) → AreOrderly copies → AreOrderly (with_named M seen named copies)
   named_orderly None copies h = h
   named_orderly (Some n) copies h = at_orderly n (attached M seen) copies (keeps_attached M seen) h
 

@@ -130,11 +130,11 @@ found_map f keeps true (Duplicate key) c n = refl
 found_map f keeps true TooLarge c n = refl
 found_map f keeps true (Busy m) c n = refl
 
-found_named : (M : Catalog) (seen : Pid → View) (named : Option ℕ) (b : Bool) (a : PlainAnswer) (c : Copies) (n : ℕ) → is_found b a (with_named M seen named c) n ≡ is_found b a c n
+pub found_named : (M : Catalog) (seen : Pid → View) (named : Option ℕ) (b : Bool) (a : PlainAnswer) (c : Copies) (n : ℕ) → is_found b a (with_named M seen named c) n ≡ is_found b a c n
 found_named M seen None b a c n = refl
 found_named M seen (Some m) b a c n = found_map (λ e. if e.number == m then attached M seen e else e) (keeps_if (λ e. e.number == m) (attached M seen) (keeps_attached M seen)) b a c n
 
-found_detached : (body : Pid → Body) (test : Body → Bool) (b : Bool) (a : PlainAnswer) (c : Copies) (n : ℕ) → is_found b a (detached_from body test c) n ≡ is_found b a c n
+pub found_detached : (body : Pid → Body) (test : Body → Bool) (b : Bool) (a : PlainAnswer) (c : Copies) (n : ℕ) → is_found b a (detached_from body test c) n ≡ is_found b a c n
 found_detached body test b a c n =
     found_map (λ e. if is_attached e && test (body e.pid) then with_stand Loose e else e) (keeps_if (λ e. is_attached e && test (body e.pid)) (with_stand Loose) (keeps_stand (λ e. Loose))) b a c n
 
@@ -173,13 +173,13 @@ detached_keeps body test c n =
     by (Some e) = by_tests e (is_attached e) refl (test (body e.pid))
 
 -- the test of a session's bodies, where the session is there
-abbrev test_in : Sessions → (SessionNo → Session → Body → Bool) → Owners → ℕ → Pid → Bool
+abbrev pub test_in : Sessions → (SessionNo → Session → Body → Bool) → Owners → ℕ → Pid → Bool
 test_in sessions test owners s pid = given (get sessions s) false (λ session. test (record { 0 = s }) session (body_in owners (record { 0 = s }) session pid))
 
-abbrev kept_by : Owners → Sessions → (SessionNo → Session → Body → Bool) → Copies → ℕ → ℕ → Bool
+abbrev pub kept_by : Owners → Sessions → (SessionNo → Session → Body → Bool) → Copies → ℕ → ℕ → Bool
 kept_by owners sessions test c s n = given (entry_numbered c n) false (λ e. is_attached e && not (test_in sessions test owners s e.pid))
 
-session_keeps : (owners : Owners) (sessions : Sessions) (test : SessionNo → Session → Body → Bool) (s : ℕ) (c : Copies) (n : ℕ) → attached_in (in_session owners sessions test s c) n ≡ kept_by owners sessions test c s n
+pub session_keeps : (owners : Owners) (sessions : Sessions) (test : SessionNo → Session → Body → Bool) (s : ℕ) (c : Copies) (n : ℕ) → attached_in (in_session owners sessions test s c) n ≡ kept_by owners sessions test c s n
 session_keeps owners sessions test s c n = by (get sessions s)
   where
     by : (o : Option Session) → attached_in (given o c (λ session. detached_from (body_in owners (record { 0 = s }) session) (test (record { 0 = s }) session) c)) n
@@ -529,11 +529,11 @@ module _ (M : Catalog) (seen : Pid → View) where
           stays_map (λ e. if e.number == x.number then with_count (x.count + 1) e else e) (keeps_if (λ e. e.number == x.number) (with_count (x.count + 1)) (keeps_count (x.count + 1)))
           (λ e is. of_if (λ (y : Entry). is_attached y ≡ true) (e.number == x.number) (with_count (x.count + 1) e) e is is) c n is
 
-  named_stays : (named : Option ℕ) (c : Copies) (n : ℕ) → attached_in c n ≡ true → attached_in (with_named M seen named c) n ≡ true
+  pub named_stays : (named : Option ℕ) (c : Copies) (n : ℕ) → attached_in c n ≡ true → attached_in (with_named M seen named c) n ≡ true
   named_stays None c n is = is
   named_stays (Some m) c n is = at_stays m c n is
 
-  found_stays : (obtains : Bool) (answer : PlainAnswer) (c : Copies) (n : ℕ) → attached_in c n ≡ true → attached_in (with_found M seen obtains answer c) n ≡ true
+  pub found_stays : (obtains : Bool) (answer : PlainAnswer) (c : Copies) (n : ℕ) → attached_in c n ≡ true → attached_in (with_found M seen obtains answer c) n ≡ true
   found_stays false answer c n is = is
   found_stays true (Found p) c n is = at_stays (number_for c p) (obtained p c) n (obtained_stays p c n is)
   found_stays true Done c n is = is

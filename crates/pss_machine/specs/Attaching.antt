@@ -5,6 +5,7 @@ use Rattle.pss_base.specs.declared.owner.OwnerNo.{OwnerNo}
 use Rattle.pss_base.specs.declared.session.SessionNo.{SessionNo}
 use Rattle.type_layout.specs.declared.schema.Schema.{Schema}
 use Rattle.type_layout.specs.Schemas.{given}
+use Rattle.pss_catalog.specs.Catalog.{Catalog}
 use Rattle.pss_machine.specs.declared.limits.Limits.{Limits}
 use Rattle.pss_machine.specs.declared.command.Command.{Command}
 use Rattle.pss_machine.specs.declared.command.Command.TheVariants as command
@@ -20,6 +21,7 @@ use Rattle.pss_machine.specs.Kept.{Kept, copies_of}
 use Rattle.pss_machine.specs.Effects.{Effect, ClosesBasic, ClosesTransactional, Ends, Holds, Steps, Commits, Flushes, RollsBack}
 use Rattle.pss_machine.specs.Deciding.{decision}
 use Rattle.pss_machine.specs.Moving.{is_outdated, is_settled, is_in, moved}
+use Rattle.pss_machine.specs.Run.{Said, first, run}
 use Rattle.pss_machine.specs.Owning.{InEveryRun}
 
 -- the entry of this number is there and attached
@@ -120,3 +122,11 @@ RefreshDetachesCopies =
     (S : Schema) (limits : Limits) (k : Kept) (name : List ℕ) (s : SessionNo) (session : Session) (m : OwnerNo) (n : ℕ) → session_named k.sessions name ≡ Some (s.0, session) → session.kind ≡ Basic m
     → is_attached_at (moved k (decision S limits k (command.Refresh name)).effect) s n
     ≡ given (entry_numbered (copies_of k s) n) false (λ e. is_attached e && not (same_view (view_in k.owners s session e.pid) (InCopy s)))
+
+-- in every run the entry that a data command used is attached after it
+abbrev pub UsedAreAttached : Type 0
+UsedAreAttached =
+    (S : Schema) (limits : Limits) (M : Catalog) (next : ℕ) (lines : List Said) (command : Command) (s : SessionNo) (n : ℕ)
+    → IsDoneIn (run S limits (first M next) lines).kept command s
+    → IsTrue (is_used command (decision S limits (run S limits (first M next) lines).kept command).reply n)
+    → IsTrue (is_attached_at (moved (run S limits (first M next) lines).kept (decision S limits (run S limits (first M next) lines).kept command).effect) s n)

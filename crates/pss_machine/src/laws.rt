@@ -1,7 +1,7 @@
 // Laws over the definitions, for those that prove something above them.
 ghost use Rattle.pss_machine.specs.Allowed.{EffectsAreAllowed, StepsAreOfOwners};
 ghost use Rattle.pss_machine.specs.AtLimits.{BelowAllLimits, ManyAt256, SerialsAtLast, EntriesAt65535, CommitsAt67108864, FullAt67108865, FlushesAt67108864, FlushFullAt67108865};
-ghost use Rattle.pss_machine.specs.Attaching.{OnlyOpenHaveAttached, OthersStayAttached, OnlyUsedAreAttached, RefreshDetachesCopies};
+ghost use Rattle.pss_machine.specs.Attaching.{OnlyOpenHaveAttached, OthersStayAttached, OnlyUsedAreAttached, UsedAreAttached, RefreshDetachesCopies};
 ghost use Rattle.pss_machine.specs.Entries.{BodiesAreAlwaysRight, EntriesAreOrderly};
 ghost use Rattle.pss_machine.specs.Laws.{RunsGoOn, RefusalsChangeNothing, FruitlessChangesNoObject};
 ghost use Rattle.pss_machine.specs.Granted.{FruitlessKeepsLocks, MarkedIsRolledBack};
@@ -73,6 +73,7 @@ pub fn entries_are_attached()
     ensures in_open { OnlyOpenHaveAttached }
     ensures others { OthersStayAttached }
     ensures used { OnlyUsedAreAttached }
+    ensures attached { UsedAreAttached }
     ensures refreshed { RefreshDetachesCopies }
 {}
 

@@ -1,5 +1,6 @@
 use Rattle.pss_machine.proofs.Attaching.{only_open}
 use Rattle.pss_machine.proofs.Staying.{others_stay, only_used, refresh_detaches}
+use Rattle.pss_machine.proofs.Used as used
 use Rattle.pss_machine.proofs.laws.entries_are_attached.Goals as goal
 
 pub returns-clause-in_open : goal.returns-clause-in_open
@@ -13,3 +14,6 @@ returns-clause-others c = others_stay
 
 pub returns-clause-refreshed : goal.returns-clause-refreshed
 returns-clause-refreshed c = refresh_detaches
+
+pub returns-clause-attached : goal.returns-clause-attached
+returns-clause-attached c = used.used_attached

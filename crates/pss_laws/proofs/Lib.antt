@@ -25,3 +25,9 @@ pub mod Fine
 pub mod Storing
 pub mod Counting
 pub mod Changed
+pub mod Written
+pub mod Decided
+pub mod WorkedStates
+pub mod WorkedTurns
+pub mod WorkedSchema
+pub mod Worked

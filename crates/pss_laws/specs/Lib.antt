@@ -6,3 +6,4 @@ pub mod Asked
 pub mod Runs
 pub mod Good
 pub mod Storable
+pub mod Worked

@@ -4,6 +4,7 @@ ghost use Rattle.pss_laws.specs.Operations.{AnswersAreAlike, ChangesAreNeeded, C
 ghost use Rattle.pss_laws.specs.Asked.{CommandsAskOfHomes};
 ghost use Rattle.pss_laws.specs.Runs.{RunsAreSerial, HistoryLeadsToCatalog, KeysAreAlwaysUnique, ReadsAreOwnOrLast, RunsAreLive, CommitsAreCounted, MembersChanged, NextRunsAreSerial};
 ghost use Rattle.pss_laws.specs.Storable.{OwnersAreStorable};
+ghost use Rattle.pss_laws.specs.Worked.{HistoryIsWorked, TraceIsWorked, FirstIsAlone, LastIsAlone, CatalogIsWorked};
 ghost use Rattle.pss_laws.specs.Sound.{CommandsKeepSound, RunsStaySound, GoodHasGiven, ChangedObjectsAreLocked, ChangedKeysAreLocked, ChangedExtentsAreLocked, LockedStaysAlike};
 
 /// What single operations owe, whoever asks for them. On two catalogs that are alike in all that an operation needs
@@ -70,4 +71,16 @@ pub fn good_stays_good()
     ensures good { GoodStaysGood }
     ensures storable { OwnersAreStorable }
     ensures empty { EmptyIsGood }
+{}
+
+/// A run of fourteen lines that is worked out line by line, and what the laws say of it. Two serializable transactions
+/// commit, and a basic session flushes between them. The history and the trace are those that are written out. The
+/// first transaction by itself, where no object is there, and the last, where those of the two commits before it are,
+/// answer what they answered and leave the catalog that they left; at the end that of the last is there.
+pub fn worked_run_is_serial()
+    ensures history { HistoryIsWorked }
+    ensures trace { TraceIsWorked }
+    ensures first { FirstIsAlone }
+    ensures last { LastIsAlone }
+    ensures catalog { CatalogIsWorked }
 {}

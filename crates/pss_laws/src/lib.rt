@@ -6,5 +6,5 @@ mod laws;
 
 pub use laws::{
     changes_are_locked, commands_ask_of_homes, commands_keep_sound, good_stays_good,
-    operations_owe, runs_are_serial,
+    operations_owe, runs_are_serial, worked_run_is_serial,
 };

@@ -1,6 +1,6 @@
 -- After a data command that did what it was asked for, the entry that it used is attached.
-use Rattle.std.proofs.Common.{arith, ◌≡◌, ℕ, ◌+◌, ◌==◌, ◌<◌, ◌≤◌, not, ◌&&◌, cond, Bool, true, false, List, [], ◌∷◌, ◌++◌, length, map, Option, Some, None, refl, sym, ap, ◌∙◌, subst, inl, inr}
-use Rattle.std.specs.Prelude.{◌⊎◌, ◌||◌, find, is_some, unwrap_or, nat_le, ◌-◌, ◌^◌, IsTrue, Result, Ok, Err, ok_or, if◌then◌else◌, slice_index_or}
+use Rattle.std.proofs.Common.{arith, ◌≡◌, ℕ, ◌+◌, ◌==◌, ◌<◌, ◌≤◌, ◌&&◌, cond, Bool, true, false, List, [], ◌∷◌, ◌++◌, length, Option, Some, None, refl, sym, ap, ◌∙◌, subst, inl, inr}
+use Rattle.std.specs.Prelude.{◌⊎◌, ◌||◌, find, is_some, unwrap_or, nat_le, ◌-◌, ◌^◌, Result, Ok, Err, ok_or, if◌then◌else◌, slice_index_or}
 use Rattle.std.specs.Option.{option_map}
 use Rattle.std.specs.FinMap.{get, len}
 use Rattle.std.proofs.lemmas.Bool.{eqb-true, eq-eqb}
@@ -11,7 +11,7 @@ use Rattle.pss_base.specs.declared.session.SessionNo.{SessionNo}
 use Rattle.type_layout.specs.declared.schema.Schema.{Schema}
 use Rattle.type_layout.specs.declared.home.HomeNo.{HomeNo}
 use Rattle.type_layout.specs.Types.{PlainType, PlainValue, PlainMember, Ref}
-use Rattle.type_layout.specs.Keys.{chosen, key_members, value_bytes}
+use Rattle.type_layout.specs.Keys.{chosen, key_members}
 use Rattle.type_layout.specs.Schemas.{given, members_at}
 use Rattle.pss_catalog.specs.Catalog.{Catalog}
 use Rattle.pss_machine.specs.declared.limits.Limits.{Limits}
@@ -26,35 +26,33 @@ use Rattle.pss_machine.specs.declared.command.Command.{Command}
 use Rattle.pss_machine.specs.declared.command.Command.TheVariants as command
 use Rattle.pss_machine.specs.declared.reply.Reply.{Reply}
 use Rattle.pss_machine.specs.declared.reply.Reply.TheVariants as reply
-use Rattle.pss_machine.specs.Operations.{FindKey, FindPid, FindShort, Exists, Get, Follow, Count, ListOf, PlainOp, Create, Set, Destroy, Ask, PlainAnswer, Done, Found, IsThere, Val, Number, Listing, NotFound, Gone, Nil, Duplicate, TooLarge, Busy}
-use Rattle.pss_machine.specs.Maps.{with_at}
+use Rattle.pss_machine.specs.Operations.{FindPid, FindShort, Exists, Get, Follow, Count, ListOf, PlainOp, Create, Set, Destroy, Ask, PlainAnswer, Done, Found, IsThere, Val, Number, Listing, NotFound, Gone, Nil, Duplicate, TooLarge, Busy}
 use Rattle.pss_machine.specs.Same.{same_pid}
 use Rattle.pss_machine.specs.Commands.{data_session, named_entry, is_obtaining}
 use Rattle.pss_machine.specs.Names.{factory_named, key_named}
 use Rattle.pss_machine.specs.Values.{types_of, made_of}
 use Rattle.pss_machine.specs.Owners.{Owner, Owners, Step, stepped, has_changed, blocker}
-use Rattle.pss_machine.specs.Sessions.{Session, is_basic, is_owner, owner_of, acts_for, session_named, is_read_only}
-use Rattle.pss_machine.specs.Copies.{Stand, Loose, Shared, Copied, Entry, Copies, AllCopies, no_copies, entry_numbered, entry_for, number_for, with_count, with_stand, at_entry, obtained, is_attached, is_changed_by, unchanged_in, view_in, Body, body_in, values_at, stand_in, attached, detached_from, detached}
+use Rattle.pss_machine.specs.Sessions.{Session, is_basic, is_owner, owner_of, acts_for, is_read_only}
+use Rattle.pss_machine.specs.Copies.{Loose, Copied, Entry, Copies, no_copies, entry_numbered, entry_for, number_for, with_count, with_stand, at_entry, obtained, is_attached, is_changed_by, unchanged_in, view_in, body_in, values_at, stand_in, attached, detached_from, detached}
 use Rattle.pss_machine.specs.Kept.{Kept, Actor, actor_in, copies_of}
-use Rattle.pss_machine.specs.Asking.{Asked, Place, ◌>>=◌, refused_where, obtaining, only, by_entry, creating, making, finding, shortening, asking_whether, getting, setting, destroying, following, asking_of_home, read_home, read_values, read_value, read_entry, read_member, is_reference}
-use Rattle.pss_machine.specs.Effects.{Effect, Steps, Decision, does, says}
-use Rattle.pss_machine.specs.Stepping.{within, changes_further, is_create, step_of, reply_to, unless_busy, decided, data_command}
-use Rattle.pss_machine.specs.Deciding.{decision}
+use Rattle.pss_machine.specs.Asking.{Asked, ◌>>=◌, refused_where, obtaining, only, by_entry, creating, making, finding, shortening, asking_whether, getting, setting, destroying, following, asking_of_home, read_home, read_values, read_value, read_entry, read_member, is_reference}
+use Rattle.pss_machine.specs.Effects.{Steps, Decision, does, says}
+use Rattle.pss_machine.specs.Stepping.{within, changes_further, is_create, step_of, reply_to, decided, data_command}
 use Rattle.pss_machine.specs.Moving.{is_outdated, is_done, with_named, with_found, seated, seen_in, owners_after, moved}
-use Rattle.pss_machine.specs.Run.{Said, first, run}
+use Rattle.pss_machine.specs.Run.{first, run}
 use Rattle.pss_machine.specs.Entries.{NumbersRise, AreOrderly}
 use Rattle.pss_machine.specs.AtLimits.{asks_for}
-use Rattle.pss_machine.specs.Attaching.{attached_in, is_attached_at, is_given, is_success, is_used, IsDoneIn, UsedAreAttached}
+use Rattle.pss_machine.specs.Attaching.{attached_in, is_attached_at, is_given, is_success, is_used, UsedAreAttached}
 use Rattle.pss_machine.proofs.Cases.{of_given, of_if}
 use Rattle.pss_machine.proofs.Maps.{get_each, with_here}
 use Rattle.pss_machine.proofs.Found.{found_there}
 use Rattle.pss_machine.proofs.Distinct.{pid_sound}
 use Rattle.pss_machine.proofs.Allowing.{actor_there, step_is}
-use Rattle.pss_machine.proofs.Growing.{Keeps, keeps_if, keeps_count, keeps_stand, keeps_attached, numbered_map}
+use Rattle.pss_machine.proofs.Growing.{keeps_if, keeps_count, keeps_stand, keeps_attached, numbered_map}
 use Rattle.pss_machine.proofs.Attached.{true_false, has_number, same_number}
-use Rattle.pss_machine.proofs.Attaching.{none_there, in_session}
-use Rattle.pss_machine.proofs.Staying.{kept_by, session_keeps, found_stays}
-use Rattle.pss_machine.proofs.Acting.{Known, IsStepIn, decision_seen, actor_acts}
+use Rattle.pss_machine.proofs.Attaching.{in_session}
+use Rattle.pss_machine.proofs.Staying.{found_stays}
+use Rattle.pss_machine.proofs.Acting.{Known, decision_seen}
 use Rattle.pss_machine.proofs.AtLimits.{decision_asks}
 use Rattle.pss_machine.proofs.Numbering.{PairedIn, run_paired}
 use Rattle.pss_machine.proofs.Orderly as orderly
@@ -274,11 +272,10 @@ obtained_entry p c right = by (entry_for c p) refl
         → (e : Entry) × (entry_numbered (given o (record { last = c.last + 1; entries = c.entries ++ new ∷ [] }) (λ e. at_entry e.number (with_count (e.count + 1)) c)) (given o (c.last + 1) (λ e. e.number)) ≡ Some e) × (e.pid ≡ p)
     by None is = (new, none_above 0 c.last (c.last + 1) c.entries new right.numbers (omega arith) refl, refl)
     by (Some x) is =
-        let at : find (λ y. y.number == x.number) c.entries ≡ Some x = (by_its_number 0 c.last (λ y. same_pid y.pid p) c.entries x right.numbers is).1 in
-        (
-            (if x.number == x.number then with_count (x.count + 1) x else x),
-            numbered_map (λ e. if e.number == x.number then with_count (x.count + 1) e else e) (keeps_if (λ e. e.number == x.number) (with_count (x.count + 1)) (keeps_count (x.count + 1))) x.number c.entries ∙ ap (option_map (λ e. if e.number == x.number then with_count (x.count + 1) e else e)) at,
-            (keeps_if (λ e. e.number == x.number) (with_count (x.count + 1)) (keeps_count (x.count + 1))).pid x ∙ of_pid p c.entries x is,
+        let at : find (λ y. y.number == x.number) c.entries ≡ Some x = (by_its_number 0 c.last (λ y. same_pid y.pid p) c.entries x right.numbers is).1 in (
+          (if x.number == x.number then with_count (x.count + 1) x else x),
+          numbered_map (λ e. if e.number == x.number then with_count (x.count + 1) e else e) (keeps_if (λ e. e.number == x.number) (with_count (x.count + 1)) (keeps_count (x.count + 1))) x.number c.entries ∙ ap (option_map (λ e. if e.number == x.number then with_count (x.count + 1) e else e)) at,
+          (keeps_if (λ e. e.number == x.number) (with_count (x.count + 1)) (keeps_count (x.count + 1))).pid x ∙ of_pid p c.entries x is,
         )
 
 number_named : (M : Catalog) (seen : Pid → View) (named : Option ℕ) (c : Copies) (p : Pid) → number_for (with_named M seen named c) p ≡ number_for c p

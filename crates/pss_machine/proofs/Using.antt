@@ -1,11 +1,10 @@
 -- What a data command used is attached.
-use Rattle.std.proofs.Common.{arith, ◌≡◌, ℕ, ◌+◌, ◌==◌, ◌<◌, ◌≤◌, not, ◌&&◌, cond, Bool, true, false, List, [], ◌∷◌, ◌++◌, length, map, Option, Some, None, refl, sym, ap, ◌∙◌, subst, inl, inr}
-use Rattle.std.specs.Prelude.{◌⊎◌, ◌||◌, find, filter, is_some, unwrap_or, nat_lt, IsTrue, Result, Ok, Err, if◌then◌else◌}
+use Rattle.std.proofs.Common.{◌≡◌, ℕ, ◌==◌, ◌&&◌, cond, Bool, true, false, List, [], ◌∷◌, length, map, Option, Some, None, refl, sym, ap, ◌∙◌, subst, inl, inr}
+use Rattle.std.specs.Prelude.{◌⊎◌, find, filter, is_some, nat_lt, if◌then◌else◌}
 use Rattle.std.specs.List.{slice_get, flat_map}
-use Rattle.std.specs.Ordering.{nat_cmp, eq_by_cmp}
 use Rattle.std.specs.Cmp.{nat_cmp_total}
-use Rattle.std.specs.FinMap.{get, insert, entries, contains_key, get-insert}
-use Rattle.std.proofs.lemmas.Bool.{eqb-true, eq-eqb}
+use Rattle.std.specs.FinMap.{get, entries, contains_key, get-insert}
+use Rattle.std.proofs.lemmas.Bool.{eq-eqb}
 use Rattle.pss_base.specs.declared.pid.Pid.{Pid}
 use Rattle.type_layout.specs.declared.schema.Schema.{Schema}
 use Rattle.type_layout.specs.declared.home.HomeNo.{HomeNo}
@@ -13,12 +12,11 @@ use Rattle.type_layout.specs.declared.key.KeyNo.{KeyNo}
 use Rattle.type_layout.specs.Types.{PlainValue, Int, Character, Truth, Ordinal, Text, Items, Parts, Ref}
 use Rattle.type_layout.specs.Schemas.{given, descends}
 use Rattle.pss_catalog.specs.Catalog.{Object, Catalog, has, holds, pid_of, references, object_spelling}
-use Rattle.pss_catalog.specs.Changes.{Change}
-use Rattle.pss_machine.specs.Operations.{Question, FindKey, FindPid, FindShort, Exists, Get, Follow, Count, ListOf, PlainOp, Create, Set, Destroy, Ask, PlainAnswer, Done, Found, IsThere, Val, Number, Listing, NotFound, Gone, Nil, Duplicate, TooLarge, Busy}
+use Rattle.pss_machine.specs.Operations.{Question, FindKey, FindPid, FindShort, Exists, Get, Follow, Count, ListOf, PlainOp, Create, Set, Destroy, Ask, PlainAnswer, Done, Found, Val, NotFound, Gone, Duplicate, TooLarge}
 use Rattle.pss_machine.specs.Homes.{in_one_family}
 use Rattle.pss_machine.specs.Changes.{Changes, with_changes}
 use Rattle.pss_machine.specs.Alone.{Outcome, answers, alone, told, followed, member_told, object_of, found_by_key, stored, first_taken, unless_gone, first_gone, with_member, pid_at}
-use Rattle.pss_machine.specs.Owners.{Owner, is_basic, view, has_changed, Step, stepped, step_on_view}
+use Rattle.pss_machine.specs.Owners.{Owner, is_basic, view, has_changed, stepped, step_on_view}
 use Rattle.pss_machine.specs.Copies.{Stand, Loose, Shared, Copied, Entry, Copies, entry_numbered, is_attached}
 use Rattle.pss_machine.specs.Asking.{Asked}
 use Rattle.pss_machine.specs.Stepping.{copied_values, copied_answer, told_by_copy, step_on_copy, step_of}

@@ -1,15 +1,14 @@
 -- What an owner has not changed it sees as it is committed.
-use Rattle.std.proofs.Common.{◌≡◌, ℕ, Bool, true, false, cond, ◌==◌, ◌&&◌, List, [], ◌∷◌, map, Option, Some, None, refl, sym, ap, ◌∙◌, arith, subst}
-use Rattle.std.specs.Prelude.{T, find, filter, is_some, unwrap_or, if◌then◌else◌}
+use Rattle.std.proofs.Common.{◌≡◌, ℕ, Bool, true, false, cond, ◌==◌, List, [], ◌∷◌, map, Option, Some, None, refl, sym, ap, ◌∙◌}
+use Rattle.std.specs.Prelude.{T, is_some, unwrap_or, if◌then◌else◌}
 use Rattle.std.specs.Ordering.{nat_cmp, eq_by_cmp}
 use Rattle.std.specs.FinMap as finite
-use Rattle.std.specs.FinMap.{get, entries, get-entries, entries_sorted, is_sorted, insert}
-use Rattle.std.specs.FinMap.Entries.{below_all}
+use Rattle.std.specs.FinMap.{get, entries, get-entries, entries_sorted, is_sorted}
 use Rattle.std.proofs.lemmas.Bool.{eqb-true, eq-eqb}
 use Rattle.pss_base.specs.declared.pid.Pid.{Pid}
 use Rattle.type_layout.specs.Schemas.{given}
 use Rattle.pss_catalog.specs.Catalog.{Object, Catalog, has}
-use Rattle.pss_catalog.specs.Changes.{Change, last_state}
+use Rattle.pss_catalog.specs.Changes.{last_state}
 use Rattle.pss_catalog.proofs.Uniqueness.{found_over}
 use Rattle.pss_machine.specs.Changes.{Changes, change_of, listed}
 use Rattle.pss_machine.specs.Alone.{object_of}

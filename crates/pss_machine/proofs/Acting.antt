@@ -26,7 +26,7 @@ use Rattle.pss_machine.specs.Owners.{Owner, Step, blocker}
 use Rattle.pss_machine.specs.Sessions.{Session, session_named, acts_for, open_in, is_read_only}
 use Rattle.pss_machine.specs.Copies.{Copies, Entry, entry_numbered, body_in, same_view, detached_from}
 use Rattle.pss_machine.specs.Kept.{Kept, Actor, actor_in, copies_of, transaction_named}
-use Rattle.pss_machine.specs.Asking.{Asked, ◌>>=◌, refused_where, obtaining, only, by_entry, creating, making, finding, shortening, asking_whether, getting, setting, destroying, following, asking_of_home, read_home, read_values, read_value, read_entry, read_member, is_reference}
+use Rattle.pss_machine.specs.Asking.{Asked, ◌>>=◌, obtaining, only, by_entry, creating, making, finding, shortening, asking_whether, getting, setting, destroying, following, asking_of_home, read_home, read_values, read_value, read_entry, read_member, is_reference}
 use Rattle.pss_machine.specs.Effects.{Effect, Associates, Holds, Steps, Commits, Flushes, RollsBack, Decision, does, says}
 use Rattle.pss_machine.specs.Stepping.{within, changes_further, is_create, step_of, reply_to, decided, data_command}
 use Rattle.pss_machine.specs.Deciding.{in_session, for_transaction, opening, beginning, closing, starting, suspending, ending, telling_state, is_over_full, unless_full, committing, flushing, with_entry, recounting, telling_pid, refreshing, telling_home, freeing, counting, decision}
@@ -35,6 +35,7 @@ use Rattle.pss_machine.proofs.Cases.{of_given, of_if}
 use Rattle.pss_machine.proofs.Found.{found_there}
 use Rattle.pss_machine.proofs.Growing.{Grown, grown_detached, grown_emptied, grown_counting}
 use Rattle.pss_machine.proofs.Attached.{AttachesNone, none_detached, none_emptied, none_counting}
+use Rattle.pss_machine.proofs.Asked.{Any, Fair, fair_then, fair_where, fair_or}
 
 -- ---- what is asked
 
@@ -42,31 +43,11 @@ use Rattle.pss_machine.proofs.Attached.{AttachesNone, none_detached, none_emptie
 abbrev Plain : Reply → Type 0
 Plain refusal = is_fruitless refusal ≡ false
 
--- what was not refused has the property
-abbrev Fair : {A : Type 0} → (A → Type 0) → Result A Reply → Type 0
-Fair P (Ok x) = P x
-Fair P (Err refusal) = Plain refusal
-
-abbrev Any : {A : Type 0} → A → Type 0
-Any x = Unit {0}
-
-fair_then : {A B : Type 0} (P : B → Type 0) (r : Result A Reply) (f : A → Result B Reply) → Fair Any r → ((x : A) → Fair P (f x)) → Fair P (r >>= f)
-fair_then P (Ok x) f g h = h x
-fair_then P (Err refusal) f g h = g
-
-fair_where : {A : Type 0} (P : A → Type 0) (b : Bool) (refusal : Reply) (r : Result A Reply) → Plain refusal → Fair P r → Fair P (refused_where b refusal r)
-fair_where P true refusal r plain h = plain
-fair_where P false refusal r plain h = h
-
-fair_or : {A : Type 0} (o : Option A) (refusal : Reply) → Plain refusal → Fair Any (ok_or o refusal)
-fair_or None refusal plain = plain
-fair_or (Some x) refusal plain = tt
-
-fair_values : (types : List PlainType) (rest : Rest) → Fair Any (read_values types rest)
+fair_values : (types : List PlainType) (rest : Rest) → Fair Plain Any (read_values types rest)
 fair_values types rest = grind arith
 
-fair_value : (member : PlainMember) (rest : Rest) → Fair Any (read_value member rest)
-fair_value member rest = fair_then Any (read_values (member.type ∷ []) rest) (λ vs. Ok (slice_index_or vs 0 (Ref None))) (fair_values (member.type ∷ []) rest) (λ vs. tt)
+fair_value : (member : PlainMember) (rest : Rest) → Fair Plain Any (read_value member rest)
+fair_value member rest = fair_then Plain Any (read_values (member.type ∷ []) rest) (λ vs. Ok (slice_index_or vs 0 (Ref None))) (fair_values (member.type ∷ []) rest) (λ vs. tt)
 
 -- what is asked is what the command's verb says
 abbrev AsksAs : Command → Asked → Type 0
@@ -80,65 +61,65 @@ abbrev Names : ℕ → Bool → Asked → Type 0
 Names n obtains asked = (asked.entry ≡ Some n) × (asked.obtains ≡ obtains)
 
 module _ (S : Schema) where
-  fair_home : (word : List ℕ) → Fair Any (read_home S word)
-  fair_home word = fair_or _ reply.NoHome refl
+  fair_home : (word : List ℕ) → Fair Plain Any (read_home S word)
+  fair_home word = fair_or Plain _ reply.NoHome refl
 
-  fair_entry : (copies : Copies) (n : ℕ) → Fair Any (read_entry copies n)
-  fair_entry copies n = fair_or _ reply.NoEntry refl
+  fair_entry : (copies : Copies) (n : ℕ) → Fair Plain Any (read_entry copies n)
+  fair_entry copies n = fair_or Plain _ reply.NoEntry refl
 
-  fair_member : (pid : Pid) (word : List ℕ) → Fair Any (read_member S pid word)
-  fair_member pid word = fair_or _ reply.NoMember refl
+  fair_member : (pid : Pid) (word : List ℕ) → Fair Plain Any (read_member S pid word)
+  fair_member pid word = fair_or Plain _ reply.NoMember refl
 
-  creating_fair : (next : ℕ) (session : Session) (home : List ℕ) (rest : Rest) → Fair (NamesNone true) (creating S next session home rest)
+  creating_fair : (next : ℕ) (session : Session) (home : List ℕ) (rest : Rest) → Fair Plain (NamesNone true) (creating S next session home rest)
   creating_fair next session home rest =
-      fair_then (NamesNone true) (read_home S home) _ (fair_home home)
-      (λ h. fair_then (NamesNone true) (read_values (types_of (members_at S h)) rest) _ (fair_values (types_of (members_at S h)) rest)
-      (λ vs. fair_where (NamesNone true) (is_read_only session) reply.ReadOnly (Ok (obtaining (Create next (record { home = h; values = vs })))) refl (refl, refl)))
+      fair_then Plain (NamesNone true) (read_home S home) _ (fair_home home)
+      (λ h. fair_then Plain (NamesNone true) (read_values (types_of (members_at S h)) rest) _ (fair_values (types_of (members_at S h)) rest)
+      (λ vs. fair_where Plain (NamesNone true) (is_read_only session) reply.ReadOnly (Ok (obtaining (Create next (record { home = h; values = vs })))) refl (refl, refl)))
 
-  making_fair : (next : ℕ) (session : Session) (home factory : List ℕ) (rest : Rest) → Fair (NamesNone true) (making S next session home factory rest)
+  making_fair : (next : ℕ) (session : Session) (home factory : List ℕ) (rest : Rest) → Fair Plain (NamesNone true) (making S next session home factory rest)
   making_fair next session home factory rest =
-      fair_then (NamesNone true) (read_home S home) _ (fair_home home)
-      (λ h. fair_then (NamesNone true) (ok_or (factory_named S h factory) reply.NoFactory) _ (fair_or (factory_named S h factory) reply.NoFactory refl)
-      (λ f. fair_then (NamesNone true) (read_values (types_of (chosen (members_at S h) f.members)) rest) _ (fair_values (types_of (chosen (members_at S h) f.members)) rest)
-      (λ vs. fair_where (NamesNone true) (is_read_only session) reply.ReadOnly (Ok (obtaining (Create next (record { home = h; values = made_of (members_at S h) f.members vs })))) refl (refl, refl))))
+      fair_then Plain (NamesNone true) (read_home S home) _ (fair_home home)
+      (λ h. fair_then Plain (NamesNone true) (ok_or (factory_named S h factory) reply.NoFactory) _ (fair_or Plain (factory_named S h factory) reply.NoFactory refl)
+      (λ f. fair_then Plain (NamesNone true) (read_values (types_of (chosen (members_at S h) f.members)) rest) _ (fair_values (types_of (chosen (members_at S h) f.members)) rest)
+      (λ vs. fair_where Plain (NamesNone true) (is_read_only session) reply.ReadOnly (Ok (obtaining (Create next (record { home = h; values = made_of (members_at S h) f.members vs })))) refl (refl, refl))))
 
-  finding_fair : (P : Asked → Type 0) (home key : List ℕ) (rest : Rest) (ask : PlainOp → Asked) → ((op : PlainOp) → P (ask op)) → Fair P (finding S home key rest >>= λ op. Ok (ask op))
+  finding_fair : (P : Asked → Type 0) (home key : List ℕ) (rest : Rest) (ask : PlainOp → Asked) → ((op : PlainOp) → P (ask op)) → Fair Plain P (finding S home key rest >>= λ op. Ok (ask op))
   finding_fair P home key rest ask h =
-      fair_then P (finding S home key rest) (λ op. Ok (ask op))
-      (fair_then Any (read_home S home) _ (fair_home home)
-      (λ h. fair_then Any (ok_or (key_named S h key) reply.NoKey) _ (fair_or (key_named S h key) reply.NoKey refl)
-      (λ k. fair_then Any (read_values (types_of (key_members S k)) rest) _ (fair_values (types_of (key_members S k)) rest) (λ vs. tt))))
+      fair_then Plain P (finding S home key rest) (λ op. Ok (ask op))
+      (fair_then Plain Any (read_home S home) _ (fair_home home)
+      (λ h. fair_then Plain Any (ok_or (key_named S h key) reply.NoKey) _ (fair_or Plain (key_named S h key) reply.NoKey refl)
+      (λ k. fair_then Plain Any (read_values (types_of (key_members S k)) rest) _ (fair_values (types_of (key_members S k)) rest) (λ vs. tt))))
       h
 
-  shortening_fair : (home : List ℕ) (serial : ℕ) → Fair (NamesNone true) (shortening S home serial)
-  shortening_fair home serial = fair_then (NamesNone true) (read_home S home) _ (fair_home home) (λ h. (refl, refl))
+  shortening_fair : (home : List ℕ) (serial : ℕ) → Fair Plain (NamesNone true) (shortening S home serial)
+  shortening_fair home serial = fair_then Plain (NamesNone true) (read_home S home) _ (fair_home home) (λ h. (refl, refl))
 
-  whether_fair : (copies : Copies) (n : ℕ) → Fair (NamesNone false) (asking_whether copies n)
-  whether_fair copies n = fair_then (NamesNone false) (read_entry copies n) _ (fair_entry copies n) (λ e. (refl, refl))
+  whether_fair : (copies : Copies) (n : ℕ) → Fair Plain (NamesNone false) (asking_whether copies n)
+  whether_fair copies n = fair_then Plain (NamesNone false) (read_entry copies n) _ (fair_entry copies n) (λ e. (refl, refl))
 
-  getting_fair : (copies : Copies) (n : ℕ) (word : List ℕ) → Fair (Names n false) (getting S copies n word)
+  getting_fair : (copies : Copies) (n : ℕ) (word : List ℕ) → Fair Plain (Names n false) (getting S copies n word)
   getting_fair copies n word =
-      fair_then (Names n false) (read_entry copies n) _ (fair_entry copies n) (λ e. fair_then (Names n false) (read_member S e.pid word) _ (fair_member e.pid word) (λ place. (refl, refl)))
+      fair_then Plain (Names n false) (read_entry copies n) _ (fair_entry copies n) (λ e. fair_then Plain (Names n false) (read_member S e.pid word) _ (fair_member e.pid word) (λ place. (refl, refl)))
 
-  setting_fair : (session : Session) (copies : Copies) (n : ℕ) (word : List ℕ) (rest : Rest) → Fair (Names n false) (setting S session copies n word rest)
+  setting_fair : (session : Session) (copies : Copies) (n : ℕ) (word : List ℕ) (rest : Rest) → Fair Plain (Names n false) (setting S session copies n word rest)
   setting_fair session copies n word rest =
-      fair_then (Names n false) (read_entry copies n) _ (fair_entry copies n)
-      (λ e. fair_then (Names n false) (read_member S e.pid word) _ (fair_member e.pid word)
-      (λ place. fair_then (Names n false) (read_value place.member rest) _ (fair_value place.member rest)
-      (λ v. fair_where (Names n false) (is_read_only session) reply.ReadOnly _ refl (fair_where (Names n false) place.member.readonly reply.ReadOnly (Ok (by_entry n (Set e.pid place.number v))) refl (refl, refl)))))
+      fair_then Plain (Names n false) (read_entry copies n) _ (fair_entry copies n)
+      (λ e. fair_then Plain (Names n false) (read_member S e.pid word) _ (fair_member e.pid word)
+      (λ place. fair_then Plain (Names n false) (read_value place.member rest) _ (fair_value place.member rest)
+      (λ v. fair_where Plain (Names n false) (is_read_only session) reply.ReadOnly _ refl (fair_where Plain (Names n false) place.member.readonly reply.ReadOnly (Ok (by_entry n (Set e.pid place.number v))) refl (refl, refl)))))
 
-  destroying_fair : (session : Session) (copies : Copies) (n : ℕ) → Fair (NamesNone false) (destroying session copies n)
+  destroying_fair : (session : Session) (copies : Copies) (n : ℕ) → Fair Plain (NamesNone false) (destroying session copies n)
   destroying_fair session copies n =
-      fair_then (NamesNone false) (read_entry copies n) _ (fair_entry copies n) (λ e. fair_where (NamesNone false) (is_read_only session) reply.ReadOnly (Ok (only (Destroy e.pid))) refl (refl, refl))
+      fair_then Plain (NamesNone false) (read_entry copies n) _ (fair_entry copies n) (λ e. fair_where Plain (NamesNone false) (is_read_only session) reply.ReadOnly (Ok (only (Destroy e.pid))) refl (refl, refl))
 
-  following_fair : (copies : Copies) (n : ℕ) (word : List ℕ) → Fair (Names n true) (following S copies n word)
+  following_fair : (copies : Copies) (n : ℕ) (word : List ℕ) → Fair Plain (Names n true) (following S copies n word)
   following_fair copies n word =
-      fair_then (Names n true) (read_entry copies n) _ (fair_entry copies n)
-      (λ e. fair_then (Names n true) (read_member S e.pid word) _ (fair_member e.pid word)
-      (λ place. of_if (Fair (Names n true)) (is_reference place.member.type) (Ok (record { op = Ask (Follow e.pid place.number); entry = Some n; obtains = true })) (Err reply.NotRef) (refl, refl) refl))
+      fair_then Plain (Names n true) (read_entry copies n) _ (fair_entry copies n)
+      (λ e. fair_then Plain (Names n true) (read_member S e.pid word) _ (fair_member e.pid word)
+      (λ place. of_if (Fair Plain (Names n true)) (is_reference place.member.type) (Ok (record { op = Ask (Follow e.pid place.number); entry = Some n; obtains = true })) (Err reply.NotRef) (refl, refl) refl))
 
-  home_fair : (home : List ℕ) (op : HomeNo → PlainOp) → Fair (NamesNone false) (asking_of_home S home op)
-  home_fair home op = fair_then (NamesNone false) (read_home S home) _ (fair_home home) (λ h. (refl, refl))
+  home_fair : (home : List ℕ) (op : HomeNo → PlainOp) → Fair Plain (NamesNone false) (asking_of_home S home op)
+  home_fair home op = fair_then Plain (NamesNone false) (read_home S home) _ (fair_home home) (λ h. (refl, refl))
 
 -- ---- what a command comes to
 
@@ -191,15 +172,15 @@ module _ (S : Schema) (limits : Limits) (k : Kept) where
     for_seen : (name : List ℕ) (f : OwnerNo → Decision) → ((n : OwnerNo) → Seen command (f n)) → Seen command (for_transaction k name f)
     for_seen name f h = of_given (Seen command) (transaction_named k name) (says reply.NoTransaction) f refl (λ n there. h n)
 
-    within_fair : (owner : Owner) (copies : Copies) (r : Result Asked Reply) → Fair (AsksAs command) r → Fair (AsksAs command) (r >>= within limits k.next owner copies)
+    within_fair : (owner : Owner) (copies : Copies) (r : Result Asked Reply) → Fair Plain (AsksAs command) r → Fair Plain (AsksAs command) (r >>= within limits k.next owner copies)
     within_fair owner copies (Err refusal) fair = fair
     within_fair owner copies (Ok asked) fair =
-        fair_where (AsksAs command) (changes_further owner asked.op && nat_le limits.changes (len owner.changes)) reply.Many _ refl
-        (fair_where (AsksAs command) (is_create asked.op && k.next == 2 ^ 64 - 1) reply.Serials _ refl
-        (fair_where (AsksAs command) (asked.obtains && nat_le limits.entries (length copies.entries)) reply.Entries (Ok asked) refl fair))
+        fair_where Plain (AsksAs command) (changes_further owner asked.op && nat_le limits.changes (len owner.changes)) reply.Many _ refl
+        (fair_where Plain (AsksAs command) (is_create asked.op && k.next == 2 ^ 64 - 1) reply.Serials _ refl
+        (fair_where Plain (AsksAs command) (asked.obtains && nat_le limits.entries (length copies.entries)) reply.Entries (Ok asked) refl fair))
 
     module _ (name : List ℕ) (word : data_session command ≡ Some name) where
-      decided_seen : (s : SessionNo) (session : Session) (actor : Actor) (asked : Result Asked Reply) → session_named k.sessions name ≡ Some (s.0, session) → acts_for session ≡ Some actor.number → Fair (AsksAs command) asked → Seen command (decided S k s actor asked)
+      decided_seen : (s : SessionNo) (session : Session) (actor : Actor) (asked : Result Asked Reply) → session_named k.sessions name ≡ Some (s.0, session) → acts_for session ≡ Some actor.number → Fair Plain (AsksAs command) asked → Seen command (decided S k s actor asked)
       decided_seen s session actor (Err refusal) named acts fair = fair
       decided_seen s session actor (Ok asked) named acts fair = (let step : Step = step_of S k.catalog actor.owner (copies_of k s) asked in
           of_given (Seen command) (blocker k.owners actor.number step.needs)
@@ -208,7 +189,7 @@ module _ (S : Schema) (limits : Limits) (k : Kept) where
           (record { name = name; session = session; in_session = word; named = named; acts = acts; entry = fair.0; obtains = fair.1; reply = refl })
           (λ b held. refl))
 
-      data_seen : (asked : SessionNo → Session → Result Asked Reply) → ((s : SessionNo) (session : Session) → Fair (AsksAs command) (asked s session)) → Seen command (in_session k name (λ s session. data_command S limits k s session (asked s session)))
+      data_seen : (asked : SessionNo → Session → Result Asked Reply) → ((s : SessionNo) (session : Session) → Fair Plain (AsksAs command) (asked s session)) → Seen command (in_session k name (λ s session. data_command S limits k s session (asked s session)))
       data_seen asked fair =
           in_seen name (λ s session. data_command S limits k s session (asked s session))
           (λ s session named. of_given (Seen command) (actor_in k.owners session) (says reply.NoTx) (λ actor. decided S k s actor (asked s session >>= within limits k.next actor.owner (copies_of k s))) refl

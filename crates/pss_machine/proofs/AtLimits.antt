@@ -26,12 +26,7 @@ use Rattle.pss_machine.specs.Effects.{Effect, Commits, Flushes, RollsBack, does,
 use Rattle.pss_machine.specs.Stepping.{changes_further, is_create, within, decided, data_command}
 use Rattle.pss_machine.specs.Deciding.{in_session, is_marked, unless_full, committing, flushing, decision}
 use Rattle.pss_machine.specs.AtLimits.{asks_for, IsAsked, BelowAllLimits, ManyAt256, SerialsAtLast, EntriesAt65535, CommitsAt67108864, FullAt67108865, FlushesAt67108864, FlushFullAt67108865}
-
-none_some : {A : Type 0} {x : A} → None ≡ Some x → ⊥
-none_some e = cc
-
-same_some : {A : Type 0} {x y : A} → Some x ≡ Some y → x ≡ y
-same_some e = cc
+use Rattle.pss_machine.proofs.Logic.{none_some, same_some}
 
 -- ---- data commands
 

@@ -17,9 +17,6 @@ use Rattle.pss_machine.specs.Attaching.{attached_in}
 use Rattle.pss_machine.proofs.Cases.{of_if}
 use Rattle.pss_machine.proofs.Growing.{Keeps, keeps_if, keeps_count, keeps_stand, keeps_attached, numbered_map, still_there}
 
-pub true_false : {b : Bool} → b ≡ true → b ≡ false → ⊥
-true_false t f = cc
-
 -- where the entry of a number is attached, it was before
 abbrev pub AttachesNone : Copies → Copies → Type 0
 AttachesNone old new = (n : ℕ) → attached_in new n ≡ true → attached_in old n ≡ true

@@ -29,14 +29,9 @@ use Rattle.pss_machine.specs.Attaching.{attached_in, is_open, OnlyOpenHaveAttach
 use Rattle.pss_machine.proofs.Cases.{of_given}
 use Rattle.pss_machine.proofs.Maps.{get_each, same_or_apart, insert_here, insert_apart, remove_here, remove_apart, with_here, with_apart}
 use Rattle.pss_machine.proofs.Found.{found_there}
-use Rattle.pss_machine.proofs.Attached.{true_false, AttachesNone, none_detached, all_detached}
+use Rattle.pss_machine.proofs.Attached.{AttachesNone, none_detached, all_detached}
 use Rattle.pss_machine.proofs.Acting.{Known, decision_seen}
-
-none_some : {A : Type 0} {x : A} → None ≡ Some x → ⊥
-none_some e = cc
-
-same_some : {A : Type 0} {x y : A} → Some x ≡ Some y → x ≡ y
-same_some e = cc
+use Rattle.pss_machine.proofs.Logic.{none_some, same_some, true_false}
 
 -- ---- all sessions
 

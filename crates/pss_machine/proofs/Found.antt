@@ -7,6 +7,7 @@ use Rattle.std.specs.FinMap.{FinMap, get, entries, get-entries, entries_sorted, 
 use Rattle.std.specs.FinMap.Entries.{below_all}
 use Rattle.std.proofs.lemmas.Bool.Decides.{nat_tests}
 use Rattle.pss_machine.proofs.Maps.{tied, tied_self}
+use Rattle.pss_machine.proofs.Logic.{none_some}
 
 less_is : (a b : ℕ) → T (is_lt (nat_cmp a b)) → a < b
 less_is a b e = grind (arith, nat_tests)
@@ -18,9 +19,6 @@ first false b p = p
 pub second : (a b : Bool) → T (a && b) → T b
 second true b p = p
 second false b p = absurd p
-
-none_some : {A : Type 0} {x : A} → None ≡ Some x → ⊥
-none_some e = cc
 
 module _ {A : Type 0} where
   -- a key below all others is no key of them

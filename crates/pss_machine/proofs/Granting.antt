@@ -1,5 +1,5 @@
 -- What is not granted leaves locks, and a serial that is used.
-use Rattle.std.proofs.Common.{◌≡◌, ℕ, Bool, true, false, List, [], Option, Some, None, refl, sym, ap, ◌∙◌, subst}
+use Rattle.std.proofs.Common.{◌≡◌, ℕ, true, List, [], Option, Some, None, refl, sym, ap, ◌∙◌, subst}
 use Rattle.std.specs.Prelude.{IsTrue, if◌then◌else◌}
 use Rattle.std.specs.FinMap.{get}
 use Rattle.type_layout.specs.Schemas.{given}
@@ -27,9 +27,7 @@ use Rattle.pss_machine.specs.Granted.{with_locks, OnlyLocked, FruitlessKeepsLock
 use Rattle.pss_machine.proofs.Allowing.{decision_right, step_is}
 use Rattle.pss_machine.proofs.Fruitless.{is_no, answer_no, nothing_own, step_still}
 use Rattle.pss_machine.proofs.Acting.{Known, decision_seen}
-
-true_false : {b : Bool} → b ≡ true → b ≡ false → ⊥
-true_false t f = cc
+use Rattle.pss_machine.proofs.Logic.{true_false}
 
 -- a step that changes nothing of its owner's leaves the owners with its locks
 only_locks : (owners : Owners) (n : ℕ) (step : Step) → step.own ≡ [] → with_at owners n (stepped step) ≡ with_at owners n (with_locks step.needs)

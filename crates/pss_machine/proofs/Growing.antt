@@ -14,9 +14,7 @@ use Rattle.pss_machine.specs.Asking.{Asked}
 use Rattle.pss_machine.specs.Deciding.{counting}
 use Rattle.pss_machine.specs.Moving.{with_named, with_found, seated, is_done}
 use Rattle.pss_machine.proofs.Cases.{of_if}
-
-none_some : {A : Type 0} {x : A} → None ≡ Some x → ⊥
-none_some e = cc
+use Rattle.pss_machine.proofs.Logic.{none_some}
 
 -- the entry of a number had it before, for the same object
 pub record Had (old : Copies) (n : ℕ) (e : Entry) : Type 0 where

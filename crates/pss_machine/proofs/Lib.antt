@@ -9,9 +9,11 @@ pub mod Parting
 pub mod Distinct
 pub mod Fruitless
 pub mod Orderly
+pub mod Logic
 pub mod Found
 pub mod Growing
 pub mod Attached
+pub mod Asked
 pub mod Acting
 pub mod Granting
 pub mod Numbering

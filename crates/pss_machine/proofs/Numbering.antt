@@ -32,15 +32,7 @@ use Rattle.pss_machine.proofs.Running.{run_append}
 use Rattle.pss_machine.proofs.Growing.{Had, Grown, grown_none, grown_both, grown_detached, grown_seated}
 use Rattle.pss_machine.proofs.Acting.{Known, decision_seen}
 use Rattle.pss_machine.proofs.Orderly as orderly
-
-none_some : {A : Type 0} {x : A} → None ≡ Some x → ⊥
-none_some e = cc
-
-true_false : {b : Bool} → b ≡ true → b ≡ false → ⊥
-true_false t f = cc
-
-same_some : {A : Type 0} {x y : A} → Some x ≡ Some y → x ≡ y
-same_some e = cc
+use Rattle.pss_machine.proofs.Logic.{none_some, same_some, some_is, true_false}
 
 -- ---- what is in a map later was in it before
 
@@ -310,10 +302,6 @@ module _ (S : Schema) (limits : Limits) where
     moment_goes ys = subst (λ (q : Machine). Goes (run S limits (first M next) xs).kept q.kept) (sym (run_append S limits (first M next) xs ys)) (run_goes (run S limits (first M next) xs) ys run_paired)
 
 -- ---- what is said of runs
-
-some_is : {A : Type 0} (o : Option A) → is_some o ≡ true → (x : A) × (o ≡ Some x)
-some_is None e = absurd cc
-some_is (Some x) e = (x, refl)
 
 -- one of two numbers is below the other, or it is not
 below_or_not : (a b : ℕ) → (a < b) ⊎ (b ≤ a)

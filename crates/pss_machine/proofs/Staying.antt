@@ -36,15 +36,10 @@ use Rattle.pss_machine.proofs.Maps.{get_each, same_or_apart, insert_here, insert
 use Rattle.pss_machine.proofs.Found.{found_there}
 use Rattle.pss_machine.proofs.Growing.{Keeps, keeps_if, keeps_count, keeps_stand, keeps_attached, numbered_map}
 use Rattle.pss_machine.proofs.Numbering.{PairedIn, run_paired}
-use Rattle.pss_machine.proofs.Attached.{true_false, AttachesNone, same_number, is_found, is_named, named_attaches, found_attaches}
+use Rattle.pss_machine.proofs.Attached.{AttachesNone, same_number, is_found, is_named, named_attaches, found_attaches}
 use Rattle.pss_machine.proofs.Acting.{Known, IsStepIn, decision_seen}
 use Rattle.pss_machine.proofs.Attaching.{seated_at, none_there, NoneMore, in_session, detached_none}
-
-none_some : {A : Type 0} {x : A} → None ≡ Some x → ⊥
-none_some e = cc
-
-same_some : {A : Type 0} {x y : A} → Some x ≡ Some y → x ≡ y
-same_some e = cc
+use Rattle.pss_machine.proofs.Logic.{none_some, same_some, true_false}
 
 -- ---- by what entries are attached
 

@@ -35,7 +35,7 @@ use Rattle.pss_machine.specs.Owners.{Owner, Owners, Step, stepped, has_changed, 
 use Rattle.pss_machine.specs.Sessions.{Session, is_basic, is_owner, owner_of, acts_for, is_read_only}
 use Rattle.pss_machine.specs.Copies.{Loose, Copied, Entry, Copies, no_copies, entry_numbered, entry_for, number_for, with_count, with_stand, at_entry, obtained, is_attached, is_changed_by, unchanged_in, view_in, body_in, values_at, stand_in, attached, detached_from, detached}
 use Rattle.pss_machine.specs.Kept.{Kept, Actor, actor_in, copies_of}
-use Rattle.pss_machine.specs.Asking.{Asked, ◌>>=◌, refused_where, obtaining, only, by_entry, creating, making, finding, shortening, asking_whether, getting, setting, destroying, following, asking_of_home, read_home, read_values, read_value, read_entry, read_member, is_reference}
+use Rattle.pss_machine.specs.Asking.{Asked, ◌>>=◌, obtaining, only, by_entry, creating, making, finding, shortening, asking_whether, getting, setting, destroying, following, asking_of_home, read_home, read_values, read_value, read_entry, read_member, is_reference}
 use Rattle.pss_machine.specs.Effects.{Steps, Decision, does, says}
 use Rattle.pss_machine.specs.Stepping.{within, changes_further, is_create, step_of, reply_to, decided, data_command}
 use Rattle.pss_machine.specs.Moving.{is_outdated, is_done, with_named, with_found, seated, seen_in, owners_after, moved}
@@ -49,7 +49,7 @@ use Rattle.pss_machine.proofs.Found.{found_there}
 use Rattle.pss_machine.proofs.Distinct.{pid_sound}
 use Rattle.pss_machine.proofs.Allowing.{actor_there, step_is}
 use Rattle.pss_machine.proofs.Growing.{keeps_if, keeps_count, keeps_stand, keeps_attached, numbered_map}
-use Rattle.pss_machine.proofs.Attached.{true_false, has_number, same_number}
+use Rattle.pss_machine.proofs.Attached.{has_number, same_number}
 use Rattle.pss_machine.proofs.Attaching.{in_session}
 use Rattle.pss_machine.proofs.Staying.{found_stays}
 use Rattle.pss_machine.proofs.Acting.{Known, decision_seen}
@@ -58,12 +58,8 @@ use Rattle.pss_machine.proofs.Numbering.{PairedIn, run_paired}
 use Rattle.pss_machine.proofs.Orderly as orderly
 use Rattle.pss_machine.proofs.Views.{There, values_there}
 use Rattle.pss_machine.proofs.Using.{AskedOf, is_question, found_seats, named_seats}
-
-none_some : {A : Type 0} {x : A} → None ≡ Some x → ⊥
-none_some e = cc
-
-same_some : {A : Type 0} {x y : A} → Some x ≡ Some y → x ≡ y
-same_some e = cc
+use Rattle.pss_machine.proofs.Logic.{both_true, none_some, one_true, same_some, some_is, true_false}
+use Rattle.pss_machine.proofs.Asked.{Any, Fair, fair_then, fair_where, fair_or}
 
 -- ---- what is asked of a named entry
 
@@ -74,62 +70,43 @@ AskedRight copies asked = (m : ℕ) → asked.entry ≡ Some m → (e : Entry) �
 abbrev Unfit : Reply → Type 0
 Unfit refusal = is_success refusal ≡ false
 
-abbrev Fair : {A : Type 0} → (A → Type 0) → Result A Reply → Type 0
-Fair P (Ok x) = P x
-Fair P (Err refusal) = Unfit refusal
-
-abbrev Any : {A : Type 0} → A → Type 0
-Any x = Unit {0}
-
-fair_then : {A B : Type 0} (P : B → Type 0) (r : Result A Reply) (f : A → Result B Reply) → Fair Any r → ((x : A) → Fair P (f x)) → Fair P (r >>= f)
-fair_then P (Ok x) f g h = h x
-fair_then P (Err refusal) f g h = g
-
-fair_where : {A : Type 0} (P : A → Type 0) (b : Bool) (refusal : Reply) (r : Result A Reply) → Unfit refusal → Fair P r → Fair P (refused_where b refusal r)
-fair_where P true refusal r unfit h = unfit
-fair_where P false refusal r unfit h = h
-
-fair_or : {A : Type 0} (o : Option A) (refusal : Reply) → Unfit refusal → Fair Any (ok_or o refusal)
-fair_or None refusal unfit = unfit
-fair_or (Some x) refusal unfit = tt
-
-fair_values : (types : List PlainType) (rest : Rest) → Fair Any (read_values types rest)
+fair_values : (types : List PlainType) (rest : Rest) → Fair Unfit Any (read_values types rest)
 fair_values types rest = grind arith
 
-fair_value : (member : PlainMember) (rest : Rest) → Fair Any (read_value member rest)
-fair_value member rest = fair_then Any (read_values (member.type ∷ []) rest) (λ vs. Ok (slice_index_or vs 0 (Ref None))) (fair_values (member.type ∷ []) rest) (λ vs. tt)
+fair_value : (member : PlainMember) (rest : Rest) → Fair Unfit Any (read_value member rest)
+fair_value member rest = fair_then Unfit Any (read_values (member.type ∷ []) rest) (λ vs. Ok (slice_index_or vs 0 (Ref None))) (fair_values (member.type ∷ []) rest) (λ vs. tt)
 
 names_none : (copies : Copies) (asked : Asked) → asked.entry ≡ None → AskedRight copies asked
 names_none copies asked none m is = absurd (none_some (sym none ∙ is))
 
 module _ (S : Schema) (copies : Copies) where
   abbrev Right : Result Asked Reply → Type 0
-  Right r = Fair (AskedRight copies) r
+  Right r = Fair Unfit (AskedRight copies) r
 
   creating_right : (next : ℕ) (session : Session) (home : List ℕ) (rest : Rest) → Right (creating S next session home rest)
   creating_right next session home rest =
-      fair_then (AskedRight copies) (read_home S home) _ (fair_or _ reply.NoHome refl)
-      (λ h. fair_then (AskedRight copies) (read_values (types_of (members_at S h)) rest) _ (fair_values (types_of (members_at S h)) rest)
-      (λ vs. fair_where (AskedRight copies) (is_read_only session) reply.ReadOnly (Ok (obtaining (Create next (record { home = h; values = vs })))) refl (names_none copies (obtaining (Create next (record { home = h; values = vs }))) refl)))
+      fair_then Unfit (AskedRight copies) (read_home S home) _ (fair_or Unfit _ reply.NoHome refl)
+      (λ h. fair_then Unfit (AskedRight copies) (read_values (types_of (members_at S h)) rest) _ (fair_values (types_of (members_at S h)) rest)
+      (λ vs. fair_where Unfit (AskedRight copies) (is_read_only session) reply.ReadOnly (Ok (obtaining (Create next (record { home = h; values = vs })))) refl (names_none copies (obtaining (Create next (record { home = h; values = vs }))) refl)))
 
   making_right : (next : ℕ) (session : Session) (home factory : List ℕ) (rest : Rest) → Right (making S next session home factory rest)
   making_right next session home factory rest =
-      fair_then (AskedRight copies) (read_home S home) _ (fair_or _ reply.NoHome refl)
-      (λ h. fair_then (AskedRight copies) (ok_or (factory_named S h factory) reply.NoFactory) _ (fair_or (factory_named S h factory) reply.NoFactory refl)
-      (λ f. fair_then (AskedRight copies) (read_values (types_of (chosen (members_at S h) f.members)) rest) _ (fair_values (types_of (chosen (members_at S h) f.members)) rest)
-      (λ vs. fair_where (AskedRight copies) (is_read_only session) reply.ReadOnly (Ok (obtaining (Create next (record { home = h; values = made_of (members_at S h) f.members vs })))) refl
+      fair_then Unfit (AskedRight copies) (read_home S home) _ (fair_or Unfit _ reply.NoHome refl)
+      (λ h. fair_then Unfit (AskedRight copies) (ok_or (factory_named S h factory) reply.NoFactory) _ (fair_or Unfit (factory_named S h factory) reply.NoFactory refl)
+      (λ f. fair_then Unfit (AskedRight copies) (read_values (types_of (chosen (members_at S h) f.members)) rest) _ (fair_values (types_of (chosen (members_at S h) f.members)) rest)
+      (λ vs. fair_where Unfit (AskedRight copies) (is_read_only session) reply.ReadOnly (Ok (obtaining (Create next (record { home = h; values = made_of (members_at S h) f.members vs })))) refl
       (names_none copies (obtaining (Create next (record { home = h; values = made_of (members_at S h) f.members vs }))) refl))))
 
   finding_right : (home key : List ℕ) (rest : Rest) (ask : PlainOp → Asked) → ((op : PlainOp) → (ask op).entry ≡ None) → Right (finding S home key rest >>= λ op. Ok (ask op))
   finding_right home key rest ask h =
-      fair_then (AskedRight copies) (finding S home key rest) (λ op. Ok (ask op))
-      (fair_then Any (read_home S home) _ (fair_or _ reply.NoHome refl)
-      (λ h. fair_then Any (ok_or (key_named S h key) reply.NoKey) _ (fair_or (key_named S h key) reply.NoKey refl)
-      (λ k. fair_then Any (read_values (types_of (key_members S k)) rest) _ (fair_values (types_of (key_members S k)) rest) (λ vs. tt))))
+      fair_then Unfit (AskedRight copies) (finding S home key rest) (λ op. Ok (ask op))
+      (fair_then Unfit Any (read_home S home) _ (fair_or Unfit _ reply.NoHome refl)
+      (λ h. fair_then Unfit Any (ok_or (key_named S h key) reply.NoKey) _ (fair_or Unfit (key_named S h key) reply.NoKey refl)
+      (λ k. fair_then Unfit Any (read_values (types_of (key_members S k)) rest) _ (fair_values (types_of (key_members S k)) rest) (λ vs. tt))))
       (λ op. names_none copies (ask op) (h op))
 
   home_right : (home : List ℕ) (ask : HomeNo → Asked) → ((h : HomeNo) → (ask h).entry ≡ None) → Right (read_home S home >>= λ h. Ok (ask h))
-  home_right home ask h = fair_then (AskedRight copies) (read_home S home) _ (fair_or _ reply.NoHome refl) (λ x. names_none copies (ask x) (h x))
+  home_right home ask h = fair_then Unfit (AskedRight copies) (read_home S home) _ (fair_or Unfit _ reply.NoHome refl) (λ x. names_none copies (ask x) (h x))
 
   -- with the entry that is there
   of_entry : (n : ℕ) (f : Entry → Result Asked Reply) → ((e : Entry) → entry_numbered copies n ≡ Some e → Right (f e)) → Right (read_entry copies n >>= f)
@@ -144,17 +121,17 @@ module _ (S : Schema) (copies : Copies) where
 
   getting_right : (n : ℕ) (word : List ℕ) → Right (getting S copies n word)
   getting_right n word =
-      of_entry n _ (λ e at. fair_then (AskedRight copies) (read_member S e.pid word) _ (fair_or _ reply.NoMember refl) (λ place. names_it n e (by_entry n (Ask (Get e.pid place.number))) at refl refl))
+      of_entry n _ (λ e at. fair_then Unfit (AskedRight copies) (read_member S e.pid word) _ (fair_or Unfit _ reply.NoMember refl) (λ place. names_it n e (by_entry n (Ask (Get e.pid place.number))) at refl refl))
 
   setting_right : (session : Session) (n : ℕ) (word : List ℕ) (rest : Rest) → Right (setting S session copies n word rest)
   setting_right session n word rest =
-      of_entry n _ (λ e at. fair_then (AskedRight copies) (read_member S e.pid word) _ (fair_or _ reply.NoMember refl)
-      (λ place. fair_then (AskedRight copies) (read_value place.member rest) _ (fair_value place.member rest)
-      (λ v. fair_where (AskedRight copies) (is_read_only session) reply.ReadOnly _ refl (fair_where (AskedRight copies) place.member.readonly reply.ReadOnly (Ok (by_entry n (Set e.pid place.number v))) refl (names_it n e (by_entry n (Set e.pid place.number v)) at refl refl)))))
+      of_entry n _ (λ e at. fair_then Unfit (AskedRight copies) (read_member S e.pid word) _ (fair_or Unfit _ reply.NoMember refl)
+      (λ place. fair_then Unfit (AskedRight copies) (read_value place.member rest) _ (fair_value place.member rest)
+      (λ v. fair_where Unfit (AskedRight copies) (is_read_only session) reply.ReadOnly _ refl (fair_where Unfit (AskedRight copies) place.member.readonly reply.ReadOnly (Ok (by_entry n (Set e.pid place.number v))) refl (names_it n e (by_entry n (Set e.pid place.number v)) at refl refl)))))
 
   following_right : (n : ℕ) (word : List ℕ) → Right (following S copies n word)
   following_right n word =
-      of_entry n _ (λ e at. fair_then (AskedRight copies) (read_member S e.pid word) _ (fair_or _ reply.NoMember refl)
+      of_entry n _ (λ e at. fair_then Unfit (AskedRight copies) (read_member S e.pid word) _ (fair_or Unfit _ reply.NoMember refl)
       (λ place. of_if Right (is_reference place.member.type) (Ok (record { op = Ask (Follow e.pid place.number); entry = Some n; obtains = true })) (Err reply.NotRef)
       (names_it n e (record { op = Ask (Follow e.pid place.number); entry = Some n; obtains = true }) at refl refl) refl))
 
@@ -162,13 +139,13 @@ module _ (S : Schema) (copies : Copies) where
   whether_right n = of_entry n _ (λ e at. names_none copies (only (Ask (Exists e.pid))) refl)
 
   destroying_right : (session : Session) (n : ℕ) → Right (destroying session copies n)
-  destroying_right session n = of_entry n _ (λ e at. fair_where (AskedRight copies) (is_read_only session) reply.ReadOnly (Ok (only (Destroy e.pid))) refl (names_none copies (only (Destroy e.pid)) refl))
+  destroying_right session n = of_entry n _ (λ e at. fair_where Unfit (AskedRight copies) (is_read_only session) reply.ReadOnly (Ok (only (Destroy e.pid))) refl (names_none copies (only (Destroy e.pid)) refl))
 
 -- what a data command asks
 record Asks (S : Schema) (k : Kept) (s : SessionNo) (session : Session) (command : Command) : Type 0 where
   asked : Result Asked Reply
   words : asks_for S k s session command ≡ Some asked
-  right : Fair (AskedRight (copies_of k s)) asked
+  right : Fair Unfit (AskedRight (copies_of k s)) asked
 
 asks_is : (S : Schema) (k : Kept) (s : SessionNo) (session : Session) (command : Command) (name : List ℕ) → data_session command ≡ Some name → Asks S k s session command
 asks_is S k s session (command.Create word home values) name is = record { asked = creating S k.next session home values; words = refl; right = creating_right S (copies_of k s) k.next session home values }
@@ -334,18 +311,6 @@ named_is : (named : Option ℕ) (m : ℕ) → given named false (λ j. j == m) �
 named_is None m e = absurd cc
 named_is (Some j) m e = ap Some (eqb-true j m e)
 
-both_true : (a b : Bool) → (a && b) ≡ true → (a ≡ true) × (b ≡ true)
-both_true true b e = (refl, e)
-both_true false b e = absurd cc
-
-one_true : (a b : Bool) → (a || b) ≡ true → (a ≡ true) ⊎ (b ≡ true)
-one_true true b e = inl refl
-one_true false b e = inr e
-
-some_is : {A : Type 0} (o : Option A) → is_some o ≡ true → (x : A) × (o ≡ Some x)
-some_is None e = absurd cc
-some_is (Some x) e = (x, refl)
-
 -- ---- a step that did what was asked for
 
 module _ (S : Schema) (limits : Limits) (k : Kept) (paired : PairedIn k) (all : (s : ℕ) (c : Copies) → get k.copies s ≡ Some c → AreOrderly c) (command : Command) (s : SessionNo) (m : ℕ) where
@@ -504,14 +469,14 @@ module _ (S : Schema) (limits : Limits) (k : Kept) (paired : PairedIn k) (all : 
             ∙ ap (λ (d : Copies). attached_in (seated k.catalog seen asked step.answer (in_session k.owners k.sessions (is_outdated n step) s.0 d)) m) (sym (ap (λ o. unwrap_or o no_copies) one.1))
             ∙ seated_used
 
-  within_right : (owner : Owner) (r : Result Asked Reply) → Fair (AskedRight (copies_of k s)) r → Fair (AskedRight (copies_of k s)) (r >>= within limits k.next owner (copies_of k s))
+  within_right : (owner : Owner) (r : Result Asked Reply) → Fair Unfit (AskedRight (copies_of k s)) r → Fair Unfit (AskedRight (copies_of k s)) (r >>= within limits k.next owner (copies_of k s))
   within_right owner (Err refusal) fair = fair
   within_right owner (Ok asked) fair =
-      fair_where (AskedRight (copies_of k s)) (changes_further owner asked.op && nat_le limits.changes (len owner.changes)) reply.Many _ refl
-      (fair_where (AskedRight (copies_of k s)) (is_create asked.op && k.next == 2 ^ 64 - 1) reply.Serials _ refl
-      (fair_where (AskedRight (copies_of k s)) (asked.obtains && nat_le limits.entries (length (copies_of k s).entries)) reply.Entries (Ok asked) refl fair))
+      fair_where Unfit (AskedRight (copies_of k s)) (changes_further owner asked.op && nat_le limits.changes (len owner.changes)) reply.Many _ refl
+      (fair_where Unfit (AskedRight (copies_of k s)) (is_create asked.op && k.next == 2 ^ 64 - 1) reply.Serials _ refl
+      (fair_where Unfit (AskedRight (copies_of k s)) (asked.obtains && nat_le limits.entries (length (copies_of k s).entries)) reply.Entries (Ok asked) refl fair))
 
-  decided_attaches : (actor : Actor) → get k.owners actor.number.0 ≡ Some actor.owner → (r : Result Asked Reply) → Fair (AskedRight (copies_of k s)) r → Attaches (decided S k s actor r)
+  decided_attaches : (actor : Actor) → get k.owners actor.number.0 ≡ Some actor.owner → (r : Result Asked Reply) → Fair Unfit (AskedRight (copies_of k s)) r → Attaches (decided S k s actor r)
   decided_attaches actor there (Err refusal) fair = λ known used. absurd (true_false (used_success command refusal m used) fair)
   decided_attaches actor there (Ok asked) fair =
       of_given Attaches (blocker k.owners actor.number (step_of S k.catalog actor.owner (copies_of k s) asked).needs)
@@ -520,7 +485,7 @@ module _ (S : Schema) (limits : Limits) (k : Kept) (paired : PairedIn k) (all : 
       (step_attaches actor.number actor.owner asked there fair)
       (λ b held known used. absurd (true_false (used_success command (reply_to S k (copies_of k s) asked (Busy b)) m used) refl))
 
-  data_attaches : (session : Session) (r : Result Asked Reply) → Fair (AskedRight (copies_of k s)) r → Attaches (data_command S limits k s session r)
+  data_attaches : (session : Session) (r : Result Asked Reply) → Fair Unfit (AskedRight (copies_of k s)) r → Attaches (data_command S limits k s session r)
   data_attaches session r fair =
       of_given Attaches (actor_in k.owners session) (says reply.NoTx) (λ actor. decided S k s actor (r >>= within limits k.next actor.owner (copies_of k s)))
       (λ known used. absurd (true_false (used_success command reply.NoTx m used) refl))

@@ -24,15 +24,7 @@ use Rattle.pss_machine.specs.Moving.{is_done}
 use Rattle.pss_machine.proofs.Maps.{tied_self}
 use Rattle.pss_machine.proofs.Found.{found_there}
 use Rattle.pss_machine.proofs.Views.{There, has_there, there_unchanged}
-
-none_some : {A : Type 0} {x : A} → None ≡ Some x → ⊥
-none_some e = cc
-
-same_some : {A : Type 0} {x y : A} → Some x ≡ Some y → x ≡ y
-same_some e = cc
-
-true_false : {b : Bool} → b ≡ true → b ≡ false → ⊥
-true_false t f = cc
+use Rattle.pss_machine.proofs.Logic.{none_some, same_some, true_false}
 
 same_found : {p q : Pid} → Found p ≡ Found q → p ≡ q
 same_found e = cc

@@ -4,7 +4,7 @@ use Rattle.std.specs.Prelude.{T, is_some, unwrap_or, if◌then◌else◌}
 use Rattle.std.specs.Ordering.{nat_cmp, eq_by_cmp}
 use Rattle.std.specs.FinMap as finite
 use Rattle.std.specs.FinMap.{get, entries, get-entries, entries_sorted, is_sorted}
-use Rattle.std.proofs.lemmas.Bool.{eqb-true, eq-eqb}
+use Rattle.std.specs.Cmp.{nat_eq_equiv}
 use Rattle.pss_base.specs.declared.pid.Pid.{Pid}
 use Rattle.type_layout.specs.Schemas.{given}
 use Rattle.pss_catalog.specs.Catalog.{Object, Catalog, has}
@@ -17,18 +17,6 @@ use Rattle.pss_machine.specs.Copies.{values_at}
 use Rattle.pss_machine.proofs.Maps.{tie, tied}
 use Rattle.pss_machine.proofs.Found.{first, second, below_missed}
 
-none_some : {A : Type 0} {x : A} → None ≡ Some x → ⊥
-none_some e = cc
-
-turned : (a b : ℕ) → (a == b) ≡ (b == a)
-turned a b = by (a == b) refl (b == a) refl
-  where
-    by : (x : Bool) → (a == b) ≡ x → (y : Bool) → (b == a) ≡ y → x ≡ y
-    by true p true q = refl
-    by false p false q = refl
-    by true p false q = sym (eq-eqb b a (sym (eqb-true a b p))) ∙ q
-    by false p true q = sym p ∙ eq-eqb a b (sym (eqb-true b a q))
-
 last_entries : (t : ℕ) (es : List (ℕ × Option Object)) → T (is_sorted nat_cmp es) → last_state (map change_of es) t ≡ finite.find nat_cmp t es
 last_entries t [] h = refl
 last_entries t (e ∷ es) h =
@@ -40,7 +28,7 @@ last_entries t (e ∷ es) h =
     all_same (Some x) = refl
 
     back : (b : Bool) → eq_by_cmp nat_cmp t e.0 ≡ b → (e.0 == t) ≡ b
-    back b is = turned e.0 t ∙ sym (tie t e.0) ∙ is
+    back b is = nat_eq_equiv.symm e.0 t ∙ sym (tie t e.0) ∙ is
 
     by_place : (b : Bool) → eq_by_cmp nat_cmp t e.0 ≡ b → given (finite.find nat_cmp t es) (cond (e.0 == t) (Some e.1) None) Some ≡ cond b (Some e.1) (finite.find nat_cmp t es)
     by_place true is = ap (λ o. given o (cond (e.0 == t) (Some e.1) None) Some) (below_missed e.0 t es (tied t e.0 is) (first _ _ h)) ∙ ap (λ (b : Bool). cond b (Some e.1) None) (back true is)

@@ -62,13 +62,14 @@ pub fn numbers_come_once()
     ensures same_object { EntriesStay }
 {}
 
-/// In every run only entries of sessions that are basic, active or suspended are attached. An attached entry stays so
-/// until its body is left: by `end`, `commit` and `rollback` all of the session or of the transaction's sessions; by
-/// `commit` and `flush` the owner's own and the committed ones of what changed; by `set` the older ones of the object
-/// in the owner's sessions, by `destroy` all of these; by `refresh` the session's copies. No other entry comes to be
-/// attached than, in the session in which a command is done, the one that it gives with its reply (`create`, `make`,
-/// `find`, `pid`, `short`, `follow`), and the one that it names (`get`, `set`, `follow`) where it did what it was asked
-/// for; such an entry stands in the view in which the session sees the object afterwards.
+/// In every run only entries of sessions that are basic, active or suspended are attached. After a data command that did
+/// what it was asked for, the entry that it gives with its reply is attached (`create`, `make`, `find`, `pid`, `short`,
+/// `follow`), and so is the one that it names (`get`, `set`, `follow`). Where it was not attached before, it stands in
+/// the view in which the session then sees the object. No other entry comes to be attached, and an attached one stays
+/// so until its body is left: by `end`, `commit` and `rollback` each body of the session or of the transaction's
+/// sessions; by `commit` and `flush` the owner's own ones and the committed ones of what changed; by `set` the older
+/// ones of the object in the owner's sessions, and by `destroy` all of the object in these; by `refresh` the copies of
+/// the session.
 pub fn entries_are_attached()
     ensures in_open { OnlyOpenHaveAttached }
     ensures others { OthersStayAttached }

@@ -1,5 +1,5 @@
 -- Numbers of keys by name and list, each behind the one before.
-use Rattle.std.proofs.Common.{◌≡◌, ℕ, zero, suc, ◌+◌, ◌<◌, List, [], ◌∷◌, Bool, true, false, cond, length, get_or, set, drop, Option, Some, None, refl, sym, ap, ◌∙◌, arith, length-drop, get_or-set_other, get_or-set_same, ⊎_elim}
+use Rattle.std.proofs.Common.{◌≡◌, ℕ, zero, suc, ◌+◌, ◌<◌, List, [], ◌∷◌, Bool, true, false, cond, length, get_or, set, drop, Option, Some, None, refl, sym, ap, ◌∙◌, arith, subst, length-drop, get_or-set_other, get_or-set_same, ⊎_elim}
 use Rattle.std.proofs.Math.Nat.{eq-or-lt_of_le}
 use Rattle.std.specs.List.{position_from}
 use Rattle.std.specs.Map.{lookup}
@@ -117,3 +117,11 @@ next_from keys n k l first behind next lt at is sized firsts entered_first nexts
     ∙ ap (λ (i : ℕ). number_from (introduced_views keys) (i + 1) j.listed) (sym same))
     (λ later. get_or-set_other next n m behind None (λ e. absurd (omega (arith, e, later))) ∙ nexts m j rest (omega (arith, later)) cut)
     (eq-or-lt_of_le le)
+
+-- ---- the number in front
+
+pub firsts_before : (keys : List Introduced) (first : Listed → Option ℕ) (n m : ℕ) → m + 1 ≡ n → ((q : Listed) → first q ≡ number_from keys n q) → (q : Listed) → first q ≡ number_from keys (m + 1) q
+firsts_before keys first n m e firsts = subst (λ (i : ℕ). (q : Listed) → first q ≡ number_from keys i q) (sym e) firsts
+
+pub next_before : (keys : List Introduced) (next : List (Option ℕ)) (n m : ℕ) → m + 1 ≡ n → AreNext keys n next → AreNext keys (m + 1) next
+next_before keys next n m e nexts = subst (λ (i : ℕ). AreNext keys i next) (sym e) nexts

@@ -1,5 +1,5 @@
 // Keys are entered by name and list from the last to the first.
-ghost use Rattle.std.specs.Prelude.{◌≡◌, ◌+◌, ◌<◌, ℕ, length, IfOk, OnOk};
+ghost use Rattle.std.specs.Prelude.{◌≡◌, ◌+◌, ◌<◌, [], ℕ, length, IfOk, OnOk};
 ghost use Rattle.psdl_names.specs.Descent.{Listed as ListedView};
 ghost use Rattle.psdl_check.specs.Introductions.{introduced_views};
 ghost use Rattle.psdl_check.specs.KeyChains.{IsChained, AreNext, first_of, number_from};
@@ -47,6 +47,27 @@ fn enter<'a>(
     Ok(())
 }
 
+// Enters all keys.
+fn enter_all<'a>(
+    alloc: Global,
+    keys: &[IntroducedKey<'a>],
+    firsts: &mut IndexMap<Listed<'a>, usize>,
+    next: &mut [Option<usize>],
+) -> Result<(), NoMemory>
+    requires sized { length next.old ≡ length keys.now }
+    requires firsts { firsts.old.entries ≡ [] }
+    ensures sized { length next.new ≡ length keys.now }
+    ensures firsts { OnOk result ((q : ListedView) → first_of firsts.new.entries q ≡ number_from (introduced_views keys.now) 0 q) }
+    ensures next { OnOk result (AreNext (introduced_views keys.now) 0 next.new) }
+{
+    let mut number = keys.len();
+    while number > 0 {
+        number -= 1;
+        enter(alloc, keys, firsts, next, number)?;
+    }
+    Ok(())
+}
+
 /// The numbers of keys by name and list.
 pub(crate) fn key_chains<'a>(
     alloc: Global,
@@ -54,12 +75,10 @@ pub(crate) fn key_chains<'a>(
 ) -> Result<KeyChains<'a>, NoMemory>
     ensures { IfOk result (IsChained (introduced_views keys.now)) }
 {
-    let mut firsts = IndexMap::new(alloc);
     let mut next = vec![in alloc; None; keys.len()]?;
-    let mut number = keys.len();
-    while number > 0 {
-        number -= 1;
-        enter(alloc, keys, &mut firsts, &mut next, number)?;
+    let mut firsts = IndexMap::new(alloc);
+    match enter_all(alloc, keys, &mut firsts, &mut next) {
+        Ok(()) => Ok(KeyChains { firsts, next }),
+        Err(_) => Err(NoMemory),
     }
-    Ok(KeyChains { firsts, next })
 }

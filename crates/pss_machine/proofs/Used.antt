@@ -42,13 +42,13 @@ use Rattle.pss_machine.specs.Moving.{is_outdated, is_done, with_named, with_foun
 use Rattle.pss_machine.specs.Run.{first, run}
 use Rattle.pss_machine.specs.Entries.{NumbersRise, AreOrderly}
 use Rattle.pss_machine.specs.AtLimits.{asks_for}
-use Rattle.pss_machine.specs.Attaching.{attached_in, is_attached_at, is_given, is_success, is_used, UsedAreAttached}
+use Rattle.pss_machine.specs.Attaching.{attached_in, is_attached_at, is_given, is_success, is_used, UsedAreAttached, GivenAreOfObject}
 use Rattle.pss_machine.proofs.Cases.{of_given, of_if}
 use Rattle.pss_machine.proofs.Maps.{get_each, with_here}
 use Rattle.pss_machine.proofs.Found.{found_there}
 use Rattle.pss_machine.proofs.Distinct.{pid_sound}
 use Rattle.pss_machine.proofs.Allowing.{actor_there, step_is}
-use Rattle.pss_machine.proofs.Growing.{keeps_if, keeps_count, keeps_stand, keeps_attached, numbered_map}
+use Rattle.pss_machine.proofs.Growing.{Keeps, keeps_if, keeps_count, keeps_stand, keeps_attached, numbered_map}
 use Rattle.pss_machine.proofs.Attached.{has_number, same_number}
 use Rattle.pss_machine.proofs.Attaching.{in_session}
 use Rattle.pss_machine.proofs.Staying.{found_stays}
@@ -307,6 +307,28 @@ given_found S k copies asked (Duplicate key) m e = absurd cc
 given_found S k copies asked TooLarge m e = absurd cc
 given_found S k copies asked (Busy n) m e = absurd cc
 
+-- a reply with an entry tells of what was found
+entry_found : (S : Schema) (k : Kept) (copies : Copies) (asked : Asked) (a : PlainAnswer) (m : ℕ) (p : Pid) → reply_to S k copies asked a ≡ reply.Entry m p → (a ≡ Found p) × (number_for copies p ≡ m) × (asked.obtains ≡ true)
+entry_found S k copies asked (Found q) m p e = by asked.obtains refl e
+  where
+    by : (b : Bool) → asked.obtains ≡ b → reply_to S k copies (record { op = asked.op; entry = asked.entry; obtains = b }) (Found q) ≡ reply.Entry m p → (Found q ≡ Found p) × (number_for copies p ≡ m) × (asked.obtains ≡ true)
+    by true is e =
+        let same : q ≡ p = cc in
+        let number : number_for copies q ≡ m = cc in
+        (ap Found same, ap (number_for copies) (sym same) ∙ number, is)
+    by false is e = absurd cc
+entry_found S k copies asked Done m p e = absurd cc
+entry_found S k copies asked (Val v) m p e = absurd cc
+entry_found S k copies asked (IsThere b) m p e = absurd cc
+entry_found S k copies asked (Number n) m p e = absurd cc
+entry_found S k copies asked (Listing n pids) m p e = absurd cc
+entry_found S k copies asked NotFound m p e = absurd cc
+entry_found S k copies asked (Gone q) m p e = absurd cc
+entry_found S k copies asked Nil m p e = absurd cc
+entry_found S k copies asked (Duplicate key) m p e = absurd cc
+entry_found S k copies asked TooLarge m p e = absurd cc
+entry_found S k copies asked (Busy n) m p e = absurd cc
+
 named_is : (named : Option ℕ) (m : ℕ) → given named false (λ j. j == m) ≡ true → named ≡ Some m
 named_is None m e = absurd cc
 named_is (Some j) m e = ap Some (eqb-true j m e)
@@ -314,6 +336,13 @@ named_is (Some j) m e = ap Some (eqb-true j m e)
 -- ---- a step that did what was asked for
 
 module _ (S : Schema) (limits : Limits) (k : Kept) (paired : PairedIn k) (all : (s : ℕ) (c : Copies) → get k.copies s ≡ Some c → AreOrderly c) (command : Command) (s : SessionNo) (m : ℕ) where
+  -- the session has the entry for the object
+  abbrev HasFor : Copies → Pid → Type 0
+  HasFor c p = (e : Entry) × (entry_numbered c m ≡ Some e) × (e.pid ≡ p)
+
+  abbrev Gives : Pid → Decision → Type 0
+  Gives p d = Known S k command d.effect d.reply → d.reply ≡ reply.Entry m p → HasFor (copies_of (moved k d.effect) s) p
+
   abbrev Attaches : Decision → Type 0
   Attaches d = Known S k command d.effect d.reply → is_used command d.reply m ≡ true → is_attached_at (moved k d.effect) s m ≡ true
 
@@ -435,9 +464,47 @@ module _ (S : Schema) (limits : Limits) (k : Kept) (paired : PairedIn k) (all : 
           (λ i. attached_in (with_found k.catalog seen (obtains i) (is i) named) (sym same i))
           ∙ used_at k.catalog seen (number_for named p) (obtained p named) one.0 one.1 (λ loose. seats one.0 (λ unchanged. subst (There k.catalog) (sym one.2) (found_seats S k.catalog owner (copies_of k s) asked p is (ap (λ (q : Pid). has_changed (stepped step owner) q.serial) (sym one.2) ∙ unchanged))))
 
+      -- and for which object it is
+      found_for : (p : Pid) → step.answer ≡ Found p → asked.obtains ≡ true → number_for (copies_of k s) p ≡ m → HasFor (with_found k.catalog seen asked.obtains step.answer (with_named k.catalog seen asked.entry left)) p
+      found_for p is obtains number =
+          let named : Copies = with_named k.catalog seen asked.entry left in
+          let one : (e : Entry) × (entry_numbered (obtained p named) (number_for named p) ≡ Some e) × (e.pid ≡ p) = obtained_entry p named (orderly.named_orderly k.catalog seen asked.entry left left_orderly) in
+          let same : number_for named p ≡ m = number_named k.catalog seen asked.entry left p ∙ left_number p ∙ number in
+          let keeps : Keeps (λ e. if e.number == number_for named p then attached k.catalog seen e else e) = keeps_if (λ e. e.number == number_for named p) (attached k.catalog seen) (keeps_attached k.catalog seen) in (
+            (if one.0.number == number_for named p then attached k.catalog seen one.0 else one.0),
+            (λ i. entry_numbered (with_found k.catalog seen (obtains i) (is i) named) (sym same i))
+                ∙ numbered_map (λ e. if e.number == number_for named p then attached k.catalog seen e else e) keeps (number_for named p) (obtained p named).entries
+                ∙ ap (option_map (λ e. if e.number == number_for named p then attached k.catalog seen e else e)) one.1,
+            keeps.pid one.0 ∙ one.2,
+          )
+
+    -- the session's entries after the step
+    copies_then : (session : Session) → get k.sessions s.0 ≡ Some session → is_done step.answer ≡ true
+        → copies_of (moved k (Steps n s (step_of S k.catalog owner (copies_of k s) asked) asked)) s ≡ with_found k.catalog seen asked.obtains step.answer (with_named k.catalog seen asked.entry left)
+    copies_then session open_at does = here (some_is (get k.copies s.0) (sym (paired.same s.0) ∙ ap is_some open_at))
+      where
+        here : (c : Copies) × (get k.copies s.0 ≡ Some c)
+            → copies_of (moved k (Steps n s (step_of S k.catalog owner (copies_of k s) asked) asked)) s
+            ≡ with_found k.catalog (seen_in (owners_after k n (step_of S k.catalog owner (copies_of k s) asked)) k.sessions s) asked.obtains (step_of S k.catalog owner (copies_of k s) asked).answer (with_named k.catalog (seen_in (owners_after k n (step_of S k.catalog owner (copies_of k s) asked)) k.sessions s) asked.entry (in_session k.owners k.sessions (is_outdated n (step_of S k.catalog owner (copies_of k s) asked)) s.0 (copies_of k s)))
+        here one =
+            ap (λ o. unwrap_or o no_copies)
+            (with_here (detached k.owners k.sessions (is_outdated n step) k.copies) s.0 (seated k.catalog seen asked step.answer)
+            ∙ ap (option_map (seated k.catalog seen asked step.answer)) (get_each (in_session k.owners k.sessions (is_outdated n step)) k.copies s.0 ∙ ap (option_map (in_session k.owners k.sessions (is_outdated n step) s.0)) one.1))
+            ∙ ap (λ (d : Copies). seated k.catalog seen asked step.answer (in_session k.owners k.sessions (is_outdated n step) s.0 d)) (sym (ap (λ o. unwrap_or o no_copies) one.1))
+            ∙ ap (λ b. if b then with_found k.catalog seen asked.obtains step.answer (with_named k.catalog seen asked.entry left) else left) does
+
+    -- the step gives the entry of what it found
+    step_gives : (p : Pid) → Gives p (does (Steps n s (step_of S k.catalog owner (copies_of k s) asked) asked) (reply_to S k (copies_of k s) asked (step_of S k.catalog owner (copies_of k s) asked).answer))
+    step_gives p known told =
+        let found : (step.answer ≡ Found p) × (number_for (copies_of k s) p ≡ m) × (asked.obtains ≡ true) = entry_found S k (copies_of k s) asked step.answer m p told in
+        let open_at : get k.sessions s.0 ≡ Some known.session = found_there _ k.sessions (s.0, known.session) known.named in
+        subst (λ (c : Copies). HasFor c p) (sym (copies_then known.session open_at (ap is_done found.0))) (found_for known.session open_at known.acts p found.0 found.2 found.1)
+
     -- the step attaches what it used
     step_attaches : Attaches (does (Steps n s (step_of S k.catalog owner (copies_of k s) asked) asked) (reply_to S k (copies_of k s) asked (step_of S k.catalog owner (copies_of k s) asked).answer))
-    step_attaches known used = here (some_is (get k.copies s.0) (sym (paired.same s.0) ∙ ap is_some open_at))
+    step_attaches known used =
+        ap (λ (c : Copies). attached_in c m) (copies_then known.session open_at does_it)
+        ∙ by (one_true (is_obtaining command && is_given (reply_to S k (copies_of k s) asked step.answer) m) (given (named_entry command) false (λ j. j == m) && is_success (reply_to S k (copies_of k s) asked step.answer)) used)
       where
         open_at : get k.sessions s.0 ≡ Some known.session
         open_at = found_there _ k.sessions (s.0, known.session) known.named
@@ -445,29 +512,16 @@ module _ (S : Schema) (limits : Limits) (k : Kept) (paired : PairedIn k) (all : 
         does_it : is_done (step_of S k.catalog owner (copies_of k s) asked).answer ≡ true
         does_it = success_done S k (copies_of k s) asked step.answer (used_success command (reply_to S k (copies_of k s) asked step.answer) m used)
 
-        seated_used : attached_in (seated k.catalog (seen_in (owners_after k n (step_of S k.catalog owner (copies_of k s) asked)) k.sessions s) asked (step_of S k.catalog owner (copies_of k s) asked).answer (in_session k.owners k.sessions (is_outdated n (step_of S k.catalog owner (copies_of k s) asked)) s.0 (copies_of k s))) m ≡ true
-        seated_used =
-            ap (λ b. attached_in (if b then with_found k.catalog seen asked.obtains step.answer (with_named k.catalog seen asked.entry left) else left) m) does_it
-            ∙ by (one_true (is_obtaining command && is_given (reply_to S k (copies_of k s) asked step.answer) m) (given (named_entry command) false (λ j. j == m) && is_success (reply_to S k (copies_of k s) asked step.answer)) used)
-          where
-            by : ((is_obtaining command && is_given (reply_to S k (copies_of k s) asked (step_of S k.catalog owner (copies_of k s) asked).answer) m) ≡ true) ⊎ ((given (named_entry command) false (λ j. j == m) && is_success (reply_to S k (copies_of k s) asked (step_of S k.catalog owner (copies_of k s) asked).answer)) ≡ true)
-                → attached_in (with_found k.catalog (seen_in (owners_after k n (step_of S k.catalog owner (copies_of k s) asked)) k.sessions s) asked.obtains (step_of S k.catalog owner (copies_of k s) asked).answer (with_named k.catalog (seen_in (owners_after k n (step_of S k.catalog owner (copies_of k s) asked)) k.sessions s) asked.entry (in_session k.owners k.sessions (is_outdated n (step_of S k.catalog owner (copies_of k s) asked)) s.0 (copies_of k s)))) m ≡ true
-            by (inl given_it) =
-                let two = both_true (is_obtaining command) (is_given (reply_to S k (copies_of k s) asked step.answer) m) given_it in
-                let found : (p : Pid) × (step.answer ≡ Found p) × (number_for (copies_of k s) p ≡ m) = given_found S k (copies_of k s) asked step.answer m two.1 in
-                found_used known.session open_at known.acts found.0 found.1 (known.obtains ∙ two.0) found.2
-            by (inr named_it) =
-                let two = both_true (given (named_entry command) false (λ j. j == m)) (is_success (reply_to S k (copies_of k s) asked step.answer)) named_it in
-                let named : asked.entry ≡ Some m = known.entry ∙ named_is (named_entry command) m two.0 in
-                found_stays k.catalog seen asked.obtains step.answer (with_named k.catalog seen asked.entry left) m (named_used known.session open_at known.acts named does_it)
-
-        here : (c : Copies) × (get k.copies s.0 ≡ Some c) → is_attached_at (moved k (Steps n s (step_of S k.catalog owner (copies_of k s) asked) asked)) s m ≡ true
-        here one =
-            ap (λ o. attached_in (unwrap_or o no_copies) m)
-            (with_here (detached k.owners k.sessions (is_outdated n step) k.copies) s.0 (seated k.catalog seen asked step.answer)
-            ∙ ap (option_map (seated k.catalog seen asked step.answer)) (get_each (in_session k.owners k.sessions (is_outdated n step)) k.copies s.0 ∙ ap (option_map (in_session k.owners k.sessions (is_outdated n step) s.0)) one.1))
-            ∙ ap (λ (d : Copies). attached_in (seated k.catalog seen asked step.answer (in_session k.owners k.sessions (is_outdated n step) s.0 d)) m) (sym (ap (λ o. unwrap_or o no_copies) one.1))
-            ∙ seated_used
+        by : ((is_obtaining command && is_given (reply_to S k (copies_of k s) asked (step_of S k.catalog owner (copies_of k s) asked).answer) m) ≡ true) ⊎ ((given (named_entry command) false (λ j. j == m) && is_success (reply_to S k (copies_of k s) asked (step_of S k.catalog owner (copies_of k s) asked).answer)) ≡ true)
+            → attached_in (with_found k.catalog (seen_in (owners_after k n (step_of S k.catalog owner (copies_of k s) asked)) k.sessions s) asked.obtains (step_of S k.catalog owner (copies_of k s) asked).answer (with_named k.catalog (seen_in (owners_after k n (step_of S k.catalog owner (copies_of k s) asked)) k.sessions s) asked.entry (in_session k.owners k.sessions (is_outdated n (step_of S k.catalog owner (copies_of k s) asked)) s.0 (copies_of k s)))) m ≡ true
+        by (inl given_it) =
+            let two = both_true (is_obtaining command) (is_given (reply_to S k (copies_of k s) asked step.answer) m) given_it in
+            let found : (p : Pid) × (step.answer ≡ Found p) × (number_for (copies_of k s) p ≡ m) = given_found S k (copies_of k s) asked step.answer m two.1 in
+            found_used known.session open_at known.acts found.0 found.1 (known.obtains ∙ two.0) found.2
+        by (inr named_it) =
+            let two = both_true (given (named_entry command) false (λ j. j == m)) (is_success (reply_to S k (copies_of k s) asked step.answer)) named_it in
+            let named : asked.entry ≡ Some m = known.entry ∙ named_is (named_entry command) m two.0 in
+            found_stays k.catalog seen asked.obtains step.answer (with_named k.catalog seen asked.entry left) m (named_used known.session open_at known.acts named does_it)
 
   within_right : (owner : Owner) (r : Result Asked Reply) → Fair Unfit (AskedRight (copies_of k s)) r → Fair Unfit (AskedRight (copies_of k s)) (r >>= within limits k.next owner (copies_of k s))
   within_right owner (Err refusal) fair = fair
@@ -485,6 +539,20 @@ module _ (S : Schema) (limits : Limits) (k : Kept) (paired : PairedIn k) (all : 
       (step_attaches actor.number actor.owner asked there fair)
       (λ b held known used. absurd (true_false (used_success command (reply_to S k (copies_of k s) asked (Busy b)) m used) refl))
 
+  decided_gives : (p : Pid) (actor : Actor) → get k.owners actor.number.0 ≡ Some actor.owner → (r : Result Asked Reply) → Fair Unfit (AskedRight (copies_of k s)) r → Gives p (decided S k s actor r)
+  decided_gives p actor there (Err refusal) fair = λ known told. absurd (true_false (ap is_success told) fair)
+  decided_gives p actor there (Ok asked) fair =
+      of_given (Gives p) (blocker k.owners actor.number (step_of S k.catalog actor.owner (copies_of k s) asked).needs)
+      (does (Steps actor.number s (step_of S k.catalog actor.owner (copies_of k s) asked) asked) (reply_to S k (copies_of k s) asked (step_of S k.catalog actor.owner (copies_of k s) asked).answer))
+      (λ b. says (reply_to S k (copies_of k s) asked (Busy b)))
+      (step_gives actor.number actor.owner asked there fair p)
+      (λ b held known told. absurd cc)
+
+  data_gives : (p : Pid) (session : Session) (r : Result Asked Reply) → Fair Unfit (AskedRight (copies_of k s)) r → Gives p (data_command S limits k s session r)
+  data_gives p session r fair =
+      of_given (Gives p) (actor_in k.owners session) (says reply.NoTx) (λ actor. decided S k s actor (r >>= within limits k.next actor.owner (copies_of k s))) (λ known told. absurd cc)
+      (λ actor at. decided_gives p actor (actor_there S limits k session actor at) (r >>= within limits k.next actor.owner (copies_of k s)) (within_right actor.owner r fair))
+
   data_attaches : (session : Session) (r : Result Asked Reply) → Fair Unfit (AskedRight (copies_of k s)) r → Attaches (data_command S limits k s session r)
   data_attaches session r fair =
       of_given Attaches (actor_in k.owners session) (says reply.NoTx) (λ actor. decided S k s actor (r >>= within limits k.next actor.owner (copies_of k s)))
@@ -499,3 +567,11 @@ used_attached S limits M next lines command s m is used =
     (sym (decision_asks S limits (run S limits (first M next) lines).kept s is.session asks.asked is.name is.named command is.in_session asks.words))
     (data_attaches S limits (run S limits (first M next) lines).kept (run_paired S limits M next lines) (λ t c there. orderly.entries_are_orderly S limits M next lines t c there) command s m is.session asks.asked asks.right)
     (decision_seen S limits (run S limits (first M next) lines).kept command) used
+
+pub given_for : GivenAreOfObject
+given_for S limits M next lines command s m p is told =
+    let asks : Asks S (run S limits (first M next) lines).kept s is.session command = asks_is S (run S limits (first M next) lines).kept s is.session command is.name is.in_session in
+    subst (Gives S limits (run S limits (first M next) lines).kept (run_paired S limits M next lines) (λ t c there. orderly.entries_are_orderly S limits M next lines t c there) command s m p)
+    (sym (decision_asks S limits (run S limits (first M next) lines).kept s is.session asks.asked is.name is.named command is.in_session asks.words))
+    (data_gives S limits (run S limits (first M next) lines).kept (run_paired S limits M next lines) (λ t c there. orderly.entries_are_orderly S limits M next lines t c there) command s m p is.session asks.asked asks.right)
+    (decision_seen S limits (run S limits (first M next) lines).kept command) told

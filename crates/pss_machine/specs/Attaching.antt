@@ -1,6 +1,7 @@
 -- Where entries are attached, and by what.
 use Rattle.std.specs.Prelude.{ℕ, ◌≡◌, ◌==◌, ◌&&◌, ◌||◌, not, List, Some, Bool, true, false, is_some, IsTrue}
 use Rattle.std.specs.FinMap.{get}
+use Rattle.pss_base.specs.declared.pid.Pid.{Pid}
 use Rattle.pss_base.specs.declared.owner.OwnerNo.{OwnerNo}
 use Rattle.pss_base.specs.declared.session.SessionNo.{SessionNo}
 use Rattle.type_layout.specs.declared.schema.Schema.{Schema}
@@ -130,3 +131,11 @@ UsedAreAttached =
     → IsDoneIn (run S limits (first M next) lines).kept command s
     → IsTrue (is_used command (decision S limits (run S limits (first M next) lines).kept command).reply n)
     → IsTrue (is_attached_at (moved (run S limits (first M next) lines).kept (decision S limits (run S limits (first M next) lines).kept command).effect) s n)
+
+-- in every run the entry that the reply to a data command gives is of the object that it tells of
+abbrev pub GivenAreOfObject : Type 0
+GivenAreOfObject =
+    (S : Schema) (limits : Limits) (M : Catalog) (next : ℕ) (lines : List Said) (command : Command) (s : SessionNo) (n : ℕ) (pid : Pid)
+    → IsDoneIn (run S limits (first M next) lines).kept command s
+    → (decision S limits (run S limits (first M next) lines).kept command).reply ≡ reply.Entry n pid
+    → (e : Entry) × (entry_numbered (copies_of (moved (run S limits (first M next) lines).kept (decision S limits (run S limits (first M next) lines).kept command).effect) s) n ≡ Some e) × (e.pid ≡ pid)

@@ -1,7 +1,7 @@
 // Laws over the definitions, for those that prove something above them.
 ghost use Rattle.pss_machine.specs.Allowed.{EffectsAreAllowed, StepsAreOfOwners};
 ghost use Rattle.pss_machine.specs.AtLimits.{BelowAllLimits, ManyAt256, SerialsAtLast, EntriesAt65535, CommitsAt67108864, FullAt67108865, FlushesAt67108864, FlushFullAt67108865};
-ghost use Rattle.pss_machine.specs.Attaching.{OnlyOpenHaveAttached, OthersStayAttached, OnlyUsedAreAttached, UsedAreAttached, RefreshDetachesCopies};
+ghost use Rattle.pss_machine.specs.Attaching.{OnlyOpenHaveAttached, OthersStayAttached, OnlyUsedAreAttached, UsedAreAttached, GivenAreOfObject, RefreshDetachesCopies};
 ghost use Rattle.pss_machine.specs.Entries.{BodiesAreAlwaysRight, EntriesAreOrderly};
 ghost use Rattle.pss_machine.specs.Laws.{RunsGoOn, RefusalsChangeNothing, FruitlessChangesNoObject};
 ghost use Rattle.pss_machine.specs.Granted.{FruitlessKeepsLocks, MarkedIsRolledBack};
@@ -63,18 +63,19 @@ pub fn numbers_come_once()
 {}
 
 /// In every run only entries of sessions that are basic, active or suspended are attached. After a data command that did
-/// what it was asked for, the entry that it gives with its reply is attached (`create`, `make`, `find`, `pid`, `short`,
-/// `follow`), and so is the one that it names (`get`, `set`, `follow`). Where it was not attached before, it stands in
-/// the view in which the session then sees the object. No other entry comes to be attached, and an attached one stays
-/// so until its body is left: by `end`, `commit` and `rollback` each body of the session or of the transaction's
-/// sessions; by `commit` and `flush` the owner's own ones and the committed ones of what changed; by `set` the older
-/// ones of the object in the owner's sessions, and by `destroy` all of the object in these; by `refresh` the copies of
-/// the session.
+/// what it was asked for, the entry that it gives with its reply (`create`, `make`, `find`, `pid`, `short`, `follow`) is
+/// of the object that the reply tells of. It is attached then, and so is the entry that the command names (`get`, `set`,
+/// `follow`); where one was not attached before, it stands in the view in which the session then sees the object. No
+/// other entry comes to be attached, and an attached one stays so until its body is left: by `end`, `commit` and
+/// `rollback` each body of the session or of the transaction's sessions; by `commit` and `flush` the owner's own ones
+/// and the committed ones of what changed; by `set` the older ones of the object in the owner's sessions, and by
+/// `destroy` all of the object in these; by `refresh` the copies of the session.
 pub fn entries_are_attached()
     ensures in_open { OnlyOpenHaveAttached }
     ensures others { OthersStayAttached }
     ensures used { OnlyUsedAreAttached }
     ensures attached { UsedAreAttached }
+    ensures given { GivenAreOfObject }
     ensures refreshed { RefreshDetachesCopies }
 {}
 

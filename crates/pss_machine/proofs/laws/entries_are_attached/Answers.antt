@@ -17,3 +17,6 @@ returns-clause-refreshed c = refresh_detaches
 
 pub returns-clause-attached : goal.returns-clause-attached
 returns-clause-attached c = used.used_attached
+
+pub returns-clause-given : goal.returns-clause-given
+returns-clause-given c = used.given_for

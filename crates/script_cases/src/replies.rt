@@ -5,34 +5,68 @@ use pss_machine::{Reply, StateName};
 use std::alloc::Global;
 use type_layout::{HomeNo, Names};
 
-// Replies that say no more than their names.
+// Each group of replies that say no more than their names has a function of its own, since a choice among all of them
+// is dear to prove.
+
+fn missing_reply(name: &[u8]) -> Option<Reply> {
+    match name {
+        b"NoSession" => Some(Reply::NoSession),
+        b"NoTransaction" => Some(Reply::NoTransaction),
+        b"NoEntry" => Some(Reply::NoEntry),
+        b"NoHome" => Some(Reply::NoHome),
+        b"NoKey" => Some(Reply::NoKey),
+        _ => None,
+    }
+}
+
+fn unknown_reply(name: &[u8]) -> Option<Reply> {
+    match name {
+        b"NoFactory" => Some(Reply::NoFactory),
+        b"NoMember" => Some(Reply::NoMember),
+        b"NotRef" => Some(Reply::NotRef),
+        b"NotFound" => Some(Reply::NotFound),
+        b"Nil" => Some(Reply::Nil),
+        _ => None,
+    }
+}
+
+fn limit_reply(name: &[u8]) -> Option<Reply> {
+    match name {
+        b"Sessions" => Some(Reply::Sessions),
+        b"Transactions" => Some(Reply::Transactions),
+        b"Many" => Some(Reply::Many),
+        b"Serials" => Some(Reply::Serials),
+        b"Entries" => Some(Reply::Entries),
+        b"Full" => Some(Reply::Full),
+        _ => None,
+    }
+}
+
+fn state_refusal(name: &[u8]) -> Option<Reply> {
+    match name {
+        b"Exists" => Some(Reply::Exists),
+        b"Kind" => Some(Reply::Kind),
+        b"NoTx" => Some(Reply::NoTx),
+        b"ReadOnly" => Some(Reply::ReadOnly),
+        _ => None,
+    }
+}
+
+fn end_reply(name: &[u8]) -> Option<Reply> {
+    match name {
+        b"Done" => Some(Reply::Done),
+        b"TooLarge" => Some(Reply::TooLarge),
+        b"RolledBack" => Some(Reply::RolledBack),
+        _ => None,
+    }
+}
+
 fn plain_reply(name: &[u8]) -> Option<Reply> {
-    Some(match name {
-        b"Done" => Reply::Done,
-        b"NoSession" => Reply::NoSession,
-        b"NoTransaction" => Reply::NoTransaction,
-        b"Exists" => Reply::Exists,
-        b"Sessions" => Reply::Sessions,
-        b"Transactions" => Reply::Transactions,
-        b"Kind" => Reply::Kind,
-        b"NoTx" => Reply::NoTx,
-        b"NoEntry" => Reply::NoEntry,
-        b"NoHome" => Reply::NoHome,
-        b"NoKey" => Reply::NoKey,
-        b"NoFactory" => Reply::NoFactory,
-        b"NoMember" => Reply::NoMember,
-        b"NotRef" => Reply::NotRef,
-        b"ReadOnly" => Reply::ReadOnly,
-        b"Many" => Reply::Many,
-        b"Serials" => Reply::Serials,
-        b"Entries" => Reply::Entries,
-        b"NotFound" => Reply::NotFound,
-        b"Nil" => Reply::Nil,
-        b"TooLarge" => Reply::TooLarge,
-        b"RolledBack" => Reply::RolledBack,
-        b"Full" => Reply::Full,
-        _ => return None,
-    })
+    missing_reply(name)
+        .or(unknown_reply(name))
+        .or(limit_reply(name))
+        .or(state_refusal(name))
+        .or(end_reply(name))
 }
 
 // Replies with a text behind them.
@@ -140,54 +174,81 @@ fn names_of(alloc: Global, parts: &[u8]) -> Result<Names, NoMemory> {
     Ok(names)
 }
 
-// Replies with a number, and maybe more behind it.
-fn counted_reply(alloc: Global, name: &[u8], parts: &[u8]) -> Result<Option<Reply>, NoMemory> {
-    let (number, rest) = split_word(parts);
-    let Some(count) = number_of(number) else {
-        return Ok(None);
-    };
-    Ok(match name {
-        b"Count" => Some(Reply::Count(count)),
-        b"List" => Some(Reply::List {
-            count,
-            pids: pids_of(alloc, rest)?,
-        }),
-        _ => Some(Reply::History {
-            commits: count,
-            members: names_of(alloc, rest)?,
-        }),
-    })
+// Replies with a number.
+fn number_reply(name: &[u8], parts: &[u8]) -> Option<Reply> {
+    match name {
+        b"Count" => Some(Reply::Count(number_of(parts)?)),
+        b"Err" => Some(Reply::Err(short_number_of(parts)?)),
+        b"BadValue" => Some(Reply::BadValue(short_number_of(parts)?)),
+        _ => None,
+    }
 }
 
-// Replies with a number of 32 bits, and maybe a name behind it.
-fn numbered_reply(alloc: Global, name: &[u8], parts: &[u8]) -> Result<Option<Reply>, NoMemory> {
-    let (word, rest) = split_word(parts);
-    let Some(number) = short_number_of(word) else {
-        return Ok(None);
-    };
-    Ok(match name {
-        b"Err" => Some(Reply::Err(number)),
-        b"BadValue" => Some(Reply::BadValue(number)),
-        _ => Some(Reply::HomeFound {
+fn other_reply(name: &[u8], parts: &[u8]) -> Option<Reply> {
+    match name {
+        b"Entry" => entry_reply(parts),
+        b"Truth" => truth_reply(parts),
+        b"State" => state_reply(parts),
+        b"Stat" => Some(stat_reply(parts)),
+        _ => None,
+    }
+}
+
+fn home_reply(alloc: Global, parts: &[u8]) -> Result<Option<Reply>, NoMemory> {
+    let (number, name) = split_word(parts);
+    match short_number_of(number) {
+        Some(number) => Ok(Some(Reply::HomeFound {
             home: HomeNo(number),
-            name: own(alloc, rest)?,
-        }),
-    })
+            name: own(alloc, name)?,
+        })),
+        None => Ok(None),
+    }
+}
+
+fn list_reply(alloc: Global, parts: &[u8]) -> Result<Option<Reply>, NoMemory> {
+    let (number, rest) = split_word(parts);
+    match number_of(number) {
+        Some(count) => Ok(Some(Reply::List {
+            count,
+            pids: pids_of(alloc, rest)?,
+        })),
+        None => Ok(None),
+    }
+}
+
+fn history_reply(alloc: Global, parts: &[u8]) -> Result<Option<Reply>, NoMemory> {
+    let (number, rest) = split_word(parts);
+    match number_of(number) {
+        Some(commits) => Ok(Some(Reply::History {
+            commits,
+            members: names_of(alloc, rest)?,
+        })),
+        None => Ok(None),
+    }
+}
+
+fn named_text_reply(alloc: Global, name: &[u8], text: &[u8]) -> Result<Option<Reply>, NoMemory> {
+    Ok(text_reply(name, own(alloc, text)?))
+}
+
+// Replies that take memory.
+fn owning_reply(alloc: Global, name: &[u8], parts: &[u8]) -> Result<Option<Reply>, NoMemory> {
+    match name {
+        b"HomeFound" => home_reply(alloc, parts),
+        b"List" => list_reply(alloc, parts),
+        b"History" => history_reply(alloc, parts),
+        _ => named_text_reply(alloc, name, parts),
+    }
 }
 
 /// The reply of a name with its parts, in the order of its declaration; none where there is no such reply.
 pub fn reply_of(alloc: Global, name: &[u8], parts: &[u8]) -> Result<Option<Reply>, NoMemory> {
-    match name {
-        b"Val" | b"Assoc" | b"StillOpen" | b"Busy" | b"Duplicate" => {
-            Ok(text_reply(name, own(alloc, parts)?))
-        }
-        b"Reference" | b"PidAndShort" | b"Gone" => Ok(object_reply(name, parts)),
-        b"Count" | b"List" | b"History" => counted_reply(alloc, name, parts),
-        b"Err" | b"BadValue" | b"HomeFound" => numbered_reply(alloc, name, parts),
-        b"Entry" => Ok(entry_reply(parts)),
-        b"Truth" => Ok(truth_reply(parts)),
-        b"State" => Ok(state_reply(parts)),
-        b"Stat" => Ok(Some(stat_reply(parts))),
-        _ => Ok(plain_reply(name)),
+    let plain = plain_reply(name).or(object_reply(name, parts));
+    let reply = plain
+        .or(number_reply(name, parts))
+        .or(other_reply(name, parts));
+    match reply {
+        Some(reply) => Ok(Some(reply)),
+        None => owning_reply(alloc, name, parts),
     }
 }

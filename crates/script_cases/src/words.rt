@@ -1,7 +1,6 @@
 // The words of a case, and what they stand for.
 use pss_base::{Bytes, NoMemory, hex_value};
 use std::alloc::Global;
-use std::str::from_utf8;
 
 /// The first word of a text, and what is behind the space after it.
 pub fn split_word(text: &[u8]) -> (&[u8], &[u8]) {
@@ -11,9 +10,18 @@ pub fn split_word(text: &[u8]) -> (&[u8], &[u8]) {
     }
 }
 
-/// The number of a word.
+/// The number of a word of decimal digits.
 pub fn number_of(word: &[u8]) -> Option<u64> {
-    from_utf8(word).ok()?.parse::<u64>().ok()
+    let mut number: u64 = 0;
+    for digit in word {
+        if !digit.is_ascii_digit() {
+            return None;
+        }
+        number = number
+            .checked_mul(10)?
+            .checked_add(u64::from(*digit - b'0'))?;
+    }
+    Some(number)
 }
 
 /// The same, of 32 bits.

@@ -14,6 +14,7 @@ LONGEST = 600
 PROGRAMS = {
     "link_pool": b"link_pool: 19302 operations, 0 differences\n",
     "key_index": b"key_index: 78942 operations, 0 differences\n",
+    "lock_table": b"lock_table: 66353 operations, 0 differences\n",
 }
 
 
@@ -27,7 +28,7 @@ def workspace(folder):
         for part in ("src", "specs", "proofs"):
             shutil.copytree(os.path.join(top, "crates", library, part), os.path.join(crates, library, part))
     for name in PROGRAMS:
-        lines.append(f"{name}_table: pss_base {name}\n")
+        lines.append(f"{name}_table: {' '.join(sorted(below(name, libraries)))}\n")
         source = os.path.join(crates, f"{name}_table", "src")
         os.makedirs(source)
         shutil.copy(os.path.join(here, "tables", f"{name}.txt"), os.path.join(source, "main.rt"))

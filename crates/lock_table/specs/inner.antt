@@ -1,0 +1,4 @@
+pub mod Tables
+pub mod Nodes
+pub mod Walks
+pub mod Links

@@ -1,0 +1,53 @@
+// What is held and who holds up whom, by walks of the rows of needs alone.
+ghost use Rattle.std.specs.Prelude.{◌≡◌, ◌∷◌, []};
+ghost use Rattle.std.specs.FinSet as set;
+ghost use Rattle.lock_table.specs.Locks.{held_by, blocker};
+ghost use Rattle.lock_table.specs.inner.Nodes.{held_in};
+ghost use Rattle.lock_table.specs.inner.Links.{IsLinked, place_at};
+
+use crate::links::{Links, Place};
+use crate::tables::find;
+use crate::walks::{is_in_row, least_against, lesser};
+use pss_base::OwnerNo;
+use pss_machine::{Mode, Need, Resource};
+
+/// Where the locks on a resource stand, if it has a row.
+pub fn place_of(links: &Links, resource: &Resource) -> Option<Place>
+    ensures { result ≡ place_at links.now resource.now }
+{
+    find(&links.places, resource)
+}
+
+/// Whether an owner has locked a resource in a mode.
+pub fn is_held(links: &Links, owner: OwnerNo, resource: &Resource, mode: Mode) -> bool
+    requires { IsLinked links.now }
+    ensures { result ≡ set.contains (held_by (held_in links.now.pool) owner) (record { resource = resource.now; mode = mode }) }
+{
+    match place_of(links, resource) {
+        Some(place) => is_in_row(&links.pool, place.row, owner, mode),
+        None => false,
+    }
+}
+
+/// The least other owner with a lock that clashes with one need.
+fn blocker_of_one(links: &Links, owner: OwnerNo, need: &Need) -> Option<OwnerNo>
+    requires { IsLinked links.now }
+    ensures { result ≡ blocker (held_in links.now.pool) owner (need.now ∷ []) }
+{
+    match place_of(links, &need.resource) {
+        Some(place) => least_against(&links.pool, place.row, owner, need.mode),
+        None => None,
+    }
+}
+
+/// The least other owner with a lock that clashes with one of the needs.
+pub fn blocker_of(links: &Links, owner: OwnerNo, needs: &[Need]) -> Option<OwnerNo>
+    requires { IsLinked links.now }
+    ensures { result ≡ blocker (held_in links.now.pool) owner needs.now }
+{
+    let mut least = None;
+    for need in needs {
+        least = lesser(least, blocker_of_one(links, owner, need));
+    }
+    least
+}

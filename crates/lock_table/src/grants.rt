@@ -1,0 +1,210 @@
+// Locks come in: copies and rings first, where memory may lack, and then the nodes.
+ghost use Rattle.std.specs.Prelude.{◌≡◌, ◌+◌, ◌-◌, ◌^◌, ◌≤◌, ◌<◌, ◌++◌, ◌∷◌, [], List, length, map, min, true, false, Some, None, IsSome, IfOk, OnOk, Contains};
+ghost use Rattle.pss_machine.specs.declared.lock.Resource.{Resource};
+ghost use Rattle.pss_base.specs.declared.owner.OwnerNo.{OwnerNo};
+ghost use Rattle.lock_table.specs.declared.links.Lock.{Lock};
+ghost use Rattle.std.specs.FinSet as set;
+ghost use Rattle.lock_table.specs.Locks.{held_by};
+ghost use Rattle.lock_table.specs.Standing.{lock_of, need_of};
+ghost use Rattle.lock_table.specs.inner.Nodes.{held_in, with_all, missing};
+ghost use Rattle.lock_table.specs.inner.Links.{IsLinked, IsReady, IsWhole, HaveRings, Grows, SameNodes, Recounts, LinksOne, EmptyRows, EmptyCols, resources, owners, place_at, row_at, col_at};
+
+use crate::asks::{is_held, place_of};
+use crate::copies::{copy, lock_for};
+use crate::links::{Links, Lock, Place};
+use crate::rings::{drop_empty_column, drop_empty_place};
+use crate::tables;
+use link_pool::{Col, Row};
+use pss_base::{NoMemory, OwnerNo};
+use pss_machine::{Need, Resource};
+use std::alloc::Global;
+
+// Puts a copy last.
+fn push_lock(locks: &mut Vec<Lock>, owner: OwnerNo, need: &Need) -> Result<(), NoMemory>
+    ensures { OnOk result (locks.new.items ≡ locks.old.items ++ lock_of owner need.now ∷ []) }
+{
+    locks.push(lock_for(owner, need)?)?;
+    Ok(())
+}
+
+/// The locks that an owner needs and does not have, as often as they are needed.
+pub fn missing_locks(
+    alloc: Global,
+    links: &Links,
+    owner: OwnerNo,
+    needs: &[Need],
+) -> Result<Vec<Lock>, NoMemory>
+    requires { IsLinked links.now }
+    ensures { IfOk result (λ locks. locks.items ≡ map (lock_of owner) (missing (held_in links.now.pool) owner needs.now)) }
+{
+    let mut locks = Vec::new(alloc);
+    for need in needs {
+        if !is_held(links, owner, &need.resource, need.mode) {
+            push_lock(&mut locks, owner, need)?;
+        }
+    }
+    Ok(locks)
+}
+
+// Adds an empty row for a resource that has none.
+fn add_place(links: &mut Links, resource: Resource) -> Result<(), NoMemory>
+    requires { place_at links.old resource ≡ None }
+    ensures grows { Grows links.old links.new }
+    ensures ready { (locks : List Lock) → Contains (resources locks) resource → IsReady links.old locks → IsReady links.new locks }
+    ensures ok { OnOk result (IsSome (place_at links.new resource)) }
+{
+    tables::reserve(&mut links.places)?;
+    let row = links.pool.add_row()?;
+    tables::put(&mut links.places, resource, Place { row, locks: 0 });
+    Ok(())
+}
+
+// Adds an empty column for an owner that has none.
+fn add_column(links: &mut Links, owner: OwnerNo) -> Result<Col, NoMemory>
+    requires { col_at links.old owner ≡ None }
+    ensures grows { Grows links.old links.new }
+    ensures ready { (locks : List Lock) → Contains (owners locks) owner → IsReady links.old locks → IsReady links.new locks }
+    ensures ok { IfOk result (λ col. col_at links.new owner ≡ Some col) }
+{
+    tables::reserve(&mut links.columns)?;
+    let col = links.pool.add_col()?;
+    tables::put(&mut links.columns, owner, col);
+    Ok(col)
+}
+
+// Sees to it that a resource has a row.
+fn make_place(links: &mut Links, resource: &Resource) -> Result<(), NoMemory>
+    ensures grows { Grows links.old links.new }
+    ensures ready { (locks : List Lock) → Contains (resources locks) resource.now → IsReady links.old locks → IsReady links.new locks }
+    ensures ok { OnOk result (IsSome (place_at links.new resource.now)) }
+{
+    match place_of(links, resource) {
+        Some(_) => Ok(()),
+        None => add_place(links, copy(resource)?),
+    }
+}
+
+// Sees to it that an owner has a column.
+fn make_column(links: &mut Links, owner: OwnerNo) -> Result<Col, NoMemory>
+    ensures grows { Grows links.old links.new }
+    ensures ready { (locks : List Lock) → Contains (owners locks) owner → IsReady links.old locks → IsReady links.new locks }
+    ensures ok { IfOk result (λ col. col_at links.new owner ≡ Some col) }
+{
+    match tables::find(&links.columns, &owner) {
+        Some(col) => Ok(col),
+        None => add_column(links, owner),
+    }
+}
+
+// Sees to it that each lock has its row.
+fn make_places(links: &mut Links, locks: &[Lock]) -> Result<(), NoMemory>
+    requires { IsReady links.old locks.now }
+    ensures grows { Grows links.old links.new }
+    ensures ready { IsReady links.new locks.now }
+    ensures ok { OnOk result ((lock : Lock) → Contains locks.now lock → IsSome (place_at links.new lock.resource)) }
+{
+    for at in 0..locks.len() {
+        make_place(links, &locks[at].resource)?;
+    }
+    Ok(())
+}
+
+/// Makes rings and room for locks of an owner, and answers the owner's column. Also without memory there may be empty rings.
+pub fn make_rings(links: &mut Links, owner: OwnerNo, locks: &[Lock]) -> Result<Col, NoMemory>
+    requires ready { IsReady links.old locks.now }
+    requires own { (lock : Lock) → Contains locks.now lock → lock.owner ≡ owner }
+    requires some { 0 < length locks.now }
+    ensures nodes { SameNodes links.old links.new }
+    ensures ready { IsReady links.new locks.now }
+    ensures rings { IfOk result (λ col. HaveRings links.new col locks.now) }
+    ensures room { OnOk result (length locks.now ≤ links.new.pool.room) }
+{
+    make_places(links, locks)?;
+    let col = make_column(links, owner)?;
+    links.pool.reserve(locks.len())?;
+    Ok(col)
+}
+
+/// Takes the empty rings away that were made for locks of an owner.
+pub fn drop_empty_rings(links: &mut Links, owner: OwnerNo, locks: &[Lock])
+    requires ready { IsReady links.old locks.now }
+    requires own { (lock : Lock) → Contains locks.now lock → lock.owner ≡ owner }
+    ensures nodes { SameNodes links.old links.new }
+    ensures whole { IsWhole links.new }
+{
+    drop_empty_places(links, locks);
+    drop_empty_column(links, owner);
+}
+
+// Takes the empty rows away that were made for locks.
+fn drop_empty_places(links: &mut Links, locks: &[Lock])
+    requires linked { IsLinked links.old }
+    requires rows { EmptyRows links.old (resources locks.now) }
+    ensures nodes { SameNodes links.old links.new }
+    ensures linked { IsLinked links.new }
+    ensures rows { EmptyRows links.new [] }
+    ensures cols { (keys : List OwnerNo) → EmptyCols links.old keys → EmptyCols links.new keys }
+{
+    for at in 0..locks.len() {
+        drop_empty_place(links, &locks[at].resource);
+    }
+}
+
+// Counts one lock more on a resource that has a row, and answers the row.
+fn count_up(links: &mut Links, resource: &Resource) -> Row
+    requires { IsSome (place_at links.old resource.now) }
+    ensures row { row_at links.old resource.now ≡ Some result }
+    ensures recounts { Recounts links.old links.new resource.now (λ n. min (n + 1) (2 ^ 64 - 1)) }
+{
+    match links.places.get_mut(resource) {
+        Some(place) => {
+            place.locks = place.locks.saturating_add(1);
+            place.row
+        }
+        None => unreachable!(),
+    }
+}
+
+// Links a lock in its rings.
+fn insert(links: &mut Links, col: Col, lock: Lock)
+    requires linked { IsLinked links.old }
+    requires place { IsSome (place_at links.old lock.resource) }
+    requires col { col_at links.old lock.owner ≡ Some col }
+    requires room { 0 < links.old.pool.room }
+    requires new { set.contains (held_by (held_in links.old.pool) lock.owner) (need_of lock) ≡ false }
+    ensures linked { IsLinked links.new }
+    ensures links { LinksOne links.old links.new lock }
+{
+    let row = count_up(links, &lock.resource);
+    let _ = links.pool.insert_reserved(row, col, lock);
+    links.pool.rings_hold();
+    links.held += 1;
+}
+
+// Links a lock in its rings, unless its owner has it.
+fn link(links: &mut Links, col: Col, lock: Lock)
+    requires linked { IsLinked links.old }
+    requires place { IsSome (place_at links.old lock.resource) }
+    requires col { col_at links.old lock.owner ≡ Some col }
+    requires room { 0 < links.old.pool.room }
+    ensures linked { IsLinked links.new }
+    ensures links { LinksOne links.old links.new lock }
+{
+    if !is_held(links, lock.owner, &lock.resource, lock.mode) {
+        insert(links, col, lock);
+    }
+}
+
+/// Links locks in their rings, each where its owner has it not yet.
+pub fn link_all(links: &mut Links, col: Col, locks: Vec<Lock>)
+    requires ready { IsReady links.old locks.items }
+    requires rings { HaveRings links.old col locks.items }
+    requires room { length locks.items ≤ links.old.pool.room }
+    ensures whole { IsWhole links.new }
+    ensures held { held_in links.new.pool ≡ with_all locks.items (held_in links.old.pool) }
+{
+    let mut rest = locks;
+    while let Some(lock) = rest.pop() {
+        link(links, col, lock);
+    }
+}

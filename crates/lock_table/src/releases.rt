@@ -1,0 +1,86 @@
+// Locks go out: from the front of an owner's column, each with one step.
+ghost use Rattle.std.specs.Prelude.{◌≡◌, ◌+◌, ◌-◌, ◌≤◌, ◌∷◌, [], Some, None, IsSome, MatchOption, true, false, if◌then◌else◌};
+ghost use Rattle.std.specs.FinMap as map;
+ghost use Rattle.std.specs.FinSet as set;
+ghost use Rattle.lock_table.specs.Locks.{held_by, released};
+ghost use Rattle.lock_table.specs.inner.Nodes.{held_in};
+ghost use Rattle.lock_table.specs.inner.Links.{IsLinked, IsWhole, IsReleasing, SameNodes, Recounts, Unlinks, place_at, col_at};
+
+use crate::links::{Links, Lock, Place};
+use crate::rings::{drop_empty_row, remove_column};
+use crate::tables;
+use link_pool::Col;
+use pss_base::{OwnerNo, Steps};
+use pss_machine::Resource;
+use std::sync::ledger::Ledger;
+
+// Counts one lock fewer on a resource that has a row, and answers what is left.
+fn count_down(links: &mut Links, resource: &Resource) -> Place
+    requires { IsSome (place_at links.old resource.now) }
+    ensures place { place_at links.new resource.now ≡ Some result }
+    ensures recounts { Recounts links.old links.new resource.now (λ n. n - 1) }
+{
+    match links.places.get_mut(resource) {
+        Some(place) => {
+            place.locks = place.locks.saturating_sub(1);
+            *place
+        }
+        None => unreachable!(),
+    }
+}
+
+// Takes the first lock of a column out of its rings, and answers it with what is left of its row. None where the column is
+// empty. One step.
+fn unlink_first<L: Ledger>(
+    links: &mut Links,
+    col: Col,
+    steps: &mut Steps<L>,
+) -> Option<(Lock, Place)>
+    requires linked { IsLinked links.old }
+    requires col { IsSome (map.get links.old.pool.cols col) }
+    ensures linked { IsLinked links.new }
+    ensures unlinks { MatchOption result ((links.new ≡ links.old) × (map.get links.new.pool.cols col ≡ Some [])) (λ r. Unlinks links.old links.new col r.0 r.1) }
+    ensures steps { steps.new ≡ steps.old + 1 }
+{
+    let (_, lock) = links.pool.take_first_of_col(col, steps)?;
+    let place = count_down(links, &lock.resource);
+    links.held -= 1;
+    Some((lock, place))
+}
+
+// Takes the first lock of an owner out of its rings. False where there is none left. One step.
+fn release_first<L: Ledger>(
+    links: &mut Links,
+    owner: OwnerNo,
+    col: Col,
+    steps: &mut Steps<L>,
+) -> bool
+    requires { IsReleasing links.old owner col }
+    ensures still { IsReleasing links.new owner col }
+    ensures others { released (held_in links.new.pool) owner ≡ released (held_in links.old.pool) owner }
+    ensures fewer { set.len (held_by (held_in links.new.pool) owner) + (if result then 1 else 0) ≡ set.len (held_by (held_in links.old.pool) owner) }
+    ensures end { result ≡ false → map.get links.new.pool.cols col ≡ Some [] }
+    ensures steps { steps.new ≡ steps.old + 1 }
+{
+    match unlink_first(links, col, steps) {
+        Some((lock, place)) => {
+            drop_empty_row(links, &lock.resource, place);
+            true
+        }
+        None => false,
+    }
+}
+
+/// Takes all locks of an owner out.
+pub fn release<L: Ledger>(links: &mut Links, owner: OwnerNo, steps: &mut Steps<L>)
+    requires { IsWhole links.old }
+    ensures whole { IsWhole links.new }
+    ensures held { held_in links.new.pool ≡ released (held_in links.old.pool) owner }
+    ensures each { steps.old + set.len (held_by (held_in links.old.pool) owner) ≤ steps.new }
+    ensures at_most { steps.new ≤ steps.old + set.len (held_by (held_in links.old.pool) owner) + 1 }
+{
+    if let Some(col) = tables::find(&links.columns, &owner) {
+        while release_first(links, owner, col, steps) {}
+        remove_column(links, owner, col);
+    }
+}

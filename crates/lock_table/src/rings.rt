@@ -1,0 +1,86 @@
+// Empty rings go.
+ghost use Rattle.std.specs.Prelude.{◌≡◌, ◌∷◌, [], List, Some};
+ghost use Rattle.std.specs.FinMap as map;
+ghost use Rattle.pss_machine.specs.declared.lock.Resource.{Resource};
+ghost use Rattle.pss_base.specs.declared.owner.OwnerNo.{OwnerNo};
+ghost use Rattle.lock_table.specs.inner.Links.{IsLinked, SameNodes, EmptyRows, EmptyCols, place_at, row_at, col_at};
+
+use crate::asks::place_of;
+use crate::links::{Links, Place};
+use crate::tables;
+use link_pool::{Col, Row};
+use pss_base::OwnerNo;
+use pss_machine::Resource;
+
+// Takes the row of a resource away, which is empty.
+fn remove_place(links: &mut Links, resource: &Resource, row: Row)
+    requires linked { IsLinked links.old }
+    requires row { row_at links.old resource.now ≡ Some row }
+    requires empty { map.get links.old.pool.rows row ≡ Some [] }
+    ensures nodes { SameNodes links.old links.new }
+    ensures columns { links.new.columns.entries ≡ links.old.columns.entries }
+    ensures linked { IsLinked links.new }
+    ensures rows { (keys : List Resource) → EmptyRows links.old (resource.now ∷ keys) → EmptyRows links.new keys }
+    ensures cols { (keys : List OwnerNo) → EmptyCols links.old keys → EmptyCols links.new keys }
+{
+    tables::remove(&mut links.places, resource);
+    links.pool.remove_row(row);
+}
+
+/// Takes the column of an owner away, which is empty.
+pub fn remove_column(links: &mut Links, owner: OwnerNo, col: Col)
+    requires linked { IsLinked links.old }
+    requires col { col_at links.old owner ≡ Some col }
+    requires empty { map.get links.old.pool.cols col ≡ Some [] }
+    ensures nodes { SameNodes links.old links.new }
+    ensures linked { IsLinked links.new }
+    ensures rows { (keys : List Resource) → EmptyRows links.old keys → EmptyRows links.new keys }
+    ensures cols { (keys : List OwnerNo) → EmptyCols links.old (owner ∷ keys) → EmptyCols links.new keys }
+{
+    tables::remove(&mut links.columns, &owner);
+    links.pool.remove_col(col);
+}
+
+/// Takes the row of a resource away if it is empty, which its place tells.
+pub fn drop_empty_row(links: &mut Links, resource: &Resource, place: Place)
+    requires linked { IsLinked links.old }
+    requires place { place_at links.old resource.now ≡ Some place }
+    ensures nodes { SameNodes links.old links.new }
+    ensures columns { links.new.columns.entries ≡ links.old.columns.entries }
+    ensures linked { IsLinked links.new }
+    ensures rows { (keys : List Resource) → EmptyRows links.old (resource.now ∷ keys) → EmptyRows links.new keys }
+    ensures cols { (keys : List OwnerNo) → EmptyCols links.old keys → EmptyCols links.new keys }
+{
+    if place.locks == 0 {
+        remove_place(links, resource, place.row);
+    }
+}
+
+/// Takes the row of a resource away where it has one that is empty.
+pub fn drop_empty_place(links: &mut Links, resource: &Resource)
+    requires { IsLinked links.old }
+    ensures nodes { SameNodes links.old links.new }
+    ensures linked { IsLinked links.new }
+    ensures rows { (keys : List Resource) → EmptyRows links.old (resource.now ∷ keys) → EmptyRows links.new keys }
+    ensures cols { (keys : List OwnerNo) → EmptyCols links.old keys → EmptyCols links.new keys }
+{
+    if let Some(place) = place_of(links, resource) {
+        drop_empty_row(links, resource, place);
+    }
+}
+
+/// Takes the column of an owner away where it has one that is empty.
+pub fn drop_empty_column(links: &mut Links, owner: OwnerNo)
+    requires { IsLinked links.old }
+    ensures nodes { SameNodes links.old links.new }
+    ensures linked { IsLinked links.new }
+    ensures rows { (keys : List Resource) → EmptyRows links.old keys → EmptyRows links.new keys }
+    ensures cols { (keys : List OwnerNo) → EmptyCols links.old (owner ∷ keys) → EmptyCols links.new keys }
+{
+    if let Some(col) = tables::find(&links.columns, &owner) {
+        match links.pool.first_of_col_uncounted(col) {
+            Some(_) => {}
+            None => remove_column(links, owner, col),
+        }
+    }
+}

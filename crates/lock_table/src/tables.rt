@@ -1,0 +1,53 @@
+// Tables by hash.
+ghost use Rattle.std.specs.Prelude.{◌≡◌, ◌≤◌, ◌<◌, [], Some, None, IsSome, OnOk, OnErr};
+ghost use Rattle.indexmap.specs.IndexMap.{spare};
+ghost use Rattle.lock_table.specs.inner.Tables.{entry_at, Turns};
+
+use indexmap::IndexMap;
+use pss_base::NoMemory;
+use std::alloc::Global;
+use std::hash::{BuildHasherDefault, DefaultHasher, Hash};
+
+/// Values by key. A stranger may choose the keys.
+pub type Table<K, V> = IndexMap<K, V, BuildHasherDefault<DefaultHasher>>;
+
+/// A table with no entry. It takes no memory.
+pub fn empty<K: Eq + Hash, V>(alloc: Global) -> Table<K, V>
+    ensures { result.entries ≡ [] }
+{
+    IndexMap::with_hasher(alloc, BuildHasherDefault::new())
+}
+
+/// The value of a key, where it has one.
+pub fn find<K: Eq + Hash, V: Copy>(table: &Table<K, V>, key: &K) -> Option<V>
+    ensures { result ≡ entry_at K.eq table.now.entries key.now }
+{
+    table.get(key).copied()
+}
+
+/// Makes room for one more entry. Without memory the entries are as before.
+pub fn reserve<K: Eq + Hash, V>(table: &mut Table<K, V>) -> Result<(), NoMemory>
+    ensures entries { table.new.entries ≡ table.old.entries }
+    ensures ok { OnOk result (0 < spare table.new) }
+{
+    table.reserve(1)?;
+    Ok(())
+}
+
+/// Sets the value of a key, for which there is room. It takes no memory.
+pub fn put<K: Eq + Hash + Drop, V: Drop>(table: &mut Table<K, V>, key: K, value: V)
+    requires { 0 < spare table.old }
+    ensures { Turns K.eq table.old.entries table.new.entries key (Some value) }
+{
+    match table.insert(key, value) {
+        Ok(_) => {}
+        Err(_) => unreachable!(),
+    }
+}
+
+/// Takes the entry of a key away.
+pub fn remove<K: Eq + Hash + Drop, V: Drop>(table: &mut Table<K, V>, key: &K)
+    ensures { Turns K.eq table.old.entries table.new.entries key.now None }
+{
+    let _ = table.swap_remove(key);
+}

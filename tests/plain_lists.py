@@ -15,6 +15,7 @@ PROGRAMS = {
     "link_pool": b"link_pool: 19302 operations, 0 differences\n",
     "key_index": b"key_index: 78942 operations, 0 differences\n",
     "lock_table": b"lock_table: 66353 operations, 0 differences\n",
+    "incarnations": b"incarnations: 165861 operations, 0 differences\n",
 }
 
 

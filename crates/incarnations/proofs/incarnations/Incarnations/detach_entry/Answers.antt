@@ -1,0 +1,34 @@
+use Rattle.std.proofs.Common.{ℕ, ◌≡◌, ◌<◌, ◌≤◌, ◌+◌, ◌-◌, inl, inr, Bool, true, false, Option, Some, None, IsSome, refl, sym, ap, ◌∙◌, subst, arith}
+use Rattle.std.specs.Prelude.{IsSomeAnd, IfSome, MatchOption, is_some}
+use Rattle.std.specs.Option.{option_map, option_and_then}
+use Rattle.std.specs.FinMap as map
+use Rattle.std.specs.FinMap.{get, insert}
+use Rattle.incarnations.specs.declared.names.Entry.{Entry}
+use Rattle.incarnations.specs.declared.names.EntryRecord.{EntryRecord}
+use Rattle.incarnations.specs.Maps.{each, count}
+use Rattle.incarnations.specs.Meaning.{Meaning, entry_at, slot, body, with_count, with_view, with_entry, attached, rewritten, length_of, Leaves, loosened, freed, both, of_session, on_body, in_view, HasNoEntry, IsNew, IsAgain, IsObtained, IsReleased, IsGone}
+use Rattle.incarnations.specs.Stock.{meaning_of}
+use Rattle.incarnations.proofs.Maps.{no_value, one_value, get_each, len_each}
+use Rattle.incarnations.proofs.Seen.{no_object, object_entry, loose_entry, other_view, left_view}
+use Rattle.incarnations.proofs.incarnations.Incarnations.detach_entry.Goals as goal
+
+pub returns-in_default-clause-left : goal.returns-in_default-clause-left
+returns-in_default-clause-left g c = subst (λ m. Leaves (loosened (both (of_session c.args.session) (on_body (body c.args.pid c.args.view)))) m m) c.self.view_is (no_object c.self.inside.stock c.self.invariant c.args.session c.args.pid c.args.view c.in_default.ensures)
+
+pub unreachable-requires : goal.unreachable-requires
+unreachable-requires g c = object_entry c.self.inside.stock c.self.invariant c.args.session c.args.pid c.args.view c.in-Some.number c.in-Some.ensures c.in_default-get.ensures
+
+pub loosen-requires-clause-entry : goal.loosen-requires-clause-entry
+loosen-requires-clause-entry g c = sym c.in-Some-get.ensures
+
+pub returns-then-is_asked-clause-left : goal.returns-then-is_asked-clause-left
+returns-then-is_asked-clause-left g c =
+    subst (λ m. Leaves (loosened (both (of_session c.args.session) (on_body (body c.args.pid c.args.view)))) m (meaning_of c.loosen.new.stock)) c.self.view_is
+    (left_view c.self.inside.stock c.self.invariant c.args.session c.args.pid c.args.view c.in-Some.number c.in-Some.ensures c.in-Some-get.was c.in-Some-get.ensures c.in-Some-view.stood c.in-Some-view.is (sym c.is_asked.ensures ∙ c.if-is_asked.true) c.loosen.new.stock c.loosen.ensures.sound c.loosen.ensures.entries)
+
+pub returns-else-is_asked-clause-left : goal.returns-else-is_asked-clause-left
+returns-else-is_asked-clause-left g c =
+    subst (λ m. Leaves (loosened (both (of_session c.args.session) (on_body (body c.args.pid c.args.view)))) m m) c.self.view_is (other_view c.self.inside.stock c.self.invariant c.args.session c.args.pid c.args.view c.in-Some.number c.in-Some.ensures c.in-Some-get.was c.in-Some-get.ensures c.in-Some-view.stood c.in-Some-view.is (sym c.is_asked.ensures ∙ c.if-is_asked.false))
+
+pub returns-in_default-view-clause-left : goal.returns-in_default-view-clause-left
+returns-in_default-view-clause-left g c = subst (λ m. Leaves (loosened (both (of_session c.args.session) (on_body (body c.args.pid c.args.view)))) m m) c.self.view_is (loose_entry c.self.inside.stock c.self.invariant c.args.session c.args.pid c.args.view c.in-Some.number c.in-Some.ensures c.in-Some-get.was c.in-Some-get.ensures c.in_default-view.is)

@@ -1,0 +1,67 @@
+use Rattle.std.proofs.Common.{◌≡◌, ◌-◌, None, Some, IsSome, sym, ap, ◌∙◌, subst, arith}
+use Rattle.std.specs.Option.{option_map}
+use Rattle.std.specs.FinMap.{FinMap, get}
+use Rattle.incarnations.specs.declared.names.EntryRecord.{EntryRecord}
+use Rattle.incarnations.specs.Keys.{slot_cmp}
+use Rattle.incarnations.specs.Meaning.{body}
+use Rattle.incarnations.specs.Stock.{Loose, IsLowered}
+use Rattle.incarnations.proofs.Maps.{no_value}
+use Rattle.incarnations.proofs.Sets.{some, entry_is, node_there, home_there}
+use Rattle.incarnations.proofs.Loosened.{moved_stock, lower_body, some_attached, sound_after, set_after, rows_after, sessions_after, turned_after}
+use Rattle.incarnations.proofs.loosening.loosen.Goals as goal
+use Rattle.incarnations.proofs.loosening.loosen.Goals.{After-lower}
+
+pub unreachable-requires : goal.unreachable-requires
+unreachable-requires c = let h = home_there c.args.stock.now c.requires.sound c.args.slot c.args.was c.requires.entry in no_value h.value (c.in_default.ensures ∙ h.is)
+
+pub move_node-node-requires-clause-node : goal.move_node-node-requires-clause-node
+move_node-node-requires-clause-node c = node_there c.args.stock.now c.requires.sound c.args.slot c.args.was c.requires.entry
+
+pub move_node-node-requires-clause-row : goal.move_node-node-requires-clause-row
+move_node-node-requires-clause-row c = c.requires.sound.rows.there (Loose c.args.slot.session) c.in-Some.home.row (ap (option_map (λ r. r.row)) (sym c.in-Some.ensures))
+
+pub overflow_sub-stock : goal.overflow_sub-stock
+overflow_sub-stock c = omega (arith, some_attached c.args.stock.now c.requires.sound c.args.slot c.args.was c.requires.entry c.args.view c.requires.view c.in-Some.home (sym c.in-Some.ensures) c.move_node-node.new.pool c.move_node-node.result c.move_node-node.ensures.moved c.move_node-node.ensures.rings)
+
+pub lower-requires-clause-body : goal.lower-requires-clause-body
+lower-requires-clause-body c =
+    lower_body c.args.stock.now c.requires.sound c.args.slot c.args.was c.requires.entry c.args.view c.requires.view c.in-Some.home (sym c.in-Some.ensures) c.move_node-node.new.pool c.move_node-node.result c.move_node-node.ensures.moved c.move_node-node.ensures.rings
+
+pub lower-requires-clause-rings : goal.lower-requires-clause-rings
+lower-requires-clause-rings c = c.move_node-node.ensures.rings
+
+abbrev Moved : After-lower → Type 0
+Moved c =
+    IsLowered
+    (moved_stock c.args.stock.now c.requires.sound c.args.slot c.args.was c.requires.entry c.args.view c.requires.view c.in-Some.home (sym c.in-Some.ensures) c.move_node-node.new.pool c.move_node-node.result c.move_node-node.ensures.moved c.move_node-node.ensures.rings)
+    c.lower.new.stock (body c.args.was.entry.pid c.args.view)
+
+lowered : (c : After-lower) → Moved c
+lowered c =
+    subst (λ (t : FinMap slot_cmp EntryRecord). IsLowered (record { pool = c.move_node-node.new.pool; sessions = c.args.stock.now.sessions; entries = t; objects = c.args.stock.now.objects; bodies = c.args.stock.now.bodies; attached = c.args.stock.now.attached - 1 }) c.lower.new.stock (body c.args.was.entry.pid c.args.view))
+    c.set.ensures c.lower.ensures
+
+pub returns-clause-sound : goal.returns-clause-sound
+returns-clause-sound c =
+    sound_after c.args.stock.now c.requires.sound c.args.slot c.args.was c.requires.entry c.args.view c.requires.view c.in-Some.home (sym c.in-Some.ensures) c.move_node-node.new.pool c.move_node-node.result c.move_node-node.ensures.moved c.move_node-node.ensures.rings c.lower.new.stock
+    (lowered c)
+
+pub returns-clause-entries : goal.returns-clause-entries
+returns-clause-entries c =
+    set_after c.args.stock.now c.requires.sound c.args.slot c.args.was c.requires.entry c.args.view c.requires.view c.in-Some.home (sym c.in-Some.ensures) c.move_node-node.new.pool c.move_node-node.result c.move_node-node.ensures.moved c.move_node-node.ensures.rings c.lower.new.stock
+    (lowered c)
+
+pub returns-clause-sessions : goal.returns-clause-sessions
+returns-clause-sessions c =
+    sessions_after c.args.stock.now c.requires.sound c.args.slot c.args.was c.requires.entry c.args.view c.requires.view c.in-Some.home (sym c.in-Some.ensures) c.move_node-node.new.pool c.move_node-node.result c.move_node-node.ensures.moved c.move_node-node.ensures.rings c.lower.new.stock
+    (lowered c)
+
+pub returns-clause-rows : goal.returns-clause-rows
+returns-clause-rows c =
+    rows_after c.args.stock.now c.requires.sound c.args.slot c.args.was c.requires.entry c.args.view c.requires.view c.in-Some.home (sym c.in-Some.ensures) c.move_node-node.new.pool c.move_node-node.result c.move_node-node.ensures.moved c.move_node-node.ensures.rings c.lower.new.stock
+    (lowered c)
+
+pub returns-clause-turned : goal.returns-clause-turned
+returns-clause-turned c =
+    turned_after c.args.stock.now c.requires.sound c.args.slot c.args.was c.requires.entry c.args.view c.requires.view c.in-Some.home (sym c.in-Some.ensures) c.move_node-node.new.pool c.move_node-node.result c.move_node-node.ensures.moved c.move_node-node.ensures.rings c.lower.new.stock
+    (lowered c)

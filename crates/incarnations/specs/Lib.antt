@@ -1,0 +1,7 @@
+pub mod Keys
+pub mod Codes
+pub mod Maps
+pub mod Records
+pub mod Meaning
+pub mod Rings
+pub mod Stock

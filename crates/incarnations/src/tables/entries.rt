@@ -1,0 +1,78 @@
+// The entries by session and number.
+ghost use Rattle.std.specs.Prelude.{◌≡◌, ◌<◌, ◌^◌, Some, None, IsSome, OnOk, OnErr};
+ghost use Rattle.std.specs.FinMap as map;
+
+use crate::names::{EntryRecord, Slot};
+use indexmap::IndexMap;
+use pss_base::NoMemory;
+use std::alloc::Global;
+use std::hash::{BuildHasherDefault, DefaultHasher};
+use std::marker::Model;
+
+/// A finite map from slots to records of entries.
+#[derive(Drop)]
+pub struct EntryTable {
+    table: IndexMap<Slot, EntryRecord, BuildHasherDefault<DefaultHasher>>,
+}
+
+impl Model for EntryTable {
+    ghost use Rattle.std.specs.FinMap.{FinMap, from_entries, code};
+    ghost use Rattle.incarnations.specs.declared.names.EntryRecord.{EntryRecord};
+    ghost use Rattle.incarnations.specs.Keys.{slot_cmp};
+    ghost use Rattle.incarnations.specs.Codes.{slot_code, entry_record_code};
+
+    ghost Value = { FinMap slot_cmp EntryRecord };
+
+    ghost coded = { code slot_code entry_record_code };
+
+    ghost view = { λ t. from_entries t.table.entries };
+}
+
+impl EntryTable {
+    pub fn new(alloc: Global) -> EntryTable
+        ensures { result ≡ map.empty }
+    {
+        EntryTable {
+            table: IndexMap::with_hasher(alloc, BuildHasherDefault::new()),
+        }
+    }
+
+    pub fn len(&self) -> usize
+        ensures len { result ≡ map.len self.now }
+        ensures small { result < 2 ^ 63 }
+    {
+        self.table.len()
+    }
+
+    pub fn get(&self, slot: Slot) -> Option<EntryRecord>
+        ensures { result ≡ map.get self.now slot }
+    {
+        self.table.get(&slot).copied()
+    }
+
+    /// Puts a record at a slot that has none. `NoMemory`: the table is as before.
+    pub fn add(&mut self, slot: Slot, put: EntryRecord) -> Result<(), NoMemory>
+        ensures ok { OnOk result (self.new ≡ map.insert self.old slot put) }
+        ensures err { OnErr result (self.new ≡ self.old) }
+    {
+        self.table.insert(slot, put)?;
+        Ok(())
+    }
+
+    /// Puts another record at a slot that has one.
+    pub fn set(&mut self, slot: Slot, put: EntryRecord)
+        requires { IsSome (map.get self.old slot) }
+        ensures { self.new ≡ map.insert self.old slot put }
+    {
+        match self.table.get_mut(&slot) {
+            Some(place) => *place = put,
+            None => unreachable!(),
+        }
+    }
+
+    pub fn remove(&mut self, slot: Slot)
+        ensures { self.new ≡ map.remove self.old slot }
+    {
+        let _ = self.table.swap_remove(&slot);
+    }
+}

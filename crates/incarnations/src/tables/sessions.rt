@@ -1,0 +1,71 @@
+// The sessions by number.
+ghost use Rattle.std.specs.Prelude.{◌≡◌, Some, None, IsSome, OnOk, OnErr};
+ghost use Rattle.std.specs.FinMap as map;
+
+use crate::names::SessionRecord;
+use indexmap::IndexMap;
+use pss_base::{NoMemory, SessionNo};
+use std::alloc::Global;
+use std::hash::{BuildHasherDefault, DefaultHasher};
+use std::marker::Model;
+
+/// A finite map from sessions to their records.
+#[derive(Drop)]
+pub struct SessionTable {
+    table: IndexMap<SessionNo, SessionRecord, BuildHasherDefault<DefaultHasher>>,
+}
+
+impl Model for SessionTable {
+    ghost use Rattle.std.specs.FinMap.{FinMap, from_entries, code};
+    ghost use Rattle.incarnations.specs.declared.names.SessionRecord.{SessionRecord};
+    ghost use Rattle.incarnations.specs.Keys.{session_cmp};
+    ghost use Rattle.incarnations.specs.Codes.{session_code, session_record_code};
+
+    ghost Value = { FinMap session_cmp SessionRecord };
+
+    ghost coded = { code session_code session_record_code };
+
+    ghost view = { λ t. from_entries t.table.entries };
+}
+
+impl SessionTable {
+    pub fn new(alloc: Global) -> SessionTable
+        ensures { result ≡ map.empty }
+    {
+        SessionTable {
+            table: IndexMap::with_hasher(alloc, BuildHasherDefault::new()),
+        }
+    }
+
+    pub fn get(&self, session: SessionNo) -> Option<SessionRecord>
+        ensures { result ≡ map.get self.now session }
+    {
+        self.table.get(&session).copied()
+    }
+
+    /// Puts a record at a session that has none. `NoMemory`: the table is as before.
+    pub fn add(&mut self, session: SessionNo, put: SessionRecord) -> Result<(), NoMemory>
+        ensures ok { OnOk result (self.new ≡ map.insert self.old session put) }
+        ensures err { OnErr result (self.new ≡ self.old) }
+    {
+        self.table.insert(session, put)?;
+        Ok(())
+    }
+
+    /// Puts another record at a session that has one.
+    pub fn set(&mut self, session: SessionNo, put: SessionRecord)
+        requires { IsSome (map.get self.old session) }
+        ensures { self.new ≡ map.insert self.old session put }
+    {
+        match self.table.get_mut(&session) {
+            Some(place) => *place = put,
+            None => unreachable!(),
+        }
+    }
+
+    pub fn remove(&mut self, session: SessionNo)
+        ensures { self.new ≡ map.remove self.old session }
+    {
+        let _ = self.table.swap_remove(&session);
+    }
+}

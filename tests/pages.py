@@ -8,6 +8,7 @@
     console    commands behind `$ `, each with what it prints; a line `..` stands for any lines
     records    lines of the program record_cases, each with its answer under it; `text` has none, nor has a line that begins with `#`
     journal    lines of the program journal_cases, each with its answer under it; `store` and `octets` have none, nor has a line that begins with `#`
+    pages      lines of the program page_cases, likewise
     refusals   texts of one line, and octets of records with a line under them that marks the place of the refusal: `^ BadBool(15)`
 
 Blocks of the words `grammar` and `commands` are not tried: notation, and commands that prove or build. Any other block is a failed case, and so
@@ -16,7 +17,7 @@ import glob
 import os
 import re
 
-from running import cells, contents, each, ended, expect, expect_answer, journal_cases, lines_of, program, record_cases, shortened, tell, top, written
+from running import cells, contents, each, ended, expect, expect_answer, journal_cases, lines_of, page_cases, program, record_cases, shortened, tell, top, written
 
 BLOCK = re.compile(r"^```([^\n]*)\n(.*?)^```$", re.M | re.S)
 EXAMPLE = re.compile(r"^\.EX\n(.*?)^\.EE$", re.M | re.S)
@@ -95,12 +96,15 @@ class Page:
                 wanted.append(joined(answer).strip() if line.startswith("encode ") and not answer.startswith("BADVALUE") else answer)
         self.answers(asked, wanted)
 
-    def journal(self, block):
+    def pages(self, block):
+        self.journal(block, page_cases)
+
+    def journal(self, block, program=journal_cases):
         """Octets may have blanks between them."""
         lines = [line for line in block.splitlines() if line and not line.startswith("#")]
         asked, questions, wanted = [], [], []
         while lines:
-            verb, rest = lines.pop(0).split(" ", 1)
+            verb, _, rest = lines.pop(0).partition(" ")
             words = rest.split(" ")
             places = {"append": 2, "octets": 1}.get(verb, len(words))
             asked.append(" ".join([verb, *words[:places], "".join(words[places:])]).rstrip())
@@ -108,7 +112,7 @@ class Page:
                 answer = lines.pop(0) if lines else ""
                 questions.append(asked[-1])
                 wanted.append(answer.replace(" ", "") if verb == "show" else answer)
-        seen = self.asked(asked, journal_cases)
+        seen = self.asked(asked, program)
         seen += ["no answer"] * (len(questions) - len(seen))
         for question, want, told in zip(questions, wanted, seen):
             tell(self.told(question), told == want, told)
@@ -166,7 +170,7 @@ def try_page(folder, path):
         kind, _, name = words.partition(" ")
         if kind in NOT_TRIED:
             continue
-        if kind not in ("psdl", "canonical", "shape", "faults", "script", "console", "records", "journal", "refusals"):
+        if kind not in ("psdl", "canonical", "shape", "faults", "script", "console", "records", "journal", "pages", "refusals"):
             tell(page.told(block), False, f"a block of the kind {kind!r}")
         elif name:
             getattr(page, kind)(block, name)

@@ -1,0 +1,14 @@
+pub mod Buffers
+pub mod Choosing
+pub mod Fields
+pub mod Heads
+pub mod Serials
+pub mod SlotLists
+pub mod Entries
+pub mod Moved
+pub mod Adding
+pub mod Growing
+pub mod Staying
+pub mod ExactRoots
+pub mod ExactPages
+pub mod Runs

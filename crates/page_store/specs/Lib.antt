@@ -1,0 +1,9 @@
+pub mod Faults
+pub mod Places
+pub mod Kept
+pub mod Laws
+pub mod PageDamage
+pub mod Pages
+pub mod Roots
+pub mod Refusals
+pub mod inner

@@ -1,0 +1,28 @@
+// Numbers in octets.
+ghost use Rattle.std.specs.Prelude.{◌≡◌, ◌+◌, ◌≤◌, length};
+ghost use Rattle.pss_disk.specs.Parts.{number4, number8};
+
+/// The number in the four octets from a place on.
+pub fn read_number4(octets: &[u8], at: usize) -> u32
+    requires { at + 4 ≤ length octets.now }
+    ensures { number4 octets.now at ≡ result }
+{
+    u32::from_be_bytes([octets[at], octets[at + 1], octets[at + 2], octets[at + 3]])
+}
+
+/// The number in the eight octets from a place on.
+pub fn read_number8(octets: &[u8], at: usize) -> u64
+    requires { at + 8 ≤ length octets.now }
+    ensures { number8 octets.now at ≡ result }
+{
+    u64::from_be_bytes([
+        octets[at],
+        octets[at + 1],
+        octets[at + 2],
+        octets[at + 3],
+        octets[at + 4],
+        octets[at + 5],
+        octets[at + 6],
+        octets[at + 7],
+    ])
+}

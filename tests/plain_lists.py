@@ -16,6 +16,7 @@ PROGRAMS = {
     "key_index": b"key_index: 78942 operations, 0 differences\n",
     "lock_table": b"lock_table: 66353 operations, 0 differences\n",
     "incarnations": b"incarnations: 165861 operations, 0 differences\n",
+    "storage_home": b"storage_home: 1493 operations, 0 differences\n",
 }
 
 

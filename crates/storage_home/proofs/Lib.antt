@@ -1,0 +1,17 @@
+pub mod Rising
+pub mod Places
+pub mod Nexts
+pub mod Raising
+pub mod Holding
+pub mod Entering
+pub mod Descending
+pub mod Keeping
+pub mod Following
+pub mod Taking
+pub mod Finding
+pub mod Stepping
+pub mod Naming
+pub mod KeyLists
+pub mod LoadingRows
+pub mod Queueing
+pub mod Merging

@@ -1,0 +1,8 @@
+use Rattle.std.proofs.Common.{sym, ap, subst, ◌∙◌}
+use Rattle.std.specs.declared.ops.Bound.TheVariants.{Included}
+use Rattle.storage_home.specs.Extents.{IsNext, first_held}
+use Rattle.storage_home.proofs.Nexts.{first_is_next}
+use Rattle.storage_home.proofs.extents.next.Goals as goal
+
+pub returns : goal.returns
+returns c = subst (IsNext c.args.extent.now.entries c.args.from) (sym (c.first_in.ensures ∙ ap first_held (c.range.ensures.between tt))) (first_is_next (Included c.args.from) c.args.extent.now.entries c.range.ensures.ordered)

@@ -1,0 +1,15 @@
+use Rattle.std.proofs.Common.{drop}
+use Rattle.type_layout.specs.declared.schema.Schema.{Schema}
+use Rattle.storage_home.specs.declared.homes.Homes.{Homes}
+use Rattle.storage_home.specs.Keys.{StayReserved}
+use Rattle.storage_home.specs.Kept.{IsKept, Keeping}
+use Rattle.storage_home.specs.Applied.{AllStay, AreNamed, AreReserved}
+use Rattle.storage_home.proofs.homes.Homes.reserve_changes.Given as goal
+
+abbrev pub invariant-loop-change : goal.invariant-loop-change
+invariant-loop-change l =
+    Keeping l.initial.self (λ S M. IsKept S M l.self)
+    × AllStay l.initial.self l.self
+    × StayReserved l.initial.self.keys.items l.self.keys.items
+    × ((S : Schema) → AreNamed S l.changes → AreNamed S (drop l.change-index l.changes))
+    × ((later : Homes) → AllStay l.self later → StayReserved l.self.keys.items later.keys.items → AreReserved later (drop l.change-index l.changes) → AreReserved later l.changes)

@@ -1,0 +1,142 @@
+-- What may be done with one object, and with one change after the other.
+use Rattle.std.specs.Prelude.{ℕ, ◌≡◌, ◌≤◌, List, [], ◌∷◌, length, None, Some, IsSome}
+use Rattle.std.specs.FinMap.{get, insert, remove}
+use Rattle.pss_base.specs.declared.put.Put.{Put}
+use Rattle.type_layout.specs.declared.home.HomeNo.{HomeNo}
+use Rattle.type_layout.specs.declared.key.KeyNo.{KeyNo}
+use Rattle.type_layout.specs.declared.schema.Schema.{Schema}
+use Rattle.type_layout.specs.Schemas.{given, home_at}
+use Rattle.type_layout.specs.Types.{PlainValue}
+use Rattle.pss_catalog.specs.Catalog.{Object, Catalog, object_spelling, total, IsUnique}
+use Rattle.pss_catalog.specs.Changes.{Change as Step, over, with_state}
+use Rattle.storage_home.specs.declared.change.Change.{Change}
+use Rattle.storage_home.specs.declared.homes.Homes.{Homes}
+use Rattle.storage_home.specs.declared.rows.Stored.{Stored}
+use Rattle.storage_home.specs.Keys.{AreKeysReserved, AreThere}
+use Rattle.storage_home.specs.Kept.{IsKept, IsReserved, stored}
+use Rattle.storage_home.specs.Applied.{most, IsSound, IsNew, AreKeysOf, AreChanges, AreReserved, AreRows}
+
+-- ---- one object
+
+-- the object with a serial, where there is one, may be taken out with its keys
+pub record MayTake (homes : Homes) (serial : ℕ) (pairs : List (KeyNo × List ℕ)) : Type 0 where
+  pub schema : Schema
+  pub catalog : Catalog
+  pub kept : IsKept schema catalog homes
+  pub keys : AreKeysOf schema (get catalog serial) pairs
+
+-- an object may be put with its keys
+pub record MayPutObject (homes : Homes) (serial : ℕ) (row : Stored) (pairs : List (KeyNo × List ℕ)) : Type 0 where
+  pub schema : Schema
+  pub catalog : Catalog
+  pub object : Object
+  pub kept : IsKept schema catalog homes
+  pub there : IsSome (home_at schema object.home)
+  pub is : row ≡ stored schema object
+  pub none : get catalog serial ≡ None
+  pub keys : AreKeysOf schema (Some object) pairs
+  pub unique : IsUnique schema (insert catalog serial object)
+  pub bounded : total schema (insert catalog serial object) ≤ most
+  pub reserved : IsReserved homes object.home serial
+  pub keys_reserved : AreKeysReserved homes.keys.items pairs
+
+-- what is reserved for other serials stays so
+abbrev pub OthersStay : Homes → Homes → ℕ → Type 0
+OthersStay old new serial = (home : HomeNo) (s : ℕ) → (s ≡ serial → ⊥) → IsReserved old home s → IsReserved new home s
+
+-- what a change names is there: its home, where it has a record, and its new keys
+abbrev pub IsPlaced : Homes → Change → Type 0
+IsPlaced homes change = (IsSome change.put.bytes → (1 ≤ change.put.home) × (change.put.home ≤ length homes.extents.items)) × AreThere homes.keys.items change.new_keys
+
+-- ---- changes, one after the other
+
+-- no two are of one serial
+abbrev pub AreApart : List Step → Type 0
+AreApart [] = Unit {0}
+AreApart (step ∷ steps) = IsNew step.serial steps × AreApart steps
+
+-- the catalog without the objects of these serials
+abbrev pub bare : Catalog → List Step → Catalog
+bare M [] = M
+bare M (step ∷ steps) = bare (remove M step.serial) steps
+
+-- what is found at their serials is the same in both
+abbrev pub AgreeAt : Catalog → Catalog → List Step → Type 0
+AgreeAt N M [] = Unit {0}
+AgreeAt N M (step ∷ steps) = (get N step.serial ≡ get M step.serial) × AgreeAt N M steps
+
+-- each comes to a serial at which nothing is
+abbrev pub AreFresh : Catalog → List Step → Type 0
+AreFresh N [] = Unit {0}
+AreFresh N (step ∷ steps) = (get N step.serial ≡ None) × AreFresh (with_state N step.serial step.state) steps
+
+-- once the objects of these changes are taken out, the catalog F is kept
+pub record MayTakeAll (S : Schema) (F : Catalog) (homes : Homes) (changes : List Change) : Type 0 where
+  pub original : Catalog
+  pub catalog : Catalog
+  pub steps : List Step
+  pub kept : IsKept S catalog homes
+  pub are : AreChanges S original changes steps
+  pub apart : AreApart steps
+  pub same : AgreeAt catalog original steps
+  pub ends : bare catalog steps ≡ F
+
+abbrev pub AnyTakeAll : Homes → List Change → Type 0
+AnyTakeAll homes changes = (S : Schema) × (F : Catalog) × MayTakeAll S F homes changes
+
+-- once the records of these changes are put, the catalog F is kept
+pub record MayPutAll (S : Schema) (F : Catalog) (homes : Homes) (changes : List Change) : Type 0 where
+  pub original : Catalog
+  pub catalog : Catalog
+  pub steps : List Step
+  pub kept : IsKept S catalog homes
+  pub are : AreChanges S original changes steps
+  pub apart : AreApart steps
+  pub fresh : AreFresh catalog steps
+  pub unique : IsUnique S F
+  pub bounded : total S F ≤ most
+  pub reserved : AreReserved homes changes
+  pub ends : over catalog steps ≡ F
+
+abbrev pub AnyPutAll : Homes → List Change → Type 0
+AnyPutAll homes changes = (S : Schema) × (F : Catalog) × MayPutAll S F homes changes
+
+-- ---- rows, one after the other
+
+-- octets that spell the record of an object of a home
+pub record SpellsObject (S : Schema) (home : HomeNo) (bytes : List ℕ) : Type 0 where
+  pub values : List PlainValue
+  pub is_sound : IsSound S (record { home = home; values = values })
+  pub spelled : bytes ≡ object_spelling S (record { home = home; values = values })
+
+abbrev pub object_of : {S : Schema} {home : HomeNo} {bytes : List ℕ} → SpellsObject S home bytes → Object
+object_of {home = home} spells = record { home = home; values = spells.values }
+
+-- the keys of a home, none where it is not there
+abbrev pub keys_in : Schema → HomeNo → List KeyNo
+keys_in S home = given (home_at S home) [] (λ h. h.keys)
+
+-- an object may be loaded
+pub record MayLoadOne (S : Schema) (homes : Homes) (serial : ℕ) (row : Stored) : Type 0 where
+  pub catalog : Catalog
+  pub object : Object
+  pub kept : IsKept S catalog homes
+  pub is_sound : IsSound S object
+  pub is : row ≡ stored S object
+  pub none : get catalog serial ≡ None
+  pub unique : IsUnique S (insert catalog serial object)
+  pub bounded : total S (insert catalog serial object) ≤ most
+
+-- once these rows are loaded, the catalog F is kept
+pub record MayLoadAll (S : Schema) (F : Catalog) (homes : Homes) (rows : List Put) : Type 0 where
+  pub catalog : Catalog
+  pub steps : List Step
+  pub kept : IsKept S catalog homes
+  pub are : AreRows S rows steps
+  pub fresh : AreFresh catalog steps
+  pub unique : IsUnique S F
+  pub bounded : total S F ≤ most
+  pub ends : over catalog steps ≡ F
+
+abbrev pub AnyLoadAll : Schema → Homes → List Put → Type 0
+AnyLoadAll S homes rows = (F : Catalog) × MayLoadAll S F homes rows

@@ -1,0 +1,138 @@
+// The objects that a store was found with.
+ghost use Rattle.std.specs.Prelude.{◌≡◌, ◌∷◌, ℕ, List, Some, false, length, IfOk, OnOk};
+ghost use Rattle.std.specs.FinMap.{empty, insert};
+ghost use Rattle.pss_base.specs.declared.put.Put.{Put as Row};
+ghost use Rattle.type_layout.specs.Sound.{IsSoundSchema};
+ghost use Rattle.pss_catalog.specs.Catalog.{Catalog};
+ghost use Rattle.pss_catalog.specs.Changes.{over};
+ghost use Rattle.storage_home.specs.Kept.{IsKept};
+ghost use Rattle.storage_home.specs.Applied.{MayLoad, AreKeysOf};
+ghost use Rattle.storage_home.specs.inner.Steps.{MayLoadAll, AnyLoadAll, MayLoadOne, SpellsObject, object_of, keys_in};
+ghost use Rattle.storage_home.specs.Extents.{is_held_in};
+
+use crate::change::KeyValues;
+use crate::extents::Extent;
+use crate::homes::Homes;
+use crate::rows::{self, Stored};
+use crate::{counts, keys};
+use cdr_codec::key_of_octets;
+use pss_base::{Bytes, NoMemory, Put, Puts};
+use pss_catalog::{Families, home_at};
+use std::alloc::Global;
+use std::collections::BTreeMap;
+use type_layout::{Home, HomeNo, KeyNo, Schema};
+
+impl Homes {
+    /// The objects of these rows, in any order. Each row has a record of the layout of a home of the schema; no two
+    /// have one serial, and no key is held twice; and the sum over them of 16 and the length of the record is at most
+    /// 2^64 - 1. It takes time in the octets for each key of a row's home.
+    pub fn from_rows(alloc: Global, schema: &Schema, rows: Puts) -> Result<Homes, NoMemory>
+        requires sound { IsSoundSchema schema.now }
+        requires rows { MayLoad schema.now rows }
+        ensures { IfOk result (λ homes. (m : MayLoad schema.now rows) → IsKept schema.now (over empty m.steps) homes) }
+    {
+        let mut homes = none(alloc, schema)?;
+        homes.load_all(schema, rows.into_vec())?;
+        Ok(homes)
+    }
+
+    fn load_all(&mut self, schema: &Schema, rows: Vec<Put>) -> Result<(), NoMemory>
+        requires { AnyLoadAll schema.now self.old rows.items }
+        ensures { OnOk result ((F : Catalog) → MayLoadAll schema.now F self.old rows.items → IsKept schema.now F self.new) }
+    {
+        for row in rows {
+            self.load(schema, row)?;
+        }
+        Ok(())
+    }
+
+    fn load(&mut self, schema: &Schema, row: Put) -> Result<(), NoMemory>
+        requires { (rest : List Row) × AnyLoadAll schema.now self.old (row ∷ rest) }
+        ensures { OnOk result ((rest : List Row) (F : Catalog) → MayLoadAll schema.now F self.old (row ∷ rest) → MayLoadAll schema.now F self.new rest) }
+    {
+        let Put {
+            home,
+            serial,
+            bytes,
+        } = row;
+        match bytes {
+            Some(bytes) => self.load_object(
+                schema,
+                serial,
+                Stored {
+                    home: HomeNo(home),
+                    bytes,
+                },
+            ),
+            None => Ok(()),
+        }
+    }
+
+    fn load_object(&mut self, schema: &Schema, serial: u64, object: Stored) -> Result<(), NoMemory>
+        requires { MayLoadOne schema.now self.old serial object }
+        ensures { OnOk result ((m : MayLoadOne schema.now self.old serial object) → IsKept schema.now (insert m.catalog serial m.object) self.new) }
+    {
+        let keys = keys_of(self.alloc, schema, object.home, object.bytes.as_slice())?;
+        self.reserve_serial(object.home, serial)?;
+        self.reserve_keys(keys.as_slice())?;
+        self.put_object(serial, object, keys.as_slice());
+        Ok(())
+    }
+}
+
+// Homes without any object.
+fn none(alloc: Global, schema: &Schema) -> Result<Homes, NoMemory>
+    requires { IsSoundSchema schema.now }
+    ensures { IfOk result (λ homes. IsKept schema.now empty homes) }
+{
+    let families = Families::new(alloc, schema)?;
+    let homes = schema.homes.as_slice();
+    Ok(Homes {
+        alloc,
+        families,
+        rows: rows::empty(alloc),
+        total: 0,
+        objects: 0,
+        extents: no_extents(alloc, homes.len())?,
+        counts: counts::none(alloc, homes)?,
+        keys: keys::none(alloc, schema.keys.as_slice().len())?,
+    })
+}
+
+fn no_extents(alloc: Global, count: usize) -> Result<Vec<Extent>, NoMemory>
+    ensures size { IfOk result (λ extents. length extents.items ≡ count) }
+    ensures empty { IfOk result (λ extents. (home serial : ℕ) → is_held_in extents.items home serial ≡ false) }
+{
+    let mut extents = Vec::with_capacity(alloc, count)?;
+    for _ in 0..count {
+        extents.push(BTreeMap::new(alloc))?;
+    }
+    Ok(extents)
+}
+
+// The keys of the record that these octets spell.
+fn keys_of(
+    alloc: Global,
+    schema: &Schema,
+    home: HomeNo,
+    bytes: &[u8],
+) -> Result<KeyValues, NoMemory>
+    requires sound { IsSoundSchema schema.now }
+    requires spells { SpellsObject schema.now home bytes.now }
+    ensures { IfOk result (λ pairs. (s : SpellsObject schema.now home bytes.now) → AreKeysOf schema.now (Some (object_of s)) pairs) }
+{
+    let mut values = KeyValues::new(alloc);
+    for key in keys_at(schema, home) {
+        values.push((*key, key_of_octets(alloc, schema, *key, home, bytes)?))?;
+    }
+    Ok(values)
+}
+
+fn keys_at(schema: &Schema, home: HomeNo) -> &[KeyNo]
+    ensures { result.now ≡ keys_in schema.now home }
+{
+    match home_at(schema, home) {
+        Some(found) => found.keys.as_slice(),
+        None => &[],
+    }
+}

@@ -1,5 +1,5 @@
 -- Nothing is stored.
-use Rattle.std.proofs.Common.{ℕ, ◌≡◌, Bool, Option, Some, None, refl, sym, ap, ◌∙◌, subst}
+use Rattle.std.proofs.Common.{ℕ, ◌≡◌, Bool, Some, sym, ap, ◌∙◌, subst}
 use Rattle.std.specs.Option.{option_map}
 use Rattle.std.specs.FinMap as finite
 use Rattle.std.specs.FinMap.{FinMap, get, get-empty}
@@ -13,10 +13,10 @@ use Rattle.incarnations.specs.declared.names.BodyRecord.{BodyRecord}
 use Rattle.incarnations.specs.declared.stock.Stock.{Stock}
 use Rattle.incarnations.specs.Keys.{slot_cmp, session_cmp, body_cmp, object_cmp}
 use Rattle.incarnations.specs.Maps.{each, count}
-use Rattle.incarnations.specs.Meaning.{Meaning, no_copies, is_of, stands_on, is_attached}
+use Rattle.incarnations.specs.Meaning.{no_copies, is_attached}
 use Rattle.link_pool.specs.declared.names.Row.{Row}
 use Rattle.incarnations.specs.declared.names.Entry.{Entry}
-use Rattle.incarnations.specs.Stock.{spot_of, Place, Loose, On, meaning_of, row_at, spot_at, IsSound}
+use Rattle.incarnations.specs.Stock.{spot_of, Place, Loose, On, meaning_of, row_at, IsSound}
 use Rattle.incarnations.proofs.Maps.{IsKey, no_value, alike_maps, get_each, count_none}
 use Rattle.incarnations.proofs.Keys.{session_key, slot_key, body_key}
 

@@ -1,33 +1,27 @@
 -- What is stored after an entry is gone.
-use Rattle.std.proofs.Common.{ℕ, ◌≡◌, ◌≢◌, ◌⊎◌, inl, inr, ⊎_elim, ◌<◌, ◌+◌, ◌-◌, List, [], Bool, true, false, Option, Some, None, IsSome, refl, sym, ap, ◌∙◌, subst, arith}
-use Rattle.std.specs.Prelude.{IsSomeAnd, map, is_some}
+use Rattle.std.proofs.Common.{ℕ, ◌≡◌, ◌≢◌, ◌⊎◌, inl, inr, ⊎_elim, ◌<◌, ◌+◌, ◌-◌, [], Bool, true, false, Some, None, IsSome, refl, sym, ap, ◌∙◌, subst, arith}
+use Rattle.std.specs.Prelude.{IsSomeAnd, is_some}
 use Rattle.std.specs.Option.{option_map}
 use Rattle.std.specs.FinMap.{FinMap, get, insert, remove}
 use Rattle.pss_base.specs.declared.session.SessionNo.{SessionNo}
 use Rattle.pss_machine.specs.declared.session.View.{View}
-use Rattle.type_layout.specs.Types.{PlainValue}
 use Rattle.type_layout.specs.Schemas.{given}
 use Rattle.link_pool.specs.Meaning.{Meaning as Pool, AreRings}
 use Rattle.link_pool.specs.declared.names.Row.{Row}
-use Rattle.link_pool.specs.declared.names.Col.{Col}
-use Rattle.link_pool.specs.declared.names.Node.{Node}
-use Rattle.link_pool.specs.Meaning.{item_in}
 use Rattle.link_pool.specs.Rings.{list_in}
 use Rattle.incarnations.specs.declared.names.Slot.{Slot}
 use Rattle.incarnations.specs.declared.names.BodyName.{BodyName}
-use Rattle.incarnations.specs.declared.names.BodyRecord.{BodyRecord}
 use Rattle.incarnations.specs.declared.names.Entry.{Entry}
 use Rattle.incarnations.specs.declared.names.EntryRecord.{EntryRecord}
 use Rattle.incarnations.specs.declared.names.SessionRecord.{SessionRecord}
 use Rattle.incarnations.specs.declared.stock.Stock.{Stock}
 use Rattle.incarnations.specs.Keys.{slot_cmp, session_cmp, object_cmp}
 use Rattle.incarnations.specs.Maps.{each, count}
-use Rattle.incarnations.specs.Records.{with_entries}
 use Rattle.incarnations.specs.Meaning.{stands_on, is_of, is_attached, body, same_body}
-use Rattle.incarnations.specs.Stock.{Place, Loose, On, place_of, Spot, spot_of, spots_in, spot_at, row_at, col_at, size_at, load_at, meaning_of, AreSeated, AreApart, AreCounted, IsSound, IsMoved, IsFewer, IsLowered, IsErased, KeepsBodies, KeepsCols, AreNumbered, AreNamed, AreLong, pid_at, number_at}
-use Rattle.incarnations.proofs.Maps.{no_value, one_value, same_or_apart, insert_here, insert_apart, remove_here, remove_apart, get_each, weight, count_gone, count_some, each_same, each_remove, insert_insert}
-use Rattle.incarnations.proofs.Keys.{slot_key, session_key, object_key, body_key, session_told}
-use Rattle.incarnations.proofs.Seats.{row_key, col_key, seats_alike, seats_kept, seats_out}
+use Rattle.incarnations.specs.Stock.{Place, Loose, On, place_of, Spot, spot_of, spots_in, spot_at, row_at, col_at, size_at, load_at, meaning_of, AreSeated, AreApart, AreCounted, IsSound, IsFewer, IsLowered, IsErased, KeepsCols, AreNumbered, AreNamed, pid_at, number_at}
+use Rattle.incarnations.proofs.Maps.{one_value, same_or_apart, insert_here, insert_apart, remove_here, remove_apart, get_each, weight, count_gone, count_some, each_same, each_remove}
+use Rattle.incarnations.proofs.Keys.{slot_key, session_key, object_key, session_told}
+use Rattle.incarnations.proofs.Seats.{seats_alike, seats_kept, seats_out}
 use Rattle.incarnations.proofs.Places.{on_told, on_found, bare_row}
 use Rattle.incarnations.proofs.Named.{object, apart_less, names_out, numbered_less}
 use Rattle.link_pool.specs.Meaning.{unlinked}
@@ -35,13 +29,10 @@ use Rattle.link_pool.specs.declared.names.Seat.{Seat}
 use Rattle.link_pool.proofs.NodeLists.{without-absent}
 use Rattle.link_pool.proofs.RingChanges.{row_stays-unlinked, col_stays-unlinked, col_list-unlinked, col_length-unlinked}
 use Rattle.std.specs.Prelude.{length, Contains}
-use Rattle.pss_base.specs.declared.pid.Pid.{Pid}
 use Rattle.std.proofs.lemmas.Bool.{eq-eqb}
-use Rattle.incarnations.specs.declared.names.ObjectName.{ObjectName}
-use Rattle.incarnations.proofs.Loosened.{count_alike}
 use Rattle.incarnations.proofs.Moved.{Was, was as unlinked_was}
 use Rattle.incarnations.proofs.Parted.{rows_down, rows_parted, loads, keeps}
-use Rattle.incarnations.proofs.Sets.{some, Has, has, has_map, plain, entry_is, spot_is, seat_is, node_there, body_there, load_on}
+use Rattle.incarnations.proofs.Sets.{Has, has_map, plain, entry_is, spot_is, seat_is, node_there, body_there, load_on}
 
 on_name : {b c : BodyName} → On b ≡ On c → b ≡ c
 on_name e = cc

@@ -1,37 +1,33 @@
 -- Entries of a session or of a body, one after the other.
-use Rattle.std.proofs.Common.{ℕ, zero, suc, ◌≡◌, ◌≢◌, ◌⊎◌, inl, inr, ⊎_elim, ◌<◌, ◌≤◌, ◌+◌, ◌-◌, List, [], ◌∷◌, ◌++◌, length, take, drop, Bool, true, false, cond, Option, Some, None, IsSome, slice_get, refl, sym, ap, ◌∙◌, subst, arith}
-use Rattle.std.specs.Prelude.{IsSomeAnd, map, Contains, is_some, ◌&&◌}
-use Rattle.std.specs.Option.{option_map, option_and_then, unwrap_or}
-use Rattle.std.specs.FinMap.{FinMap, get, insert, remove}
-use Rattle.std.proofs.lemmas.List.{length-map}
+use Rattle.std.proofs.Common.{ℕ, ◌≡◌, ◌⊎◌, inl, inr, ⊎_elim, ◌<◌, ◌+◌, [], length, Bool, true, false, cond, Option, Some, None, IsSome, refl, sym, ap, ◌∙◌, subst, arith}
+use Rattle.std.specs.Prelude.{Contains, ◌&&◌}
+use Rattle.std.specs.Option.{option_map, option_and_then}
+use Rattle.std.specs.FinMap.{get, insert, remove}
 use Rattle.std.proofs.lemmas.Bool.{eq-eqb}
 use Rattle.pss_base.specs.declared.session.SessionNo.{SessionNo}
 use Rattle.pss_machine.specs.declared.session.View.{View}
 use Rattle.type_layout.specs.Schemas.{given}
 use Rattle.link_pool.specs.Rings.{list_in, first_in}
-use Rattle.link_pool.specs.Meaning.{Meaning as Pool, AreRings, row_in, col_in, item_in}
+use Rattle.link_pool.specs.Meaning.{row_in, col_in, item_in}
 use Rattle.link_pool.specs.declared.names.Row.{Row}
 use Rattle.link_pool.specs.declared.names.Col.{Col}
 use Rattle.link_pool.specs.declared.names.Node.{Node}
 use Rattle.link_pool.specs.declared.names.Seat.{Seat}
-use Rattle.link_pool.proofs.RingChanges.{no_first, begins, Begins, first_stands, first_home}
+use Rattle.link_pool.proofs.RingChanges.{no_first, first_home}
 use Rattle.incarnations.specs.declared.names.Slot.{Slot}
 use Rattle.incarnations.specs.declared.names.BodyName.{BodyName}
 use Rattle.incarnations.specs.declared.names.BodyRecord.{BodyRecord}
 use Rattle.incarnations.specs.declared.names.BodyPlace.{BodyPlace}
 use Rattle.incarnations.specs.declared.names.Entry.{Entry}
 use Rattle.incarnations.specs.declared.names.EntryRecord.{EntryRecord}
-use Rattle.incarnations.specs.declared.names.SessionRecord.{SessionRecord}
 use Rattle.incarnations.specs.declared.stock.Stock.{Stock}
-use Rattle.incarnations.specs.Keys.{slot_cmp}
-use Rattle.incarnations.specs.Maps.{each, count}
-use Rattle.incarnations.specs.Meaning.{Meaning, stands_on, is_of, body, same_body, with_view, Leaves, loosened, freed, of_session, on_body, both}
-use Rattle.incarnations.specs.Stock.{Place, Loose, On, place_of, Spot, spot_of, spots_in, spot_at, row_at, col_at, meaning_of, AreSeated, IsSound, IsErased, IsSet, KeepsBodies, KeepsCols, KeepsRows, asks, turned_entry}
+use Rattle.incarnations.specs.Maps.{count}
+use Rattle.incarnations.specs.Meaning.{stands_on, is_of, body, with_view, Leaves, loosened, freed, of_session, on_body, both}
+use Rattle.incarnations.specs.Stock.{Loose, On, place_of, spot_of, spot_at, row_at, col_at, meaning_of, IsSound, IsErased, IsSet, KeepsBodies, KeepsCols, KeepsRows, asks, turned_entry}
 use Rattle.incarnations.proofs.Maps.{no_value, one_value, same_or_apart, insert_here, insert_apart, remove_here, remove_apart, get_each, weight, count_gone, count_set, count_some, count_none}
-use Rattle.incarnations.proofs.Keys.{slot_key, session_told, body_self}
-use Rattle.incarnations.proofs.Seats.{row_key, col_key}
-use Rattle.incarnations.proofs.Places.{IsNodeOf, node_of, on_told, on_found, in_place}
-use Rattle.incarnations.proofs.Sets.{some, Has, has, has_map, plain, entry_is, seat_is, body_there, nobody_on, load_on, bodies_left}
+use Rattle.incarnations.proofs.Keys.{slot_key, session_told}
+use Rattle.incarnations.proofs.Places.{IsNodeOf, node_of, on_told, on_found}
+use Rattle.incarnations.proofs.Sets.{Has, has_map, plain, entry_is, seat_is, nobody_on, load_on, bodies_left}
 
 pub is_of_self : (s : SessionNo) (y : Slot) (e : Entry) → y.session ≡ s → is_of s (y, e) ≡ true
 is_of_self s y e h = ap (λ z. is_of s (record { session = z; number = 0 }, e)) h ∙ eq-eqb s.0 s.0 refl

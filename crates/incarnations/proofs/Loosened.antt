@@ -1,37 +1,30 @@
 -- What is stored after an entry left its body.
-use Rattle.std.proofs.Common.{ℕ, ◌≡◌, ◌≢◌, ◌⊎◌, inl, inr, ⊎_elim, ◌<◌, ◌+◌, ◌-◌, List, [], Bool, true, false, Option, Some, None, IsSome, refl, sym, ap, ◌∙◌, subst, arith}
+use Rattle.std.proofs.Common.{ℕ, ◌≡◌, ◌≢◌, ◌<◌, ◌+◌, ◌-◌, [], Bool, true, false, Some, None, IsSome, refl, sym, ap, ◌∙◌, subst, arith}
 use Rattle.std.specs.Prelude.{IsSomeAnd, map, is_some}
 use Rattle.std.specs.Option.{option_map}
-use Rattle.std.specs.FinMap.{FinMap, get, insert, remove}
-use Rattle.pss_base.specs.declared.session.SessionNo.{SessionNo}
+use Rattle.std.specs.FinMap.{FinMap, get, insert}
 use Rattle.pss_machine.specs.declared.session.View.{View}
-use Rattle.type_layout.specs.Types.{PlainValue}
 use Rattle.type_layout.specs.Schemas.{given}
 use Rattle.link_pool.specs.Meaning.{Meaning as Pool, AreRings}
 use Rattle.link_pool.specs.declared.names.Row.{Row}
-use Rattle.link_pool.specs.declared.names.Col.{Col}
 use Rattle.link_pool.specs.declared.names.Node.{Node}
-use Rattle.link_pool.specs.Meaning.{item_in}
 use Rattle.link_pool.specs.Rings.{list_in}
 use Rattle.incarnations.specs.declared.names.Slot.{Slot}
 use Rattle.incarnations.specs.declared.names.BodyName.{BodyName}
-use Rattle.incarnations.specs.declared.names.BodyRecord.{BodyRecord}
 use Rattle.incarnations.specs.declared.names.Entry.{Entry}
 use Rattle.incarnations.specs.declared.names.EntryRecord.{EntryRecord}
 use Rattle.incarnations.specs.declared.names.SessionRecord.{SessionRecord}
 use Rattle.incarnations.specs.declared.stock.Stock.{Stock}
 use Rattle.incarnations.specs.Keys.{slot_cmp}
-use Rattle.incarnations.specs.Maps.{each, count}
-use Rattle.incarnations.specs.Records.{with_entries}
+use Rattle.incarnations.specs.Maps.{count}
 use Rattle.incarnations.specs.Meaning.{stands_on, is_of, is_attached, body, with_view}
-use Rattle.incarnations.specs.Stock.{Place, Loose, On, place_of, Spot, spot_of, spots_in, spot_at, row_at, col_at, size_at, load_at, meaning_of, AreSeated, AreApart, AreCounted, IsSound, IsMoved, IsFewer, IsLowered, IsSet, KeepsBodies, IsTurned, KeepsRows, items_of}
-use Rattle.incarnations.proofs.Maps.{no_value, one_value, same_or_apart, insert_here, insert_apart, remove_here, remove_apart, get_each, weight, count_set, count_some}
-use Rattle.incarnations.proofs.Keys.{slot_key, body_key}
-use Rattle.incarnations.proofs.Seats.{row_key, seats_alike, seats_kept}
+use Rattle.incarnations.specs.Stock.{Loose, On, place_of, Spot, spot_of, spots_in, spot_at, row_at, col_at, size_at, load_at, meaning_of, AreSeated, AreCounted, IsSound, IsMoved, IsFewer, IsLowered, IsSet, IsTurned, KeepsRows}
+use Rattle.incarnations.proofs.Maps.{one_value, get_each, weight, count_set, count_some}
+use Rattle.incarnations.proofs.Keys.{slot_key}
+use Rattle.incarnations.proofs.Seats.{seats_alike, seats_kept}
 use Rattle.incarnations.proofs.Places.{on_told, on_found, bare_row, rows_stay, turned}
-use Rattle.incarnations.proofs.Named.{apart_less}
 use Rattle.incarnations.proofs.Parted.{rows_down, rows_less, rows_parted, loads, keeps}
-use Rattle.incarnations.proofs.Sets.{some, Has, has, has_map, plain, entry_is, body_there, seats_set, plain_set, plain_after, names_set, cols_set, lengths_set, lasts_same, numbers_set, load_on}
+use Rattle.incarnations.proofs.Sets.{Has, has_map, plain, entry_is, body_there, seats_set, plain_set, plain_after, names_set, cols_set, lengths_set, lasts_same, numbers_set, load_on}
 
 on_name : {b c : BodyName} → On b ≡ On c → b ≡ c
 on_name e = cc

@@ -3,8 +3,7 @@ use Rattle.std.proofs.Common.{◌≡◌, Option, Some, None, IsSome, refl, sym, 
 use Rattle.std.specs.Prelude.{IsSomeAnd}
 use Rattle.std.specs.Option.{option_map}
 use Rattle.std.specs.FinMap.{get}
-use Rattle.pss_base.specs.declared.session.SessionNo.{SessionNo}
-use Rattle.link_pool.specs.Meaning.{Meaning as Pool, AreRings, col_in, item_in, inserted, unlinked, in_row}
+use Rattle.link_pool.specs.Meaning.{Meaning as Pool, AreRings, col_in, item_in, inserted, unlinked}
 use Rattle.link_pool.specs.declared.names.Row.{Row}
 use Rattle.link_pool.specs.declared.names.Col.{Col}
 use Rattle.link_pool.specs.declared.names.Node.{Node}
@@ -12,7 +11,7 @@ use Rattle.link_pool.specs.declared.names.Seat.{Seat}
 use Rattle.link_pool.proofs.RingChanges.{row_stays-unlinked, col_stays-unlinked}
 use Rattle.incarnations.specs.declared.names.Slot.{Slot}
 use Rattle.incarnations.specs.Stock.{IsMoved}
-use Rattle.incarnations.proofs.Maps.{no_value, one_value}
+use Rattle.incarnations.proofs.Maps.{one_value}
 
 module _ (p mid : Pool Slot) (node : Node) (left : IsSomeAnd (get p.nodes node) (λ seat. mid ≡ unlinked p node seat)) (there : IsSome (get p.nodes node)) where
   -- where the node was

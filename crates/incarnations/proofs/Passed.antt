@@ -1,5 +1,5 @@
 -- What is stored after an entry came last in its session, and stands where it stood; and after its count is another.
-use Rattle.std.proofs.Common.{ℕ, ◌≡◌, ⊎_elim, ◌<◌, Bool, true, false, cond, Option, Some, None, IsSome, refl, sym, ap, ◌∙◌, subst}
+use Rattle.std.proofs.Common.{ℕ, ◌≡◌, ⊎_elim, ◌<◌, false, cond, Option, Some, None, refl, sym, ap, ◌∙◌, subst}
 use Rattle.std.specs.Option.{option_map}
 use Rattle.std.specs.FinMap.{FinMap, get, insert}
 use Rattle.link_pool.specs.Meaning.{Meaning as Pool, AreRings, row_in}
@@ -13,8 +13,8 @@ use Rattle.incarnations.specs.Keys.{slot_cmp}
 use Rattle.pss_machine.specs.declared.session.View.{View}
 use Rattle.type_layout.specs.Schemas.{given}
 use Rattle.incarnations.specs.Meaning.{Meaning, with_view, with_count, with_entry, is_of, stands_on, is_attached}
-use Rattle.incarnations.specs.Stock.{place_of, spot_of, spots_in, spot_at, row_at, col_at, size_at, load_at, pid_at, number_at, meaning_of, IsSeated, AreSeated, AreNumbered, AreCounted, IsSound, IsMoved, IsSet, IsTurned, asks, turned_entry}
-use Rattle.incarnations.proofs.Maps.{one_value, same_or_apart, insert_here, insert_apart, put_back, get_each, each_insert}
+use Rattle.incarnations.specs.Stock.{place_of, spot_of, spots_in, spot_at, row_at, col_at, size_at, load_at, pid_at, number_at, meaning_of, AreSeated, AreNumbered, AreCounted, IsSound, IsMoved, IsSet, IsTurned, asks, turned_entry}
+use Rattle.incarnations.proofs.Maps.{same_or_apart, insert_here, insert_apart, put_back, each_insert}
 use Rattle.incarnations.proofs.Keys.{slot_key}
 use Rattle.incarnations.proofs.Seats.{seats_alike}
 use Rattle.incarnations.proofs.Places.{rows_stay, turned}

@@ -1,5 +1,5 @@
 -- Where entries stand, and which node is whose.
-use Rattle.std.proofs.Common.{ℕ, suc, ◌≡◌, ◌≢◌, ◌+◌, ⊎_elim, List, [], ◌∷◌, ◌++◌, length, map, Bool, true, false, Option, Some, None, IsSome, refl, sym, ap, ◌∙◌, subst, arith}
+use Rattle.std.proofs.Common.{suc, ◌≡◌, ◌≢◌, ⊎_elim, List, [], ◌∷◌, ◌++◌, length, map, true, false, Option, Some, None, IsSome, refl, sym, ap, ◌∙◌, subst, arith}
 use Rattle.std.specs.Prelude.{Contains}
 use Rattle.std.specs.Option.{option_map}
 use Rattle.std.specs.FinMap.{get}
@@ -7,7 +7,7 @@ use Rattle.std.proofs.lemmas.List.{length-append, map-append}
 use Rattle.pss_base.specs.declared.session.SessionNo.{SessionNo}
 use Rattle.pss_machine.specs.declared.session.View.{View}
 use Rattle.type_layout.specs.Schemas.{given}
-use Rattle.link_pool.specs.Rings.{list_in, without}
+use Rattle.link_pool.specs.Rings.{list_in}
 use Rattle.link_pool.specs.Meaning.{Meaning as Pool, AreRings, row_in, col_in, item_in, inserted, unlinked, in_row}
 use Rattle.link_pool.specs.declared.names.Row.{Row}
 use Rattle.link_pool.specs.declared.names.Col.{Col}
@@ -19,7 +19,7 @@ use Rattle.incarnations.specs.declared.names.Slot.{Slot}
 use Rattle.incarnations.specs.declared.names.BodyName.{BodyName}
 use Rattle.incarnations.specs.declared.names.Entry.{Entry}
 use Rattle.incarnations.specs.Meaning.{body, stands_on, same_body}
-use Rattle.incarnations.specs.Stock.{Place, Loose, On, place_of, Spot, IsSeated, AreSeated, IsMoved, IsTurned, items_of}
+use Rattle.incarnations.specs.Stock.{Place, Loose, On, place_of, Spot, AreSeated, IsMoved, IsTurned, items_of}
 use Rattle.incarnations.proofs.Maps.{no_value, one_value, same_or_apart}
 use Rattle.incarnations.proofs.Keys.{body_self, body_told}
 use Rattle.incarnations.proofs.Seats.{col_key}

@@ -1,17 +1,17 @@
 -- Entries in their rows and columns, when a node goes or comes.
-use Rattle.std.proofs.Common.{ℕ, ◌≡◌, ◌≢◌, ⊎_elim, Option, Some, None, IsSome, refl, sym, ap, ◌∙◌, subst}
+use Rattle.std.proofs.Common.{◌≡◌, ◌≢◌, ⊎_elim, Option, Some, None, sym, ap, ◌∙◌}
 use Rattle.std.specs.Option.{option_map}
 use Rattle.std.specs.FinMap.{get, nat_cmp-IsAntisymmetric}
 use Rattle.pss_base.specs.declared.session.SessionNo.{SessionNo}
 use Rattle.link_pool.specs.Names.{row_cmp, col_cmp, node_cmp, row_named, col_named, node_named, row_cmp_total, col_cmp_total, node_cmp_total}
-use Rattle.link_pool.specs.Meaning.{Meaning as Pool, AreRings, inserted, unlinked, in_row}
+use Rattle.link_pool.specs.Meaning.{Meaning as Pool, AreRings, inserted, unlinked}
 use Rattle.link_pool.specs.declared.names.Row.{Row}
 use Rattle.link_pool.specs.declared.names.Col.{Col}
 use Rattle.link_pool.specs.declared.names.Node.{Node}
 use Rattle.link_pool.specs.declared.names.Seat.{Seat}
 use Rattle.link_pool.proofs.RingChanges.{seat-inserted, seat-inserted_other, seat-unlinked, seat-unlinked_other}
 use Rattle.incarnations.specs.declared.names.Slot.{Slot}
-use Rattle.incarnations.specs.Stock.{Place, Spot, IsSeated, AreSeated, IsMoved}
+use Rattle.incarnations.specs.Stock.{Place, Spot, AreSeated}
 use Rattle.incarnations.proofs.Maps.{IsKey, no_value, one_value, same_or_apart}
 use Rattle.incarnations.proofs.Keys.{slot_key}
 

@@ -1,42 +1,37 @@
 -- What callers see of what is stored.
-use Rattle.std.proofs.Common.{ℕ, ◌≡◌, ◌≢◌, ◌⊎◌, inl, inr, ⊎_elim, ◌<◌, ◌≤◌, ◌+◌, List, [], ◌∷◌, length, Bool, true, false, cond, Option, Some, None, IsSome, refl, sym, ap, ◌∙◌, subst, arith}
+use Rattle.std.proofs.Common.{ℕ, ◌≡◌, ◌≢◌, ◌⊎◌, inl, inr, ⊎_elim, ◌<◌, List, Bool, true, false, cond, Option, Some, None, IsSome, refl, sym, ap, ◌∙◌, subst, arith}
 use Rattle.std.specs.Prelude.{IsSomeAnd, is_some, ◌&&◌}
 use Rattle.std.specs.Option.{option_map, option_and_then}
-use Rattle.std.specs.FinMap as finite
-use Rattle.std.specs.FinMap.{FinMap, get, insert, remove, get-empty}
-use Rattle.std.specs.declared.cmp.Ordering.{Ordering}
+use Rattle.std.specs.FinMap.{FinMap, get, insert, remove}
 use Rattle.pss_base.specs.declared.pid.Pid.{Pid}
 use Rattle.pss_base.specs.declared.session.SessionNo.{SessionNo}
 use Rattle.pss_machine.specs.declared.session.View.{View}
 use Rattle.pss_machine.specs.Copies.{same_view}
 use Rattle.type_layout.specs.Types.{PlainValue}
 use Rattle.type_layout.specs.Schemas.{given}
-use Rattle.link_pool.specs.Meaning.{Meaning as Pool, AreRings, item_in, empty_pool}
-use Rattle.link_pool.specs.declared.names.Row.{Row}
-use Rattle.link_pool.specs.declared.names.Col.{Col}
+use Rattle.link_pool.specs.Meaning.{item_in}
 use Rattle.link_pool.specs.declared.names.Node.{Node}
 use Rattle.link_pool.specs.declared.names.Seat.{Seat}
 use Rattle.incarnations.specs.declared.names.Slot.{Slot}
 use Rattle.incarnations.specs.declared.names.BodyName.{BodyName}
 use Rattle.incarnations.specs.declared.names.BodyPlace.{BodyPlace}
 use Rattle.incarnations.specs.declared.names.BodyRecord.{BodyRecord}
-use Rattle.incarnations.specs.declared.names.ObjectName.{ObjectName}
 use Rattle.incarnations.specs.declared.names.Entry.{Entry}
 use Rattle.incarnations.specs.declared.names.EntryRecord.{EntryRecord}
 use Rattle.incarnations.specs.declared.names.SessionRecord.{SessionRecord}
 use Rattle.incarnations.specs.declared.stock.Stock.{Stock}
-use Rattle.incarnations.specs.Keys.{slot_cmp, body_cmp, session_cmp}
+use Rattle.incarnations.specs.Keys.{body_cmp}
 use Rattle.incarnations.specs.Maps.{each, count, IsWith}
 use Rattle.incarnations.specs.Records.{with_value}
-use Rattle.incarnations.specs.Rings.{AreCopyRings, HasNode}
-use Rattle.incarnations.specs.Meaning.{Meaning, no_copies, is_of, stands_on, is_attached, body, body_of, body_under, same_slot, same_body, slot, with_view, with_count, with_entry, length_of, Leaves, loosened, freed, of_session, on_body, both, IsGone, IsNew, IsAgain, HasNoEntry, AreCopies, rewritten}
-use Rattle.incarnations.specs.Stock.{Place, Loose, On, place_of, Spot, spot_of, spot_at, row_at, col_at, size_at, load_at, pid_at, number_at, meaning_of, AreSeated, AreApart, AreNamed, AreNumbered, AreCounted, IsSound, IsErased, IsSet, asks}
-use Rattle.incarnations.proofs.Maps.{IsKey, no_value, one_value, same_or_apart, insert_here, insert_apart, remove_here, remove_apart, alike_maps, get_each, each_same, each_insert, len_each, count_none, count_some}
-use Rattle.incarnations.proofs.Keys.{session_key, slot_key, body_key, object_key, session_told, slot_told, slot_self, body_told, body_self, view_told, view_self}
-use Rattle.incarnations.proofs.Seats.{row_key, col_key, seats_alike}
-use Rattle.incarnations.proofs.Places.{on_told, on_found, IsNodeOf}
+use Rattle.incarnations.specs.Rings.{AreCopyRings}
+use Rattle.incarnations.specs.Meaning.{Meaning, is_of, stands_on, body, body_of, body_under, same_slot, same_body, slot, with_view, Leaves, loosened, freed, of_session, on_body, both, IsGone, AreCopies, rewritten}
+use Rattle.incarnations.specs.Stock.{Place, Loose, On, place_of, Spot, spot_of, spot_at, row_at, col_at, load_at, meaning_of, IsSound, IsErased, IsSet, asks}
+use Rattle.incarnations.proofs.Maps.{no_value, one_value, same_or_apart, insert_here, insert_apart, remove_here, remove_apart, get_each, each_insert, count_none}
+use Rattle.incarnations.proofs.Keys.{slot_key, body_key, session_told, slot_told, slot_self, body_told, body_self, view_told, view_self}
+use Rattle.incarnations.proofs.Seats.{seats_alike}
+use Rattle.incarnations.proofs.Places.{on_found, IsNodeOf}
 use Rattle.incarnations.proofs.Named.{object, apart_less}
-use Rattle.incarnations.proofs.Sets.{some, Has, has, has_map, plain, entry_is, seat_is, body_there, nobody_on, load_on, bodies_left}
+use Rattle.incarnations.proofs.Sets.{some, Has, has, has_map, plain, entry_is, seat_is, body_there, load_on, bodies_left}
 use Rattle.incarnations.proofs.Freed.{of_node, unchanged, is_of_self}
 
 -- ---- entries and bodies by name

@@ -1,28 +1,25 @@
 -- What is stored after an entry moved.
-use Rattle.std.proofs.Common.{ℕ, ◌≡◌, ◌≢◌, ⊎_elim, ◌<◌, ◌+◌, length, Bool, true, false, cond, nat_lt, Option, Some, None, IsSome, refl, sym, ap, ◌∙◌, subst, arith, rules}
+use Rattle.std.proofs.Common.{◌≡◌, ⊎_elim, ◌<◌, length, Bool, true, false, cond, nat_lt, Option, Some, None, IsSome, refl, sym, ap, ◌∙◌, subst, arith, rules}
 use Rattle.std.specs.Prelude.{List}
 use Rattle.std.specs.Option.{option_map}
 use Rattle.std.proofs.lemmas.Bool.{lt-ltb}
 use Rattle.std.specs.FinMap.{FinMap, get, insert, remove}
-use Rattle.pss_base.specs.declared.session.SessionNo.{SessionNo}
 use Rattle.type_layout.specs.Types.{PlainValue}
 use Rattle.link_pool.specs.Rings.{list_in}
-use Rattle.link_pool.specs.Meaning.{Meaning as Pool, AreRings, inserted, unlinked, in_row}
+use Rattle.link_pool.specs.Meaning.{Meaning as Pool, AreRings, unlinked, in_row}
 use Rattle.link_pool.specs.declared.names.Row.{Row}
-use Rattle.link_pool.specs.declared.names.Col.{Col}
 use Rattle.link_pool.specs.declared.names.Node.{Node}
 use Rattle.incarnations.specs.declared.names.Slot.{Slot}
 use Rattle.incarnations.specs.declared.names.BodyName.{BodyName}
 use Rattle.incarnations.specs.declared.names.BodyRecord.{BodyRecord}
 use Rattle.incarnations.specs.declared.names.Entry.{Entry}
 use Rattle.incarnations.specs.declared.names.EntryRecord.{EntryRecord}
-use Rattle.incarnations.specs.declared.names.SessionRecord.{SessionRecord}
 use Rattle.incarnations.specs.declared.stock.Stock.{Stock}
 use Rattle.incarnations.specs.Keys.{slot_cmp, body_cmp}
 use Rattle.incarnations.specs.Maps.{each, count}
-use Rattle.incarnations.specs.Meaning.{stands_on, body}
-use Rattle.incarnations.specs.Stock.{Place, Loose, On, place_of, Spot, spot_of, spots_in, spot_at, row_at, col_at, pid_at, number_at, meaning_of, IsSeated, AreSeated, AreApart, AreNamed, AreNumbered, AreLong, IsSound, IsMoved}
-use Rattle.incarnations.proofs.Maps.{no_value, one_value, same_or_apart, insert_here, insert_apart, remove_here, remove_apart, get_each, each_insert, count_none, count_some}
+use Rattle.incarnations.specs.Meaning.{stands_on}
+use Rattle.incarnations.specs.Stock.{Place, On, place_of, Spot, spot_of, spots_in, spot_at, row_at, col_at, pid_at, number_at, meaning_of, IsSeated, AreSeated, AreApart, AreNamed, AreNumbered, AreLong, IsSound, IsMoved}
+use Rattle.incarnations.proofs.Maps.{no_value, one_value, same_or_apart, insert_here, insert_apart, remove_here, remove_apart, get_each, each_insert, count_none}
 use Rattle.incarnations.proofs.Keys.{slot_key}
 use Rattle.incarnations.proofs.Seats.{seats_alike, seats_out, seats_in}
 use Rattle.incarnations.proofs.Places.{on_found, length_moved, cols_stay}

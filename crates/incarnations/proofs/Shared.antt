@@ -1,45 +1,32 @@
 -- What is stored after an entry came to share a body, or to stand on a new one; and after a body got another value.
-use Rattle.std.proofs.Common.{ℕ, ◌≡◌, ◌≢◌, ◌⊎◌, inl, inr, ⊎_elim, ◌<◌, ◌≤◌, ◌+◌, cond, List, [], Bool, true, false, Option, Some, None, IsSome, refl, sym, ap, ◌∙◌, subst, arith}
-use Rattle.std.specs.Prelude.{IsSomeAnd, length, is_some}
+use Rattle.std.proofs.Common.{◌≡◌, ◌≢◌, ◌≤◌, ◌+◌, List, [], Some, None, IsSome, refl, sym, ap, ◌∙◌, subst, arith}
+use Rattle.std.specs.Prelude.{IsSomeAnd}
 use Rattle.std.specs.Option.{option_map}
 use Rattle.std.specs.FinMap.{FinMap, get, insert, remove}
-use Rattle.pss_base.specs.declared.session.SessionNo.{SessionNo}
 use Rattle.pss_machine.specs.declared.session.View.{View}
 use Rattle.type_layout.specs.Types.{PlainValue}
-use Rattle.type_layout.specs.Schemas.{given}
 use Rattle.link_pool.specs.Meaning.{Meaning as Pool, AreRings}
 use Rattle.link_pool.specs.declared.names.Row.{Row}
-use Rattle.link_pool.specs.declared.names.Col.{Col}
 use Rattle.link_pool.specs.declared.names.Node.{Node}
-use Rattle.link_pool.specs.Meaning.{item_in}
-use Rattle.link_pool.specs.Rings.{list_in}
 use Rattle.incarnations.specs.declared.names.Slot.{Slot}
 use Rattle.incarnations.specs.declared.names.BodyName.{BodyName}
 use Rattle.incarnations.specs.declared.names.BodyRecord.{BodyRecord}
-use Rattle.incarnations.specs.declared.names.Entry.{Entry}
 use Rattle.incarnations.specs.declared.names.EntryRecord.{EntryRecord}
-use Rattle.incarnations.specs.declared.names.SessionRecord.{SessionRecord}
 use Rattle.incarnations.specs.declared.stock.Stock.{Stock}
 use Rattle.incarnations.specs.Keys.{slot_cmp}
 use Rattle.incarnations.specs.Maps.{each, count}
 use Rattle.incarnations.specs.Records.{with_entries}
-use Rattle.incarnations.specs.Meaning.{stands_on, is_of, is_attached, body, same_body, with_view, with_entry, attached}
-use Rattle.incarnations.specs.Stock.{Place, Loose, On, place_of, Spot, spot_of, spots_in, spot_at, row_at, col_at, size_at, load_at, meaning_of, AreSeated, AreApart, AreCounted, IsSound, IsMoved, IsFewer, AreNumbered, AreLong}
-use Rattle.incarnations.proofs.Maps.{no_value, one_value, same_or_apart, insert_here, insert_apart, remove_here, remove_apart, get_each, weight, count_set, count_within, each_insert, each_same, len_each}
-use Rattle.incarnations.proofs.Keys.{slot_key, body_key, body_self, body_told}
+use Rattle.incarnations.specs.Meaning.{stands_on, body, with_view, with_entry, attached}
+use Rattle.incarnations.specs.Stock.{Place, Loose, On, row_at, meaning_of, IsSound, IsMoved}
+use Rattle.incarnations.proofs.Maps.{no_value, one_value, insert_here, insert_apart, remove_apart, each_insert, each_same}
+use Rattle.incarnations.proofs.Keys.{body_key}
 use Rattle.std.specs.FinMap as finite
-use Rattle.std.specs.FinMap.{len-insert}
 use Rattle.incarnations.specs.Keys.{body_cmp}
-use Rattle.incarnations.proofs.Loosened.{count_alike}
-use Rattle.incarnations.proofs.Seats.{row_key, seats_alike, seats_kept}
-use Rattle.incarnations.proofs.Places.{rows_stay}
-use Rattle.incarnations.proofs.Named.{apart_less}
-use Rattle.incarnations.proofs.Stood.{some_none, with_pool, pool_sound, unused, stay_inserted, standing, standing_sound, plain_is, room_on}
+use Rattle.incarnations.proofs.Seats.{row_key}
+use Rattle.incarnations.proofs.Stood.{pool_sound, unused, stay_inserted, standing_sound, plain_is, room_on}
 use Rattle.incarnations.specs.Maps.{IsWith}
-use Rattle.incarnations.specs.Records.{with_value}
 use Rattle.incarnations.specs.declared.names.BodyPlace.{BodyPlace}
-use Rattle.incarnations.specs.Meaning.{rewritten}
-use Rattle.incarnations.proofs.Sets.{some, Has, has, has_map, plain, node_there, entry_is, seats_set, plain_set, names_set, cols_set, lengths_set, numbers_set, load_on, nobody_on}
+use Rattle.incarnations.proofs.Sets.{some, Has, has_map, plain, node_there, load_on, nobody_on}
 
 module _ (k : Stock) (sound : IsSound k) (x : Slot) (was : EntryRecord) (at : get k.entries x ≡ Some was) (loose : was.entry.view ≡ None) (v : View) where
   abbrev b : BodyName

@@ -1,8 +1,8 @@
 -- What the entries of a session are, when some of them were taken from the front of its column and put last.
-use Rattle.std.proofs.Common.{ℕ, zero, suc, ◌≡◌, ◌≢◌, ◌⊎◌, inl, inr, ⊎_elim, ◌<◌, ◌≤◌, ◌+◌, List, [], ◌∷◌, ◌++◌, length, take, drop, get_or, Bool, true, false, cond, Option, Some, None, IsSome, slice_get, refl, sym, ap, ◌∙◌, subst, arith}
-use Rattle.std.specs.Prelude.{map, Contains, ◌&&◌}
+use Rattle.std.proofs.Common.{ℕ, zero, suc, ◌≡◌, ◌≢◌, ◌⊎◌, inl, inr, ⊎_elim, ◌<◌, ◌+◌, List, [], ◌∷◌, ◌++◌, length, take, drop, get_or, Bool, true, false, cond, Option, Some, None, slice_get, refl, sym, ap, ◌∙◌, arith}
+use Rattle.std.specs.Prelude.{map, ◌&&◌}
 use Rattle.std.specs.Option.{option_map, option_and_then}
-use Rattle.std.specs.FinMap.{FinMap, get, insert}
+use Rattle.std.specs.FinMap.{get, insert}
 use Rattle.std.proofs.lemmas.List.{length-map}
 use Rattle.std.proofs.lemmas.Option.{slice_get-map}
 use Rattle.std.proofs.lemmas.Bool.{cases_eq}
@@ -11,25 +11,22 @@ use Rattle.pss_machine.specs.declared.session.View.{View}
 use Rattle.pss_machine.specs.Copies.{same_view}
 use Rattle.type_layout.specs.Schemas.{given}
 use Rattle.link_pool.specs.Rings.{list_in, first_in}
-use Rattle.link_pool.specs.Meaning.{Meaning as Pool, item_in}
+use Rattle.link_pool.specs.Meaning.{item_in}
 use Rattle.link_pool.specs.declared.names.Col.{Col}
 use Rattle.link_pool.specs.declared.names.Node.{Node}
-use Rattle.link_pool.specs.declared.names.Seat.{Seat}
 use Rattle.link_pool.proofs.RingChanges.{begins, Begins, no_first}
 use Rattle.link_pool.proofs.Refills.{turned, turned-more}
 use Rattle.incarnations.specs.declared.names.Slot.{Slot}
-use Rattle.incarnations.specs.declared.names.BodyName.{BodyName}
 use Rattle.incarnations.specs.declared.names.Entry.{Entry}
 use Rattle.incarnations.specs.declared.names.EntryRecord.{EntryRecord}
 use Rattle.incarnations.specs.declared.names.SessionRecord.{SessionRecord}
 use Rattle.incarnations.specs.declared.stock.Stock.{Stock}
-use Rattle.incarnations.specs.Maps.{each, count}
-use Rattle.incarnations.specs.Meaning.{Meaning, is_of, with_view, Leaves, loosened, of_session, both}
+use Rattle.incarnations.specs.Meaning.{is_of, with_view, Leaves, loosened, of_session, both}
 use Rattle.incarnations.specs.Stock.{col_at, meaning_of, IsSound, IsSet, IsTurned, KeepsBodies, items_of, asks, chosen_by, turned_entry}
-use Rattle.incarnations.proofs.Maps.{no_value, one_value, same_or_apart, insert_here, insert_apart, get_each}
+use Rattle.incarnations.proofs.Maps.{one_value, same_or_apart, insert_here, insert_apart, get_each}
 use Rattle.incarnations.proofs.Keys.{slot_key, session_told}
-use Rattle.incarnations.proofs.Sets.{Has, has, has_map, plain, entry_is, seat_is, bodies_left}
-use Rattle.incarnations.proofs.Freed.{is_of_self, column_size}
+use Rattle.incarnations.proofs.Sets.{has_map, plain, entry_is, seat_is, bodies_left}
+use Rattle.incarnations.proofs.Freed.{is_of_self}
 
 -- ---- lists
 

@@ -1,9 +1,8 @@
 -- The orders by which finite maps are keyed, and letters that tell keys apart.
-use Rattle.std.specs.Prelude.{ℕ, List, [], ◌∷◌, ◌++◌}
+use Rattle.std.specs.Prelude.{ℕ, List, [], ◌∷◌}
 use Rattle.std.specs.declared.cmp.Ordering.{Ordering}
 use Rattle.std.specs.Ordering.{nat_cmp}
 use Rattle.std.specs.Cmp.Lexicographic.{slice_cmp}
-use Rattle.pss_base.specs.declared.pid.Pid.{Pid}
 use Rattle.pss_base.specs.declared.session.SessionNo.{SessionNo}
 use Rattle.pss_machine.specs.declared.session.View.{View}
 use Rattle.pss_machine.specs.declared.session.View.TheVariants.{Committed, Own, Kept}

@@ -1,5 +1,5 @@
 -- Finite maps: another thing in each place, and how many pass a test.
-use Rattle.std.specs.Prelude.{ℕ, ◌≡◌, List, map, filter, length, Bool, Some, None, Option}
+use Rattle.std.specs.Prelude.{ℕ, ◌≡◌, map, filter, length, Bool}
 use Rattle.std.specs.Prelude.{IsSomeAnd}
 use Rattle.std.specs.declared.cmp.Ordering.{Ordering}
 use Rattle.std.specs.FinMap.{FinMap, entries, from_sorted, get, insert}

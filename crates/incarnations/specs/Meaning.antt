@@ -1,17 +1,15 @@
 -- Which entries the sessions have, and which bodies these stand on.
-use Rattle.std.specs.Prelude.{ℕ, ◌≡◌, ◌⊎◌, ◌+◌, ◌-◌, ◌<◌, ◌≤◌, ◌==◌, ◌&&◌, List, filter, length, Option, Some, None, IsSome, IsSomeAnd, MatchOption, Bool, true, false, is_some, nat_lt, cond, refl}
+use Rattle.std.specs.Prelude.{ℕ, ◌≡◌, ◌⊎◌, ◌+◌, ◌-◌, ◌<◌, ◌≤◌, ◌==◌, ◌&&◌, List, filter, length, Option, Some, None, IsSome, IsSomeAnd, MatchOption, Bool, false, is_some, nat_lt, cond, refl}
 use Rattle.std.specs.Option.{option_map, option_and_then}
 use Rattle.std.specs.Coded.{Coded, code_by, coded×, coded_ℕ}
 use Rattle.std.specs.FinMap as map
 use Rattle.std.specs.FinMap.{FinMap, get, insert, remove}
 use Rattle.pss_base.specs.declared.pid.Pid.{Pid}
 use Rattle.pss_base.specs.declared.session.SessionNo.{SessionNo}
-use Rattle.pss_base.specs.declared.owner.OwnerNo.{OwnerNo}
 use Rattle.type_layout.specs.Types.{PlainValue}
 use Rattle.type_layout.specs.Schemas.{given}
 use Rattle.type_layout.specs.Codes.{record_code}
 use Rattle.pss_machine.specs.declared.session.View.{View}
-use Rattle.pss_machine.specs.declared.session.View.TheVariants.{Own}
 use Rattle.pss_machine.specs.Same.{same_pid}
 use Rattle.pss_machine.specs.Copies.{same_view}
 use Rattle.incarnations.specs.declared.names.Slot.{Slot}

@@ -1,7 +1,6 @@
 -- What is kept of bodies.
 use Rattle.std.specs.Prelude.{ℕ, List}
 use Rattle.type_layout.specs.Types.{PlainValue}
-use Rattle.incarnations.specs.declared.names.BodyPlace.{BodyPlace}
 use Rattle.incarnations.specs.declared.names.BodyRecord.{BodyRecord}
 
 abbrev pub with_entries : ℕ → BodyRecord → BodyRecord

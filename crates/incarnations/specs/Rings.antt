@@ -1,7 +1,7 @@
 -- How entries stand in rings.
-use Rattle.std.specs.Prelude.{◌≡◌, ◌↔◌, Option, Some, None, IsSome}
+use Rattle.std.specs.Prelude.{◌≡◌, ◌↔◌, Some, IsSome}
 use Rattle.std.specs.FinMap.{get}
-use Rattle.link_pool.specs.Meaning.{Meaning as Pool, item_in, AreRings}
+use Rattle.link_pool.specs.Meaning.{Meaning as Pool, item_in}
 use Rattle.link_pool.specs.declared.names.Node.{Node}
 use Rattle.link_pool.specs.declared.names.Seat.{Seat}
 use Rattle.incarnations.specs.declared.names.Slot.{Slot}

@@ -1,4 +1,4 @@
-use Rattle.std.proofs.Common.{◌≡◌, IsSome, refl, ◌-◌, sym, ap, ◌∙◌, subst, arith, rules}
+use Rattle.std.proofs.Common.{refl, ◌-◌, sym, ◌∙◌, arith}
 use Rattle.std.specs.FinMap.{get, insert}
 use Rattle.incarnations.proofs.Maps.{no_value}
 use Rattle.incarnations.proofs.Sets.{some, node_there, home_there}

@@ -1,12 +1,12 @@
-use Rattle.std.proofs.Common.{◌≡◌, ◌-◌, None, Some, IsSome, sym, ap, ◌∙◌, subst, arith}
+use Rattle.std.proofs.Common.{◌-◌, sym, ap, ◌∙◌, subst, arith}
 use Rattle.std.specs.Option.{option_map}
-use Rattle.std.specs.FinMap.{FinMap, get}
+use Rattle.std.specs.FinMap.{FinMap}
 use Rattle.incarnations.specs.declared.names.EntryRecord.{EntryRecord}
 use Rattle.incarnations.specs.Keys.{slot_cmp}
 use Rattle.incarnations.specs.Meaning.{body}
 use Rattle.incarnations.specs.Stock.{Loose, IsLowered}
 use Rattle.incarnations.proofs.Maps.{no_value}
-use Rattle.incarnations.proofs.Sets.{some, entry_is, node_there, home_there}
+use Rattle.incarnations.proofs.Sets.{node_there, home_there}
 use Rattle.incarnations.proofs.Loosened.{moved_stock, lower_body, some_attached, sound_after, set_after, rows_after, sessions_after, turned_after}
 use Rattle.incarnations.proofs.loosening.loosen.Goals as goal
 use Rattle.incarnations.proofs.loosening.loosen.Goals.{After-lower}

@@ -1,5 +1,5 @@
 use Rattle.incarnations.specs.Stock.{place_of}
-use Rattle.incarnations.proofs.Sets.{some, node_there, seat_is}
+use Rattle.incarnations.proofs.Sets.{node_there}
 use Rattle.incarnations.proofs.Passed.{passed_sound, passed_same, passed_turned, own_row}
 use Rattle.incarnations.proofs.loosening.pass.Goals as goal
 

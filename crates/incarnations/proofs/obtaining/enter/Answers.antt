@@ -1,4 +1,4 @@
-use Rattle.std.proofs.Common.{◌≡◌, Some, IsSome, sym, ap, ◌∙◌, subst}
+use Rattle.std.proofs.Common.{sym, ap, subst}
 use Rattle.std.specs.FinMap.{get}
 use Rattle.link_pool.specs.Meaning.{Meaning as Pool}
 use Rattle.incarnations.specs.declared.names.Slot.{Slot}

@@ -1,4 +1,4 @@
-use Rattle.std.proofs.Common.{◌∙◌, sym, ap}
+use Rattle.std.proofs.Common.{◌∙◌, ap}
 use Rattle.std.specs.FinMap.{remove}
 use Rattle.incarnations.proofs.Maps.{remove_insert}
 use Rattle.incarnations.proofs.Keys.{object_key}

@@ -1,6 +1,5 @@
-use Rattle.std.proofs.Common.{◌≡◌, None, Some, IsSome, sym, ap, ◌∙◌, subst, arith}
+use Rattle.std.proofs.Common.{sym, subst, arith}
 use Rattle.std.specs.FinMap.{get}
-use Rattle.incarnations.specs.declared.stock.Stock.{Stock}
 use Rattle.incarnations.specs.Stock.{IsSound}
 use Rattle.incarnations.proofs.Sets.{some}
 use Rattle.incarnations.proofs.Stood.{room_attached}

@@ -1,6 +1,4 @@
-use Rattle.std.proofs.Common.{◌≡◌, None, Some, IsSome, sym, ap, ◌∙◌, subst, arith}
-use Rattle.std.specs.Option.{option_map}
-use Rattle.std.specs.FinMap.{get}
+use Rattle.std.proofs.Common.{arith}
 use Rattle.incarnations.proofs.Sets.{node_there}
 use Rattle.incarnations.proofs.Stood.{room_attached}
 use Rattle.incarnations.proofs.Shared.{shared_row, shared_room, shared_sound, shared_is}

@@ -1,13 +1,10 @@
-use Rattle.std.proofs.Common.{◌≡◌, ◌<◌, ◌+◌, Some, None, IsSome, length, sym, ap, ◌∙◌, arith}
-use Rattle.std.specs.Option.{option_map}
+use Rattle.std.proofs.Common.{◌≡◌, sym, ◌∙◌, arith}
 use Rattle.std.specs.FinMap.{get}
-use Rattle.link_pool.specs.Rings.{list_in, first_in}
 use Rattle.incarnations.specs.Maps.{count}
-use Rattle.incarnations.specs.Meaning.{is_of, stands_on}
-use Rattle.incarnations.specs.Stock.{col_at}
+use Rattle.incarnations.specs.Meaning.{stands_on}
 use Rattle.incarnations.proofs.Maps.{no_value}
 use Rattle.incarnations.proofs.Sets.{some, plain}
-use Rattle.incarnations.proofs.Freed.{IsEntry, entry_found, row_there, row_some, first_in_row, first_stood, cleared_none, cleared_more, cleared_all, cleared_absent, still, place_row, place_load, place_none}
+use Rattle.incarnations.proofs.Freed.{entry_found, row_there, row_some, first_in_row, first_stood, cleared_none, cleared_more, cleared_all, cleared_absent, still, place_row, place_load, place_none}
 use Rattle.incarnations.proofs.sweeping.clear.Goals as goal
 
 pub loop-init : goal.loop-init

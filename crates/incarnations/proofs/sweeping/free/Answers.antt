@@ -1,13 +1,11 @@
-use Rattle.std.proofs.Common.{◌≡◌, ◌<◌, ◌+◌, Some, None, IsSome, length, sym, ap, ◌∙◌, arith}
+use Rattle.std.proofs.Common.{◌≡◌, ◌<◌, sym, ap, ◌∙◌, arith}
 use Rattle.std.specs.Option.{option_map}
 use Rattle.std.specs.FinMap.{get}
-use Rattle.link_pool.specs.Rings.{list_in, first_in}
 use Rattle.incarnations.specs.Maps.{count}
-use Rattle.incarnations.specs.Meaning.{is_of, stands_on}
-use Rattle.incarnations.specs.Stock.{col_at}
+use Rattle.incarnations.specs.Meaning.{is_of}
 use Rattle.incarnations.proofs.Maps.{no_value}
 use Rattle.incarnations.proofs.Sets.{some, plain}
-use Rattle.incarnations.proofs.Freed.{IsEntry, entry_found, col_there, column_some, first_at, first_entry, freed_none, freed_more, freed_all, freed_absent}
+use Rattle.incarnations.proofs.Freed.{entry_found, col_there, column_some, first_at, first_entry, freed_none, freed_more, freed_all, freed_absent}
 use Rattle.incarnations.proofs.sweeping.free.Goals as goal
 
 pub loop-init : goal.loop-init

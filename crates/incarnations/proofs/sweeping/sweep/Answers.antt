@@ -1,14 +1,10 @@
-use Rattle.std.proofs.Common.{◌≡◌, ◌<◌, ◌+◌, Some, None, IsSome, length, sym, ap, ◌∙◌, arith}
+use Rattle.std.proofs.Common.{sym, ap, ◌∙◌, arith}
 use Rattle.std.specs.Option.{option_map}
 use Rattle.std.specs.FinMap.{get}
-use Rattle.link_pool.specs.Rings.{list_in, first_in}
-use Rattle.incarnations.specs.Maps.{count}
-use Rattle.incarnations.specs.Meaning.{is_of, stands_on}
-use Rattle.incarnations.specs.Stock.{col_at}
 use Rattle.incarnations.proofs.Maps.{no_value}
-use Rattle.incarnations.proofs.Sets.{some, plain}
-use Rattle.incarnations.proofs.Freed.{IsEntry, entry_found, col_there, first_at, first_entry, spot_found, loosened_absent}
-use Rattle.incarnations.proofs.Swept.{IsSwept, long, filled, col_now, swept_none, swept_more, swept_all}
+use Rattle.incarnations.proofs.Sets.{some}
+use Rattle.incarnations.proofs.Freed.{entry_found, col_there, first_at, first_entry, spot_found, loosened_absent}
+use Rattle.incarnations.proofs.Swept.{long, filled, col_now, swept_none, swept_more, swept_all}
 use Rattle.incarnations.specs.Stock.{chosen_by, IsTurned}
 use Rattle.std.proofs.Common.{subst}
 use Rattle.incarnations.proofs.sweeping.sweep.Goals as goal

@@ -1,6 +1,5 @@
-use Rattle.std.proofs.Common.{◌≡◌, sym, ap, ◌∙◌, Option}
+use Rattle.std.proofs.Common.{sym, ap, ◌∙◌}
 use Rattle.std.specs.Option.{option_map}
-use Rattle.std.specs.FinMap as map
 use Rattle.incarnations.specs.declared.names.BodyRecord.{BodyRecord}
 use Rattle.incarnations.proofs.Keys.{body_key, same_name, name_ties}
 use Rattle.incarnations.proofs.Hashed.{told}

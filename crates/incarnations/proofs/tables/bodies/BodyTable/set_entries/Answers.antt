@@ -1,6 +1,5 @@
 use Rattle.std.proofs.Common.{ap, ◌∙◌, sym}
 use Rattle.std.specs.Option.{option_copied_mut}
-use Rattle.std.specs.FinMap as map
 use Rattle.incarnations.specs.Records.{with_entries}
 use Rattle.incarnations.proofs.Keys.{body_key, same_name, name_ties}
 use Rattle.incarnations.proofs.Hashed.{written, there, never}

@@ -17,6 +17,7 @@ PROGRAMS = {
     "lock_table": b"lock_table: 66353 operations, 0 differences\n",
     "incarnations": b"incarnations: 165861 operations, 0 differences\n",
     "storage_home": b"storage_home: 1493 operations, 0 differences\n",
+    "pss_session": b"pss_session: 5000 operations, 0 differences\n",
 }
 
 

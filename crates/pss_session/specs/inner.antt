@@ -1,0 +1,4 @@
+pub mod Rows
+pub mod Walks
+pub mod Names
+pub mod Register

@@ -2,32 +2,34 @@
 use Rattle.std.proofs.Common.{◌≡◌, ◌⊎◌, ⊎_elim, inl, inr, ℕ, List}
 use Rattle.std.specs.declared.option.Option.{Option}
 use Rattle.std.specs.Io.KnownBytes.{append_known}
-use Rattle.pss_disk.specs.Moments.{Moment, Through}
+use Rattle.pss_disk.specs.Moments.{Moment, Disk, Through}
 use Rattle.pss_disk.proofs.Passing.{weaker}
+use Rattle.line_service.specs.Spoken.{HasSpoken}
+use Rattle.line_service.specs.Turns.{IsWhole}
 use Rattle.pss_daemon.specs.Ends.{IsNoPlan, IsUnbuilt, IsCheck, IsRun, IsOther, SaidWhole, usage_line}
 use Rattle.pss_daemon.specs.declared.forms.Plan.{Plan}
 use Rattle.pss_daemon.specs.declared.forms.Plan.TheVariants.{Check, Init, Run, Demo}
 use Rattle.pss_serving.specs.Outcomes.{OfText, WholeServing, not_built_line}
-use Rattle.pss_serving.specs.Spoken.{HasSpoken, IsCut, IsWhole}
+use Rattle.pss_serving.specs.Spoken.{IsCut}
 use Rattle.pss_serving.specs.declared.status.Status.{Status}
 use Rattle.pss_serving.specs.declared.status.Status.TheVariants as status
-use Rattle.pss_serving.proofs.AtMoments.{of_call, all_whole, cut_there}
+use Rattle.pss_serving.proofs.AtMoments.{whole_call, cut_call}
 
-module _ (words : List (List ℕ)) (schema script before after : Option (List ℕ)) (hist hist' : List Moment) where
+module _ (words : List (List ℕ)) (schema script before after : Option (List ℕ)) (disk : Option Disk) (hist hist' : List Moment) where
   abbrev Whole : Option (List ℕ) → Type 0
   Whole spoken = SaidWhole words schema script before spoken
 
-  whole : (ending : Status) → Whole after → Through hist hist' (HasSpoken after) → Through hist hist' (λ m. Whole m.spoken ⊎ IsCut ending after m.spoken)
-  whole ending told call = all_whole hist hist hist' after Whole ending (of_call hist hist hist' after Whole told call)
+  whole : (ending : Status) → Whole after → Through hist hist' (HasSpoken after disk) → Through hist hist' (λ m. Whole m.spoken ⊎ IsCut ending after m.spoken)
+  whole = whole_call hist hist' after disk Whole
 
-  pub usage_moments : IsNoPlan words → after ≡ append_known before usage_line → Through hist hist' (HasSpoken after) → Through hist hist' (λ m. Whole m.spoken ⊎ IsCut status.Usage after m.spoken)
+  pub usage_moments : IsNoPlan words → after ≡ append_known before usage_line → Through hist hist' (HasSpoken after disk) → Through hist hist' (λ m. Whole m.spoken ⊎ IsCut status.Usage after m.spoken)
   usage_moments is told = whole status.Usage (inl (is, inr told))
 
-  pub unbuilt_moments : IsUnbuilt words → after ≡ append_known before not_built_line → Through hist hist' (HasSpoken after) → Through hist hist' (λ m. Whole m.spoken ⊎ IsCut status.NotBuilt after m.spoken)
+  pub unbuilt_moments : IsUnbuilt words → after ≡ append_known before not_built_line → Through hist hist' (HasSpoken after disk) → Through hist hist' (λ m. Whole m.spoken ⊎ IsCut status.NotBuilt after m.spoken)
   unbuilt_moments is told = whole status.NotBuilt (inr (inl (is, inr told)))
 
-  pub cut_moments : Through hist hist' (HasSpoken after) → Through hist hist' (λ m. Whole m.spoken ⊎ IsCut status.SpeakFault after m.spoken)
-  cut_moments = cut_there hist hist hist' after Whole
+  pub cut_moments : Through hist hist' (HasSpoken after disk) → Through hist hist' (λ m. Whole m.spoken ⊎ IsCut status.SpeakFault after m.spoken)
+  cut_moments = cut_call hist hist' after disk Whole
 
   pub check_moments : (ending : Status) → IsCheck words → Through hist hist' (λ m. OfText (λ told. IsWhole told before m.spoken) schema ⊎ IsCut ending after m.spoken) → Through hist hist' (λ m. Whole m.spoken ⊎ IsCut ending after m.spoken)
   check_moments ending is = weaker hist hist' (λ m. OfText (λ told. IsWhole told before m.spoken) schema ⊎ IsCut ending after m.spoken) (λ m. Whole m.spoken ⊎ IsCut ending after m.spoken)

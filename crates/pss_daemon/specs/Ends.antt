@@ -2,11 +2,12 @@
 use Rattle.std.specs.Prelude.{ℕ, ◌≡◌, ◌⊎◌, List, [], ◌∷◌, ◌++◌, codes}
 use Rattle.std.specs.declared.option.Option.{Option}
 use Rattle.std.specs.Io.KnownBytes.{append_known}
+use Rattle.line_service.specs.Spoken.{SaidOf}
+use Rattle.line_service.specs.Turns.{IsWhole}
 use Rattle.pss_daemon.specs.Forms.{IsPlanOf}
 use Rattle.pss_daemon.specs.declared.forms.Plan.{Plan}
 use Rattle.pss_daemon.specs.declared.forms.Plan.TheVariants.{Check, Init, Run, Demo}
 use Rattle.pss_serving.specs.Outcomes.{Call, EndsChecking, EndsServing, OfText, WholeServing, not_built_line}
-use Rattle.pss_serving.specs.Spoken.{SaidOf, IsWhole}
 use Rattle.pss_serving.specs.declared.status.Status.{Status}
 use Rattle.pss_serving.specs.declared.status.Status.TheVariants as status
 

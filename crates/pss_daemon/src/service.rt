@@ -8,9 +8,10 @@ ghost use Rattle.pss_daemon.specs.Ends.{Ends, IsRun, SaidWhole};
 
 use crate::forms::Plan;
 use crate::planning::plan;
+use line_service::speak;
 use pss_base::{Bytes, Source};
 use pss_disk::Station;
-use pss_serving::{NOT_BUILT, Status, run_script, speak, tell_checked};
+use pss_serving::{NOT_BUILT, Status, run_script, tell_checked};
 use std::alloc::Global;
 
 const USAGE: &[u8] =
@@ -36,8 +37,8 @@ pub fn pssd<P: Source, C: Source, W: Station>(
         (P.faults schema.old) (P.faults schema.new) }
     // Which of the outside failed.
     ensures causes { HasCauses result
-        (record { schema = P.faults schema.old; script = C.faults script.old; speech = W.speak_faults station.old })
-        (record { schema = P.faults schema.new; script = C.faults script.new; speech = W.speak_faults station.new }) }
+        (record { schema = P.faults schema.old; script = C.faults script.old; speech = W.speak_faults station.old; disk = W.disk_faults station.old })
+        (record { schema = P.faults schema.new; script = C.faults script.new; speech = W.speak_faults station.new; disk = W.disk_faults station.new }) }
     // The script is read only under `run`, so not under `check`; and only where the schema's text is served.
     ensures unasked { (IsRun words.now → ⊥) → script.new ≡ script.old }
     ensures unread { IsTrue (ends_before_script result) → script.new ≡ script.old }

@@ -4,11 +4,9 @@ pub mod ByPlace
 pub mod Keeping
 pub mod CommandLaws
 pub mod Refusals
-pub mod Said
-pub mod Progress
-pub mod Exits
 pub mod AtMoments
 pub mod Overlong
 pub mod Told
 pub mod Found
 pub mod Outcomes
+pub mod EndOfRun

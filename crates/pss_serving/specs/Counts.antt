@@ -4,21 +4,24 @@ use Rattle.pss_base.specs.Causes.{Rose}
 use Rattle.pss_serving.specs.declared.status.Status.{Status}
 use Rattle.pss_serving.specs.declared.status.Status.TheVariants as status
 
--- how often the schema's source, the script's source and speech have failed
+-- how often the schema's source, the script's source, speech and the disk have failed
 pub record Counts : Type 0 where
   pub schema : ℕ
   pub script : ℕ
   pub speech : ℕ
+  pub disk : ℕ
 
 -- no count rose
 abbrev pub AreSame : Counts → Counts → Type 0
-AreSame old new = (new.schema ≡ old.schema) × (new.script ≡ old.script) × (new.speech ≡ old.speech)
+AreSame old new = (new.schema ≡ old.schema) × (new.script ≡ old.script) × (new.speech ≡ old.speech) × (new.disk ≡ old.disk)
 
 -- A count rose where the call ended in a fault of that kind, and no other one did.
 abbrev pub HasCauses : Status → Counts → Counts → Type 0
 HasCauses status.ReadFault old new =
-    (Rose old.schema new.schema × (new.script ≡ old.script) × (new.speech ≡ old.speech)) ⊎ ((new.schema ≡ old.schema) × Rose old.script new.script × (new.speech ≡ old.speech))
-HasCauses status.SpeakFault old new = (new.schema ≡ old.schema) × (new.script ≡ old.script) × Rose old.speech new.speech
+    (Rose old.schema new.schema × (new.script ≡ old.script) × (new.speech ≡ old.speech) × (new.disk ≡ old.disk))
+    ⊎ ((new.schema ≡ old.schema) × Rose old.script new.script × (new.speech ≡ old.speech) × (new.disk ≡ old.disk))
+HasCauses status.SpeakFault old new = (new.schema ≡ old.schema) × (new.script ≡ old.script) × Rose old.speech new.speech × (new.disk ≡ old.disk)
+HasCauses status.DiskFault old new = (new.schema ≡ old.schema) × (new.script ≡ old.script) × (new.speech ≡ old.speech) × Rose old.disk new.disk
 HasCauses status.Ok old new = AreSame old new
 HasCauses status.Usage old new = AreSame old new
 HasCauses status.SchemaRefused old new = AreSame old new

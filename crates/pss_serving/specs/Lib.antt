@@ -6,6 +6,7 @@ pub mod Texts
 pub mod Refusals
 pub mod State
 pub mod View
+pub mod Told
 pub mod Turns
 pub mod Spoken
 pub mod Runs

@@ -1,5 +1,5 @@
 -- How checking a text ends, and how serving a script over one does.
-use Rattle.std.specs.Prelude.{ℕ, ◌≡◌, ◌⊎◌, List, [], ◌∷◌, ◌++◌, take, Bool, true, false, IfSome, codes}
+use Rattle.std.specs.Prelude.{ℕ, ◌≡◌, ◌⊎◌, List, [], ◌∷◌, ◌++◌, Bool, true, false, IfSome, codes}
 use Rattle.std.specs.declared.option.Option.{Option}
 use Rattle.std.specs.Io.KnownBytes.{append_known}
 use Rattle.pss_base.specs.Causes.{Rose}
@@ -8,19 +8,18 @@ use Rattle.psdl_syntax.specs.Form.{IsFirstForm}
 use Rattle.psdl_syntax.specs.declared.form.FirstForm.{FirstForm}
 use Rattle.pss_serving.specs.Checked.{IsSound, HasFault, checked_text}
 use Rattle.pss_serving.specs.Refusals.{refusal_line}
-use Rattle.pss_serving.specs.Runs.{Says, SaidInPart, SaidByLines}
-use Rattle.pss_serving.specs.Spoken.{SaidOf, IsWhole}
+use Rattle.line_service.specs.Runs.{Limits, SaidInPart, SaidByLines}
+use Rattle.line_service.specs.Spoken.{SaidOf}
+use Rattle.line_service.specs.Turns.{IsWhole}
+use Rattle.pss_serving.specs.Runs.{Says}
+use Rattle.pss_serving.specs.Turns.{turn_from, start}
 use Rattle.pss_serving.specs.declared.schema_fault.SchemaFault.{SchemaFault}
 use Rattle.pss_serving.specs.declared.status.Status.{Status}
 use Rattle.pss_serving.specs.declared.status.Status.TheVariants as status
 
--- a script has at most so many lines
-abbrev pub most_lines : ℕ
-most_lines = 4294967295
-
--- and at most so many bytes
-abbrev pub most_bytes : ℕ
-most_bytes = 281474976710656
+-- how many lines a script has at most, and how many bytes
+abbrev pub script_limits : Limits
+script_limits = record { lines = 4294967295; bytes = 281474976710656 }
 
 -- what is spoken where what is asked for is not built yet
 abbrev pub not_built_line : List ℕ
@@ -60,6 +59,7 @@ EndsChecking status.NoMemory schema before after old new = after ≡ before
 EndsChecking status.Usage schema before after old new = ⊥
 EndsChecking status.ScriptTooLong schema before after old new = ⊥
 EndsChecking status.NotBuilt schema before after old new = ⊥
+EndsChecking status.DiskFault schema before after old new = ⊥
 
 -- what is to come of the schema and of the script at first, and of the script at last; what was spoken at first and at last
 pub record Call : Type 0 where
@@ -75,21 +75,21 @@ OfServed Served schema = (form : FirstForm) × IfSome schema (λ text. IsServed 
 
 -- serving the lines of the script ends so
 abbrev pub SaysIn : Status → Call → FirstForm → Type 0
-SaysIn ending call form = Says ending form most_lines most_bytes call.script call.left call.before call.after
+SaysIn ending call form = Says ending form script_limits (record { script = call.script; left = call.left; before = call.before; after = call.after })
 
 -- some first bytes were spoken of what there is to say
 abbrev pub SaidServing : (schema script before after : Option (List ℕ)) → Type 0
 SaidServing schema script before after =
     (IfSome schema IsOtherText × SaidOf not_built_line before after)
     ⊎ (OfFault (λ told. SaidOf told before after) schema
-    ⊎ OfServed (λ form. SaidInPart form most_lines most_bytes script before after) schema)
+    ⊎ OfServed (λ form. SaidInPart turn_from (start form) script_limits script before after) schema)
 
 -- whole replies were spoken of what there is to say
 abbrev pub WholeServing : (schema script before after : Option (List ℕ)) → Type 0
 WholeServing schema script before after =
     (IfSome schema IsOtherText × IsWhole not_built_line before after)
     ⊎ (OfFault (λ told. IsWhole told before after) schema
-    ⊎ OfServed (λ form. SaidByLines form most_lines most_bytes script before after) schema)
+    ⊎ OfServed (λ form. SaidByLines turn_from (start form) script_limits script before after) schema)
 
 -- How serving a script over a text ends: what was spoken by then, and how often the text's source had failed before and has now.
 abbrev pub EndsServing : Status → Call → (old new : ℕ) → Type 0
@@ -100,6 +100,7 @@ EndsServing status.ScriptTooLong call old new = OfServed (SaysIn status.ScriptTo
 EndsServing status.ReadFault call old new =
     (Rose old new × (call.after ≡ call.before)) ⊎ ((new ≡ old) × OfServed (SaysIn status.ReadFault call) call.schema)
 EndsServing status.SpeakFault call old new = SaidServing call.schema call.script call.before call.after
+EndsServing status.DiskFault call old new = OfServed (SaysIn status.DiskFault call) call.schema
 EndsServing status.NoMemory call old new = (call.after ≡ call.before) ⊎ OfServed (SaysIn status.NoMemory call) call.schema
 EndsServing status.Usage call old new = ⊥
 
@@ -111,5 +112,6 @@ ends_before_script status.NotBuilt = true
 ends_before_script status.Ok = false
 ends_before_script status.NoMemory = false
 ends_before_script status.ReadFault = false
+ends_before_script status.DiskFault = false
 ends_before_script status.SpeakFault = false
 ends_before_script status.ScriptTooLong = false

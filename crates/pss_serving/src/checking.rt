@@ -6,12 +6,15 @@ ghost use Rattle.psdl_tree.specs.Views.{tree_view};
 ghost use Rattle.pss_serving.specs.Checked.{spoken_of};
 ghost use Rattle.pss_serving.specs.Counts.{HasCauses};
 ghost use Rattle.pss_serving.specs.Outcomes.{EndsChecking, OfText};
-ghost use Rattle.pss_serving.specs.Spoken.{HasSpoken, IsCut, IsWhole};
-ghost use Rattle.pss_serving.specs.Turns.{Speaks, is_fault};
+ghost use Rattle.line_service.specs.Spoken.{HasSpoken};
+ghost use Rattle.line_service.specs.Turns.{IsWhole};
+ghost use Rattle.pss_serving.specs.Spoken.{IsCut};
+ghost use Rattle.pss_serving.specs.Told.{IsTold, is_fault};
 
 use crate::reading::{Checked, SoundText, read_checked};
 use crate::status::Status;
-use crate::telling::{Turn, refuse, speak};
+use crate::telling::{Told, refuse};
+use line_service::speak;
 use psdl_syntax::print;
 use pss_base::{Bytes, NoMemory, Source};
 use pss_disk::Station;
@@ -30,17 +33,18 @@ fn print_checked(alloc: Global, sound: &SoundText) -> Result<Bytes, NoMemory>
 }
 
 // Speaks what a text comes to.
-fn tell<W: Station>(alloc: Global, sound: &SoundText, station: &mut W) -> Turn
-    ensures speaks { Speaks result (spoken_of (tree_view sound.now.tree) sound.now.schema) (W.now station.old).spoken (W.now station.new).spoken }
-    ensures moments { Through (W.history station.old) (W.history station.new) (HasSpoken (W.now station.new).spoken) }
+fn tell<W: Station>(alloc: Global, sound: &SoundText, station: &mut W) -> Told
+    ensures told { IsTold result (spoken_of (tree_view sound.now.tree) sound.now.schema) (W.now station.old).spoken (W.now station.new).spoken }
+    ensures moments { Through (W.history station.old) (W.history station.new) (HasSpoken (W.now station.new).spoken (W.now station.old).disk) }
     ensures cause { HasCauseIf (W.speak_faults station.old) (W.speak_faults station.new) (is_fault result) }
+    ensures other { W.disk_faults station.new ≡ W.disk_faults station.old }
 {
     match print_checked(alloc, sound) {
         Ok(text) => match speak(station, text.as_slice()) {
-            Ok(()) => Turn::Went,
-            Err(_) => Turn::SpeakFault,
+            Ok(()) => Told::Whole,
+            Err(_) => Told::SpeakFault,
         },
-        Err(_) => Turn::NoMemory,
+        Err(_) => Told::NoMemory,
     }
 }
 
@@ -48,22 +52,22 @@ fn tell<W: Station>(alloc: Global, sound: &SoundText, station: &mut W) -> Turn
 pub fn tell_checked<P: Source, W: Station>(alloc: Global, schema: &mut P, station: &mut W) -> Status
     ensures ends { EndsChecking result (P.left schema.old) (W.now station.old).spoken (W.now station.new).spoken (P.faults schema.old) (P.faults schema.new) }
     ensures causes { (script : ℕ) → HasCauses result
-        (record { schema = P.faults schema.old; script = script; speech = W.speak_faults station.old })
-        (record { schema = P.faults schema.new; script = script; speech = W.speak_faults station.new }) }
+        (record { schema = P.faults schema.old; script = script; speech = W.speak_faults station.old; disk = W.disk_faults station.old })
+        (record { schema = P.faults schema.new; script = script; speech = W.speak_faults station.new; disk = W.disk_faults station.new }) }
     // At each moment nothing was spoken or all, but where speech failed.
     ensures moments { Through (W.history station.old) (W.history station.new)
         (λ m. OfText (λ told. IsWhole told (W.now station.old).spoken m.spoken) (P.left schema.old) ⊎ IsCut result (W.now station.new).spoken m.spoken) }
 {
     match read_checked(alloc, schema) {
         Checked::Sound(sound) => match tell(alloc, &sound, station) {
-            Turn::Went => Status::Ok,
-            Turn::SpeakFault => Status::SpeakFault,
-            Turn::NoMemory => Status::NoMemory,
+            Told::Whole => Status::Ok,
+            Told::SpeakFault => Status::SpeakFault,
+            Told::NoMemory => Status::NoMemory,
         },
         Checked::Refused(fault) => match refuse(alloc, &fault, station) {
-            Turn::Went => Status::SchemaRefused,
-            Turn::SpeakFault => Status::SpeakFault,
-            Turn::NoMemory => Status::NoMemory,
+            Told::Whole => Status::SchemaRefused,
+            Told::SpeakFault => Status::SpeakFault,
+            Told::NoMemory => Status::NoMemory,
         },
         Checked::ReadFault => Status::ReadFault,
         Checked::NoMemory => Status::NoMemory,

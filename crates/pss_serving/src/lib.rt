@@ -4,6 +4,7 @@
 
 mod checking;
 mod command;
+mod daemon;
 mod machine;
 mod reading;
 mod refusal;
@@ -22,4 +23,4 @@ pub use machine::refusals_change_nothing;
 pub use running::run_script;
 pub use serving::serve;
 pub use status::Status;
-pub use telling::{NOT_BUILT, speak};
+pub use telling::NOT_BUILT;

@@ -8,7 +8,8 @@ ghost use Rattle.pss_serving.specs.Spoken.{IsCut};
 use crate::schema::{Schema, read_schema};
 use crate::serving::serve;
 use crate::status::Status;
-use crate::telling::{NOT_BUILT, Turn, refuse, speak};
+use crate::telling::{NOT_BUILT, Told, refuse};
+use line_service::speak;
 use pss_base::Source;
 use pss_disk::Station;
 use std::alloc::Global;
@@ -31,8 +32,8 @@ pub fn run_script<P: Source, C: Source, W: Station>(
         (P.faults schema.old) (P.faults schema.new) }
     ensures unread { IsTrue (ends_before_script result) → script.new ≡ script.old }
     ensures causes { HasCauses result
-        (record { schema = P.faults schema.old; script = C.faults script.old; speech = W.speak_faults station.old })
-        (record { schema = P.faults schema.new; script = C.faults script.new; speech = W.speak_faults station.new }) }
+        (record { schema = P.faults schema.old; script = C.faults script.old; speech = W.speak_faults station.old; disk = W.disk_faults station.old })
+        (record { schema = P.faults schema.new; script = C.faults script.new; speech = W.speak_faults station.new; disk = W.disk_faults station.new }) }
     // At each moment whole replies were spoken, but where speech failed.
     ensures moments { Through (W.history station.old) (W.history station.new)
         (λ m. WholeServing (P.left schema.old) (C.left script.old) (W.now station.old).spoken m.spoken ⊎ IsCut result (W.now station.new).spoken m.spoken) }
@@ -44,9 +45,9 @@ pub fn run_script<P: Source, C: Source, W: Station>(
             Err(_) => Status::SpeakFault,
         },
         Schema::Refused(fault) => match refuse(alloc, &fault, station) {
-            Turn::Went => Status::SchemaRefused,
-            Turn::SpeakFault => Status::SpeakFault,
-            Turn::NoMemory => Status::NoMemory,
+            Told::Whole => Status::SchemaRefused,
+            Told::SpeakFault => Status::SpeakFault,
+            Told::NoMemory => Status::NoMemory,
         },
         Schema::ReadFault => Status::ReadFault,
         Schema::NoMemory => Status::NoMemory,

@@ -14,6 +14,8 @@ pub enum Status {
     NoMemory,
     /// The schema's source or the script's failed.
     ReadFault,
+    /// The disk failed.
+    DiskFault,
     /// Speech failed.
     SpeakFault,
     /// The script has more lines or bytes than are served.
@@ -35,6 +37,7 @@ impl Status {
             Status::SchemaRefused => 2,
             Status::NoMemory => 4,
             Status::ReadFault => 5,
+            Status::DiskFault => 6,
             Status::SpeakFault => 7,
             Status::ScriptTooLong => 8,
             Status::NotBuilt => 9,

@@ -1,0 +1,5 @@
+pub mod Speech
+pub mod Saying
+pub mod Progress
+pub mod Exits
+pub mod Passing

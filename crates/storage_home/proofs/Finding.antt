@@ -6,9 +6,9 @@ use Rattle.std.specs.FinMap.{get}
 use Rattle.pss_base.specs.declared.pid.Pid.{Pid}
 use Rattle.type_layout.specs.declared.key.KeyNo.{KeyNo}
 use Rattle.type_layout.specs.declared.schema.Schema.{Schema}
-use Rattle.pss_catalog.specs.Catalog.{Object, Catalog, holds, holders, pids_where, without}
+use Rattle.pss_catalog.specs.Catalog.{Object, Catalog, holds, holders, pids_where, without, IsUnique}
 use Rattle.pss_catalog.proofs.Listing.{only_listed, lists_one}
-use Rattle.storage_home.specs.declared.homes.Homes.{Homes}
+use Rattle.storage_home.specs.declared.parts.Parts.{Parts}
 use Rattle.storage_home.specs.Keys.{found_at}
 use Rattle.storage_home.specs.Kept.{IsKept}
 use Rattle.storage_home.proofs.Places.{by_test}
@@ -26,7 +26,7 @@ empty_both (p ∷ ps) a b =
 none_listed : (test : Object → Bool) (M : Catalog) → ((t : ℕ) (object : Object) → get M t ≡ Some object → test object ≡ true → ⊥) → pids_where test M ≡ []
 none_listed test M never = empty_both (pids_where test M) ((only_listed test M 0).1 (λ t x found passes. absurd (never t x found passes))) ((only_listed test M 1).1 (λ t x found passes. absurd (never t x found passes)))
 
-module _ (S : Schema) (M : Catalog) (homes : Homes) (kept : IsKept S M homes) (key : KeyNo) (bytes : List ℕ) where
+module _ (S : Schema) (M : Catalog) (homes : Parts) (kept : IsKept S M homes) (key : KeyNo) (bytes : List ℕ) where
   pub holder_is : map (λ pid. pid.serial) (holders S M key bytes) ≡ option_to_list (found_at homes.keys.items key.0 bytes)
   holder_is = by (found_at homes.keys.items key.0 bytes) refl
     where
@@ -35,3 +35,11 @@ module _ (S : Schema) (M : Catalog) (homes : Homes) (kept : IsKept S M homes) (k
       by (Some s) is =
           let holder = (kept.keys key bytes s).0 is in
           ap (map (λ (pid : Pid). pid.serial)) (lists_one (holds S key bytes) M s holder.0 holder.1 holder.2 (λ t x found passes. (let here = (kept.keys key bytes t).1 (x, found, passes) in let one : Some t ≡ Some s = sym here ∙ is in cc)))
+
+-- a key has one holder
+pub unique_kept : (S : Schema) (M : Catalog) (homes : Parts) → IsKept S M homes → IsUnique S M
+unique_kept S M homes kept k bytes s t x y at_s at_t of_x of_y =
+    let held : found_at homes.keys.items k.0 bytes ≡ Some s = (kept.keys k bytes s).1 (x, at_s, of_x) in
+    let also : found_at homes.keys.items k.0 bytes ≡ Some t = (kept.keys k bytes t).1 (y, at_t, of_y) in
+    let one : Some s ≡ Some t = sym held ∙ also in
+    cc

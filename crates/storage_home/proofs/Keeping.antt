@@ -1,5 +1,5 @@
 -- What is kept of a catalog follows it: an object is taken out, another is put.
-use Rattle.std.proofs.Common.{ℕ, suc, ◌+◌, ◌≡◌, ◌≤◌, ◌⊎◌, List, [], ◌∷◌, length, map, filter, sum, Some, None, Bool, inl, inr, cond, refl, sym, ap, ◌∙◌, arith}
+use Rattle.std.proofs.Common.{ℕ, suc, ◌+◌, ◌*◌, ◌≡◌, ◌≤◌, ◌⊎◌, List, [], ◌∷◌, length, map, filter, sum, Some, None, Bool, inl, inr, cond, refl, sym, ap, ◌∙◌, arith}
 use Rattle.std.specs.Cmp.{nat_cmp_total}
 use Rattle.std.specs.FinMap.{get, insert, remove, entries, same_map, nat_cmp-IsAntisymmetric}
 use Rattle.std.specs.List.{sum_by}
@@ -112,12 +112,12 @@ sum_with S M s object none =
     let none_is = ap (λ o. given o 0 (weight S)) none in
     omega (arith, whole, none_is)
 
-weighed : (S : Schema) (es : List (ℕ × Object)) → length es ≤ sum_by (λ e. weight S e.1) es
+weighed : (S : Schema) (es : List (ℕ × Object)) → 16 * length es ≤ sum_by (λ e. weight S e.1) es
 weighed S [] = omega arith
 weighed S (e ∷ es) = let cons = sum_by-cons (λ (x : ℕ × Object). weight S x.1) e es in let rest = weighed S es in omega (arith, cons, rest)
 
--- there are not more objects than octets
-pub fewer : (S : Schema) (M : Catalog) → length (entries M) ≤ total S M
+-- each object counts sixteen and more
+pub fewer : (S : Schema) (M : Catalog) → 16 * length (entries M) ≤ total S M
 fewer S M = let whole = sum-map (λ (e : ℕ × Object). weight S e.1) (entries M) in let all = weighed S (entries M) in omega (arith, whole, all)
 
 filtered_shorter : {X : Type 0} (test : X → Bool) (xs : List X) → length (filter test xs) ≤ length xs

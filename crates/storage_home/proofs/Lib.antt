@@ -6,6 +6,7 @@ pub mod Holding
 pub mod Entering
 pub mod Descending
 pub mod Keeping
+pub mod Few
 pub mod Following
 pub mod Taking
 pub mod Finding

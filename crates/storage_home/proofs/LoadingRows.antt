@@ -12,14 +12,14 @@ use Rattle.type_layout.specs.Sound.{IsSoundSchema}
 use Rattle.pss_catalog.specs.Catalog.{Object, Catalog, object_spelling, pid_of, weight, total, IsUnique}
 use Rattle.pss_catalog.specs.Changes.{Change as Step, over, with_state}
 use Rattle.pss_catalog.specs.Families.{bases_of}
-use Rattle.storage_home.specs.declared.homes.Homes.{Homes}
+use Rattle.storage_home.specs.declared.parts.Parts.{Parts}
 use Rattle.storage_home.specs.declared.rows.Stored.{Stored}
 use Rattle.storage_home.specs.Rows.{object_at}
 use Rattle.storage_home.specs.Extents.{is_held_in}
 use Rattle.storage_home.specs.Counts.{bases_in, number_at}
 use Rattle.storage_home.specs.Keys.{found_at, AreThere, AreKeysReserved}
-use Rattle.storage_home.specs.Kept.{IsKept, IsReserved, stored, is_of, is_object_of}
-use Rattle.storage_home.specs.Applied.{most, IsSound, IsState, AreKeysOf, AreRows, MayLoad}
+use Rattle.storage_home.specs.Kept.{most, IsSound, IsKept, IsReserved, stored, is_of, is_object_of}
+use Rattle.storage_home.specs.Applied.{IsState, AreKeysOf, AreRows, MayLoad}
 use Rattle.storage_home.specs.inner.Steps.{AreApart, AreFresh, MayPutObject, MayLoadOne, MayLoadAll, SpellsObject, object_of}
 use Rattle.storage_home.proofs.Places.{no_items}
 use Rattle.storage_home.proofs.Taking.{some_there, keys_there}
@@ -41,16 +41,17 @@ starting_bases [] = refl
 starting_bases (x ∷ xs) = ap (λ bs. base_number x.base ∷ bs) (starting_bases xs)
 
 pub nothing_kept :
-    (S : Schema) → IsSoundSchema S → (homes : Homes) → homes.families ≡ bases_of S → homes.rows.entries ≡ [] → homes.total ≡ 0 → homes.objects ≡ 0
+    (S : Schema) → IsSoundSchema S → (homes : Parts) → homes.families ≡ bases_of S → homes.rows.entries ≡ [] → homes.total ≡ 0 → homes.objects ≡ 0
     → ((h s : ℕ) → is_held_in homes.extents.items h s ≡ false) → length homes.extents.items ≡ length S.homes
     → homes.counts.items ≡ map (λ home. record { base = base_number home.base; objects = 0 }) S.homes
     → ((key : ℕ) (bytes : List ℕ) → found_at homes.keys.items key bytes ≡ None) → length homes.keys.items ≡ length S.keys → IsKept S empty homes
 nothing_kept S sound homes families rows sum_is number held size counts found as_many = record {
   sound = sound;
-  there = λ s x at. absurd (let no : None ≡ Some x = sym (get-empty nat_cmp s) ∙ at in cc);
+  each = λ s x at. absurd (let no : None ≡ Some x = sym (get-empty nat_cmp s) ∙ at in cc);
   families = families;
   objects = λ s. ap (object_at s) rows ∙ ap (option_map (stored S)) (sym (get-empty nat_cmp s));
   total_is = sum_is ∙ ap (λ es. sum (map (λ e. weight S e.1) es)) (sym no_entries);
+  bounded = (let none = ap (λ es. sum (map (λ e. weight S e.1) es)) no_entries in omega (arith, none));
   count_is = number ∙ ap length (sym no_entries);
   extents = λ h s. held h s ∙ ap (is_object_of h) (sym (get-empty nat_cmp s));
   extents_size = size;
@@ -62,7 +63,7 @@ nothing_kept S sound homes families rows sum_is number held size counts found as
 
 -- ---- one row
 
-module _ (S : Schema) (F : Catalog) (homes : Homes) (row : Put) (rest : List Put) (m : MayLoadAll S F homes (row ∷ rest)) where
+module _ (S : Schema) (F : Catalog) (homes : Parts) (row : Put) (rest : List Put) (m : MayLoadAll S F homes (row ∷ rest)) where
   abbrev row_of : List ℕ → Stored
   row_of bytes = record { home = record { 0 = row.home }; bytes = bytes }
 
@@ -112,7 +113,7 @@ module _ (S : Schema) (F : Catalog) (homes : Homes) (row : Put) (rest : List Put
       by [] are fresh ends = absurd are
       by (step ∷ steps) are fresh ends = at step steps are.0.0 fresh ends step.state refl (subst (λ b. IsState S row.home b step.state) is are.0.1)
 
-  pub loaded_on : (bytes : List ℕ) → row.bytes ≡ Some bytes → (new : Homes) → ((p : MayLoadOne S homes row.serial (row_of bytes)) → IsKept S (insert p.catalog row.serial p.object) new) → MayLoadAll S F new rest
+  pub loaded_on : (bytes : List ℕ) → row.bytes ≡ Some bytes → (new : Parts) → ((p : MayLoadOne S homes row.serial (row_of bytes)) → IsKept S (insert p.catalog row.serial p.object) new) → MayLoadAll S F new rest
   loaded_on bytes is new after = by m.steps m.are m.fresh m.ends
     where
       at :
@@ -146,7 +147,7 @@ module _ (S : Schema) (F : Catalog) (homes : Homes) (row : Put) (rest : List Put
       by [] are = are
       by (step ∷ steps) are = at step.state (subst (λ b. IsState S row.home b step.state) is are.0.1) are.1
 
-pub all_loaded : (S : Schema) (F : Catalog) (homes : Homes) → MayLoadAll S F homes [] → IsKept S F homes
+pub all_loaded : (S : Schema) (F : Catalog) (homes : Parts) → MayLoadAll S F homes [] → IsKept S F homes
 all_loaded S F homes m = by m.steps m.are m.ends
   where
     by : (steps : List Step) → AreRows S [] steps → over m.catalog steps ≡ F → IsKept S F homes
@@ -165,7 +166,7 @@ none_in_empty : (steps : List Step) → NoneAt empty steps
 none_in_empty [] = tt
 none_in_empty (step ∷ steps) = (get-empty nat_cmp step.serial, none_in_empty steps)
 
-pub may_load_all : (S : Schema) (rows : List Put) (m : MayLoad S rows) (homes : Homes) → IsKept S empty homes → MayLoadAll S (over empty m.steps) homes rows
+pub may_load_all : (S : Schema) (rows : List Put) (m : MayLoad S rows) (homes : Parts) → IsKept S empty homes → MayLoadAll S (over empty m.steps) homes rows
 may_load_all S rows m homes kept = record {
   catalog = empty;
   steps = m.steps;
@@ -179,7 +180,7 @@ may_load_all S rows m homes kept = record {
 
 -- ---- one row and its keys
 
-module _ (S : Schema) (homes : Homes) (serial : ℕ) (row : Stored) (m : MayLoadOne S homes serial row) where
+module _ (S : Schema) (homes : Parts) (serial : ℕ) (row : Stored) (m : MayLoadOne S homes serial row) where
   home_is : row.home ≡ m.object.home
   home_is = ap (λ (r : Stored). r.home) m.is
 
@@ -197,16 +198,16 @@ module _ (S : Schema) (homes : Homes) (serial : ℕ) (row : Stored) (m : MayLoad
   pub loaded_home : row.home.0 ≤ length homes.extents.items
   loaded_home = subst (λ (r : Stored). r.home.0 ≤ length homes.extents.items) (sym m.is) (subst (λ (n : ℕ). m.object.home.0 ≤ n) (sym m.kept.extents_size) (some_there S.homes m.object.home.0 m.is_sound.0).1)
 
-  pub loaded_keys_there : (new : Homes) → IsKept S m.catalog new → (pairs : List (KeyNo × List ℕ)) → AreKeysOf S (Some m.object) pairs → AreThere new.keys.items pairs
+  pub loaded_keys_there : (new : Parts) → IsKept S m.catalog new → (pairs : List (KeyNo × List ℕ)) → AreKeysOf S (Some m.object) pairs → AreThere new.keys.items pairs
   loaded_keys_there new kept pairs keys = keys_there S m.catalog new kept (Some m.object) pairs keys
 
-  abbrev pub may_put_loaded : (new : Homes) → IsKept S m.catalog new → (pairs : List (KeyNo × List ℕ)) → AreKeysOf S (Some m.object) pairs → IsReserved new m.object.home serial → AreKeysReserved new.keys.items pairs → MayPutObject new serial row pairs
+  abbrev pub may_put_loaded : (new : Parts) → IsKept S m.catalog new → (pairs : List (KeyNo × List ℕ)) → AreKeysOf S (Some m.object) pairs → IsReserved new m.object.home serial → AreKeysReserved new.keys.items pairs → MayPutObject new serial row pairs
   may_put_loaded new kept pairs keys reserved keys_reserved = record {
     schema = S;
     catalog = m.catalog;
     object = m.object;
     kept = kept;
-    there = m.is_sound.0;
+    is_sound = m.is_sound;
     is = m.is;
     none = m.none;
     keys = keys;
@@ -216,5 +217,5 @@ module _ (S : Schema) (homes : Homes) (serial : ℕ) (row : Stored) (m : MayLoad
     keys_reserved = keys_reserved;
   }
 
-  pub loaded_reserved : (new : Homes) → IsReserved new row.home serial → IsReserved new m.object.home serial
+  pub loaded_reserved : (new : Parts) → IsReserved new row.home serial → IsReserved new m.object.home serial
   loaded_reserved new reserved = subst (λ h. IsReserved new h serial) home_is reserved

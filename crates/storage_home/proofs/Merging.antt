@@ -17,7 +17,7 @@ use Rattle.pss_catalog.proofs.Forest.{Compared, compared}
 use Rattle.pss_catalog.proofs.Listing.{tie}
 use Rattle.storage_home.specs.Extents.{is_held_in}
 use Rattle.storage_home.specs.Kept.{IsKept, is_of, is_object_of}
-use Rattle.storage_home.specs.declared.homes.Homes.{Homes}
+use Rattle.storage_home.specs.declared.parts.Parts.{Parts}
 use Rattle.storage_home.proofs.Taking.{some_there}
 use Rattle.pss_catalog.specs.Families.{AreHeirs}
 use Rattle.storage_home.specs.inner.Queues.{Listed, waiting_at, IsApart, AreIn, IsQueue, IsListing, after, below}
@@ -233,7 +233,7 @@ module _ (S : Schema) (M : Catalog) (home : HomeNo) (extents : List (BTreeMap �
 
 -- ---- what is kept
 
-module _ (S : Schema) (M : Catalog) (homes : Homes) (kept : IsKept S M homes) where
+module _ (S : Schema) (M : Catalog) (homes : Parts) (kept : IsKept S M homes) where
   pub apart_kept : IsApart homes.extents.items
   apart_kept h g s at_h at_g = by (get M s) (sym (kept.extents h s) ∙ at_h) (sym (kept.extents g s) ∙ at_g)
     where
@@ -246,4 +246,4 @@ module _ (S : Schema) (M : Catalog) (homes : Homes) (kept : IsKept S M homes) wh
     in_kept h there = let at = some_there S.homes h.0 (are.derive there.0 h there.1).0 in (at.0, subst (λ (n : ℕ). h.0 ≤ n) (sym kept.extents_size) at.1)
 
     pub listing_kept : IsListing S M home homes.extents.items heirs
-    listing_kept = record { sound = kept.sound; there = kept.there; extents_are = kept.extents; heirs_are = are }
+    listing_kept = record { sound = kept.sound; there = λ s o at. (kept.each s o at).0; extents_are = kept.extents; heirs_are = are }

@@ -7,7 +7,7 @@ use Rattle.type_layout.specs.declared.key.Key.{Key}
 use Rattle.type_layout.specs.declared.schema.Schema.{Schema}
 use Rattle.pss_catalog.specs.Catalog.{Catalog}
 use Rattle.storage_home.specs.declared.change.Change.{Change}
-use Rattle.storage_home.specs.declared.homes.Homes.{Homes}
+use Rattle.storage_home.specs.declared.parts.Parts.{Parts}
 use Rattle.storage_home.specs.Keys.{AreThere, StayReserved}
 use Rattle.storage_home.specs.Kept.{IsKept}
 use Rattle.storage_home.specs.Applied.{AllStay, IsNamed, AreKeysNamed, IsChangeReserved}
@@ -21,7 +21,7 @@ key_within keys k there = by (slice_get keys k) refl there
     by None is none = cc
     by (Some key) is some = slice_get_within keys k key is
 
-module _ (S : Schema) (M : Catalog) (homes : Homes) (kept : IsKept S M homes) where
+module _ (S : Schema) (M : Catalog) (homes : Parts) (kept : IsKept S M homes) where
   named_there : (pairs : List (KeyNo × List ℕ)) → AreKeysNamed S pairs → AreThere homes.keys.items pairs
   named_there [] named = tt
   named_there (pair ∷ pairs) named = (subst (λ (n : ℕ). pair.0.0 < n) (sym kept.keys_size) (key_within S.keys pair.0.0 named.0), named_there pairs named.1)
@@ -32,5 +32,5 @@ module _ (S : Schema) (M : Catalog) (homes : Homes) (kept : IsKept S M homes) wh
     named_there change.new_keys named.1,
   )
 
-pub change_stays : (old new : Homes) (change : Change) → AllStay old new → StayReserved old.keys.items new.keys.items → IsChangeReserved old change → IsChangeReserved new change
+pub change_stays : (old new : Parts) (change : Change) → AllStay old new → StayReserved old.keys.items new.keys.items → IsChangeReserved old change → IsChangeReserved new change
 change_stays old new change stay keys reserved = ((λ some. stay (record { 0 = change.put.home }) change.put.serial (reserved.0 some)), λ key bytes has. keys key bytes (reserved.1 key bytes has))

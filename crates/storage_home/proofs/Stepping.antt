@@ -11,17 +11,17 @@ use Rattle.pss_catalog.specs.Changes.{Change as Step, over, with_state, last_sta
 use Rattle.pss_catalog.proofs.Uniqueness.{found_over}
 use Rattle.storage_home.specs.declared.change.Change.{Change}
 use Rattle.storage_home.specs.declared.rows.Stored.{Stored}
-use Rattle.storage_home.specs.declared.homes.Homes.{Homes}
+use Rattle.storage_home.specs.declared.parts.Parts.{Parts}
 use Rattle.storage_home.specs.Changes.{Rises}
 use Rattle.storage_home.specs.Keys.{lists, is_key_reserved, KeepsKeysReserved, TurnsKeysReserved, AreKeysReserved}
-use Rattle.storage_home.specs.Kept.{IsKept, IsReserved, stored}
-use Rattle.storage_home.specs.Applied.{most, IsSound, IsState, IsNew, AreKeysOf, AreChanges, IsChange, AreReserved, MayApply, AllStay}
+use Rattle.storage_home.specs.Kept.{most, IsSound, IsKept, IsReserved, stored}
+use Rattle.storage_home.specs.Applied.{IsState, IsNew, AreKeysOf, AreChanges, IsChange, AreReserved, MayApply, AllStay}
 use Rattle.storage_home.specs.inner.Steps.{MayTake, MayPutObject, AreApart, bare, AgreeAt, AreFresh, MayTakeAll, MayPutAll, OthersStay}
 use Rattle.storage_home.proofs.Keeping.{same_or_not, gone, stays, come, others, without_none, sum_with}
 
 -- ---- taking out
 
-module _ (S : Schema) (F : Catalog) (homes : Homes) (change : Change) (rest : List Change) where
+module _ (S : Schema) (F : Catalog) (homes : Parts) (change : Change) (rest : List Change) where
   pub old_keys_of : (m : MayTakeAll S F homes (change ∷ rest)) → AreKeysOf S (get m.catalog change.put.serial) change.old_keys
   old_keys_of m = by m.steps m.are m.same
     where
@@ -37,7 +37,7 @@ module _ (S : Schema) (F : Catalog) (homes : Homes) (change : Change) (rest : Li
   agree_on N M s (step ∷ steps) new same = (stays N s step.serial (λ e. new.0 (sym e)) ∙ same.0, agree_on N M s steps new.1 same.1)
 
   -- one is taken out
-  pub taken_on : (new : Homes) → ((m : MayTake homes change.put.serial change.old_keys) → IsKept m.schema (remove m.catalog change.put.serial) new) → MayTakeAll S F homes (change ∷ rest) → MayTakeAll S F new rest
+  pub taken_on : (new : Parts) → ((m : MayTake homes change.put.serial change.old_keys) → IsKept m.schema (remove m.catalog change.put.serial) new) → MayTakeAll S F homes (change ∷ rest) → MayTakeAll S F new rest
   taken_on new after m = by m.steps m.are m.apart m.same m.ends (after (may_take m))
     where
       by :
@@ -55,7 +55,7 @@ module _ (S : Schema) (F : Catalog) (homes : Homes) (change : Change) (rest : Li
         ends = ends;
       }
 
-pub all_taken : (S : Schema) (F : Catalog) (homes : Homes) → MayTakeAll S F homes [] → IsKept S F homes
+pub all_taken : (S : Schema) (F : Catalog) (homes : Parts) → MayTakeAll S F homes [] → IsKept S F homes
 all_taken S F homes m = by m.steps m.are m.ends
   where
     by : (steps : List Step) → AreChanges S m.original [] steps → bare m.catalog steps ≡ F → IsKept S F homes
@@ -94,12 +94,12 @@ unique_before S N steps fresh unique key bytes s t x y at_s at_t hold_x hold_y =
 
 -- ---- what stays reserved
 
-pub all_stay : (old new : Homes) (changes : List Change) → AllStay old new → KeepsKeysReserved old.keys.items new.keys.items → AreReserved old changes → AreReserved new changes
+pub all_stay : (old new : Parts) (changes : List Change) → AllStay old new → KeepsKeysReserved old.keys.items new.keys.items → AreReserved old changes → AreReserved new changes
 all_stay old new [] stay keys reserved = tt
 all_stay old new (c ∷ cs) stay keys reserved =
     ((λ some. stay (record { 0 = c.put.home }) c.put.serial (reserved.0.0 some), λ key bytes has. keys key bytes ∙ reserved.0.1 key bytes has), all_stay old new cs stay keys reserved.1)
 
-module _ (S : Schema) (F : Catalog) (unique : IsUnique S F) (s : ℕ) (object : Object) (at : get F s ≡ Some object) (pairs : List (KeyNo × List ℕ)) (keys : AreKeysOf S (Some object) pairs) (original : Catalog) (old new : Homes)
+module _ (S : Schema) (F : Catalog) (unique : IsUnique S F) (s : ℕ) (object : Object) (at : get F s ≡ Some object) (pairs : List (KeyNo × List ℕ)) (keys : AreKeysOf S (Some object) pairs) (original : Catalog) (old new : Parts)
     (stay : OthersStay old new s) (turn : TurnsKeysReserved old.keys.items new.keys.items pairs false) where
   -- another object holds none of these keys
   apart_keys : (t : ℕ) → (s ≡ t → ⊥) → (state : Option Object) → ((x : Object) → state ≡ Some x → get F t ≡ Some x) → (others : List (KeyNo × List ℕ)) → AreKeysOf S state others → AreKeysReserved old.keys.items others → AreKeysReserved new.keys.items others
@@ -208,7 +208,7 @@ over_bare M steps = same_map nat_cmp_total nat_cmp-IsAntisymmetric (over (bare M
 
 -- ---- putting
 
-module _ (S : Schema) (F : Catalog) (homes : Homes) (change : Change) (rest : List Change) (m : MayPutAll S F homes (change ∷ rest)) where
+module _ (S : Schema) (F : Catalog) (homes : Parts) (change : Change) (rest : List Change) (m : MayPutAll S F homes (change ∷ rest)) where
   abbrev row_of : List ℕ → Stored
   row_of bytes = record { home = record { 0 = change.put.home }; bytes = bytes }
 
@@ -251,7 +251,7 @@ module _ (S : Schema) (F : Catalog) (homes : Homes) (change : Change) (rest : Li
       catalog = m.catalog;
       object = object;
       kept = m.kept;
-      there = sound.0;
+      is_sound = sound;
       is = same_row;
       none = at_serial;
       keys = put_keys;
@@ -274,7 +274,7 @@ module _ (S : Schema) (F : Catalog) (homes : Homes) (change : Change) (rest : Li
 
   -- one is put
   pub put_on :
-      (bytes : List ℕ) → change.put.bytes ≡ Some bytes → (new : Homes) → ((p : MayPutObject homes change.put.serial (row_of bytes) change.new_keys) → IsKept p.schema (insert p.catalog change.put.serial p.object) new)
+      (bytes : List ℕ) → change.put.bytes ≡ Some bytes → (new : Parts) → ((p : MayPutObject homes change.put.serial (row_of bytes) change.new_keys) → IsKept p.schema (insert p.catalog change.put.serial p.object) new)
       → OthersStay homes new change.put.serial → TurnsKeysReserved homes.keys.items new.keys.items change.new_keys false → MayPutAll S F new rest
   put_on bytes is new after stay turn = by m.steps m.are m.apart m.fresh m.ends
     where
@@ -334,7 +334,7 @@ module _ (S : Schema) (F : Catalog) (homes : Homes) (change : Change) (rest : Li
       by [] are apart fresh ends = absurd are
       by (step ∷ steps) are apart fresh ends = at step steps are.0 are.1 apart fresh ends step.state refl (subst (λ b. IsState S change.put.home b step.state) is are.0.step_is.1)
 
-pub all_put : (S : Schema) (F : Catalog) (homes : Homes) → MayPutAll S F homes [] → IsKept S F homes
+pub all_put : (S : Schema) (F : Catalog) (homes : Parts) → MayPutAll S F homes [] → IsKept S F homes
 all_put S F homes m = by m.steps m.are m.ends
   where
     by : (steps : List Step) → AreChanges S m.original [] steps → over m.catalog steps ≡ F → IsKept S F homes
@@ -343,14 +343,14 @@ all_put S F homes m = by m.steps m.are m.ends
 
 -- ---- the two passes
 
-module _ (homes : Homes) (changes : List Change) (rise : Rises 0 changes) (m : MayApply homes changes) where
+module _ (homes : Parts) (changes : List Change) (rise : Rises 0 changes) (m : MayApply homes changes) where
   apart : AreApart m.steps
   apart = apart_rising 0 changes rise m.schema m.catalog m.steps m.are
 
   pub may_take_all : MayTakeAll m.schema (bare m.catalog m.steps) homes changes
   may_take_all = record { original = m.catalog; catalog = m.catalog; steps = m.steps; kept = m.kept; are = m.are; apart = apart; same = agree_self m.catalog m.steps; ends = refl }
 
-  pub may_put_all : (new : Homes) → IsKept m.schema (bare m.catalog m.steps) new → AllStay homes new → KeepsKeysReserved homes.keys.items new.keys.items → MayPutAll m.schema (over m.catalog m.steps) new changes
+  pub may_put_all : (new : Parts) → IsKept m.schema (bare m.catalog m.steps) new → AllStay homes new → KeepsKeysReserved homes.keys.items new.keys.items → MayPutAll m.schema (over m.catalog m.steps) new changes
   may_put_all new kept stay keys = record {
     original = m.catalog;
     catalog = bare m.catalog m.steps;

@@ -18,13 +18,13 @@ use Rattle.type_layout.specs.declared.schema.Schema.{Schema}
 use Rattle.type_layout.specs.Schemas.{given, nth, home_at, has_key}
 use Rattle.pss_catalog.specs.Catalog.{Object, Catalog, holds, weight, total, IsUnique}
 use Rattle.storage_home.specs.declared.rows.Stored.{Stored}
-use Rattle.storage_home.specs.declared.homes.Homes.{Homes}
+use Rattle.storage_home.specs.declared.parts.Parts.{Parts}
 use Rattle.storage_home.specs.Rows.{object_at, TurnsObject, KeepsObjects}
 use Rattle.storage_home.specs.Extents.{flag_at, is_held_in, is_entered_in, TurnsHeldIn, KeepsHeldIn}
 use Rattle.storage_home.specs.Counts.{bases_in, number_at, AreLower, AreRaised, comes}
 use Rattle.storage_home.specs.Keys.{found_at, is_key_reserved, lists, is_pair, TurnsFound, AreThere, MayPut, IsOnce, AreKeysReserved, KeepsFound}
-use Rattle.storage_home.specs.Kept.{IsKept, stored, is_of, is_object_of}
-use Rattle.storage_home.specs.Applied.{AreKeysOf, most}
+use Rattle.storage_home.specs.Kept.{most, IsSound, IsKept, stored, is_of, is_object_of}
+use Rattle.storage_home.specs.Applied.{AreKeysOf}
 use Rattle.storage_home.specs.inner.Steps.{MayPutObject}
 use Rattle.storage_home.proofs.Places.{by_test, same_number}
 use Rattle.storage_home.proofs.Descending.{lower_bases, as_many_bases, comes_is}
@@ -50,7 +50,7 @@ held_entered extents h s held = by (nth extents h) held
     by None e = e
     by (Some e) is = flagged (flag_at s e.entries) is
 
-module _ (S : Schema) (M : Catalog) (homes : Homes) (kept : IsKept S M homes) where
+module _ (S : Schema) (M : Catalog) (homes : Parts) (kept : IsKept S M homes) where
   pub lower_kept : AreLower (bases_in homes.counts.items)
   lower_kept = subst AreLower (sym kept.bases) (lower_bases S kept.sound)
 
@@ -90,7 +90,7 @@ module _ (S : Schema) (M : Catalog) (homes : Homes) (kept : IsKept S M homes) wh
 
     pub some_counted : (to : ℕ) → comes (bases_in homes.counts.items) object.home.0 to ≤ number_at homes.counts.items to
     some_counted to =
-        let comes_is = comes_one object (kept.there s object is) to in
+        let comes_is = comes_one object (kept.each s object is).0 to in
         let number = kept.counts (record { 0 = to }) in
         let less = passing_without (is_of S (record { 0 = to })) M s object is in
         omega (arith, comes_is, number, less)
@@ -100,7 +100,7 @@ module _ (S : Schema) (M : Catalog) (homes : Homes) (kept : IsKept S M homes) wh
 
     -- the object is gone, and all else is as it was
     pub kept_without :
-        (new : Homes) (pairs : List (KeyNo × List ℕ)) → AreKeysOf S (Some object) pairs → new.families ≡ homes.families → TurnsObject homes.rows.entries new.rows.entries s None
+        (new : Parts) (pairs : List (KeyNo × List ℕ)) → AreKeysOf S (Some object) pairs → new.families ≡ homes.families → TurnsObject homes.rows.entries new.rows.entries s None
         → new.total ≡ homes.total - weight S object → new.objects ≡ homes.objects - 1
         → TurnsHeldIn homes.extents.items new.extents.items object.home.0 s false → length new.extents.items ≡ length homes.extents.items
         → AreRaised new.counts.items homes.counts.items object.home.0 → bases_in new.counts.items ≡ bases_in homes.counts.items
@@ -108,10 +108,11 @@ module _ (S : Schema) (M : Catalog) (homes : Homes) (kept : IsKept S M homes) wh
         → IsKept S (remove M s) new
     kept_without new pairs keys families rows sum number held size counted bases found as_many = record {
       sound = kept.sound;
-      there = λ t x found. kept.there t x (was_there M s t x found).0;
+      each = λ t x found. kept.each t x (was_there M s t x found).0;
       families = families ∙ kept.families;
       objects = rows_without S M s _ new.rows.entries kept.objects rows;
       total_is = (let whole = kept.total_is in let less = sum_without S M s object is in omega (arith, sum, whole, less));
+      bounded = (let before = kept.bounded in let less = sum_without S M s object is in omega (arith, before, less));
       count_is = (let whole = kept.count_is in let less = number_without M s object is in omega (arith, number, whole, less));
       extents = extents_without S M s object is _ new.extents.items kept.extents held;
       extents_size = size ∙ kept.extents_size;
@@ -119,7 +120,7 @@ module _ (S : Schema) (M : Catalog) (homes : Homes) (kept : IsKept S M homes) wh
           let before = kept.counts home in
           let less = passing_without (is_of S home) M s object is in
           let change = counted home.0 in
-          let one_is = ap (λ b. comes b object.home.0 home.0) bases ∙ comes_one object (kept.there s object is) home.0 in
+          let one_is = ap (λ b. comes b object.home.0 home.0) bases ∙ comes_one object (kept.each s object is).0 home.0 in
           omega (arith, before, less, change, one_is));
       bases = bases ∙ kept.bases;
       keys = keys_without S M s object is pairs keys.listed _ new.keys.items kept.keys found;
@@ -128,7 +129,7 @@ module _ (S : Schema) (M : Catalog) (homes : Homes) (kept : IsKept S M homes) wh
 
   -- ---- putting
 
-  module _ (s : ℕ) (object : Object) (none : get M s ≡ None) (there : IsSome (home_at S object.home)) (bounded : total S (insert M s object) ≤ most) where
+  module _ (s : ℕ) (object : Object) (none : get M s ≡ None) (is_sound : IsSound S object) (bounded : total S (insert M s object) ≤ most) where
     pub sum_fits : homes.total + weight S object ≤ most
     sum_fits = let more = sum_with S M s object none in let whole = kept.total_is in omega (arith, more, whole, bounded)
 
@@ -141,7 +142,7 @@ module _ (S : Schema) (M : Catalog) (homes : Homes) (kept : IsKept S M homes) wh
 
     pub counts_fit : (to : ℕ) → number_at homes.counts.items to + comes (bases_in homes.counts.items) object.home.0 to ≤ most
     counts_fit to =
-        let comes_is = comes_one object there to in
+        let comes_is = comes_one object is_sound.0 to in
         let number = kept.counts (record { 0 = to }) in
         let more = passing_with (is_of S (record { 0 = to })) M s object none in
         let pass = fewer_pass (is_of S (record { 0 = to })) (insert M s object) in
@@ -150,7 +151,7 @@ module _ (S : Schema) (M : Catalog) (homes : Homes) (kept : IsKept S M homes) wh
 
     -- the object is there, and all else is as it was
     pub kept_with :
-        (new : Homes) (pairs : List (KeyNo × List ℕ)) → AreKeysOf S (Some object) pairs → IsUnique S (insert M s object) → new.families ≡ homes.families → TurnsObject homes.rows.entries new.rows.entries s (Some (stored S object))
+        (new : Parts) (pairs : List (KeyNo × List ℕ)) → AreKeysOf S (Some object) pairs → IsUnique S (insert M s object) → new.families ≡ homes.families → TurnsObject homes.rows.entries new.rows.entries s (Some (stored S object))
         → new.total ≡ homes.total + weight S object → new.objects ≡ homes.objects + 1
         → TurnsHeldIn homes.extents.items new.extents.items object.home.0 s true → length new.extents.items ≡ length homes.extents.items
         → AreRaised homes.counts.items new.counts.items object.home.0 → bases_in new.counts.items ≡ bases_in homes.counts.items
@@ -158,10 +159,11 @@ module _ (S : Schema) (M : Catalog) (homes : Homes) (kept : IsKept S M homes) wh
         → IsKept S (insert M s object) new
     kept_with new pairs keys unique families rows sum number held size counted bases found as_many = record {
       sound = kept.sound;
-      there = λ t x found. by t x found (same_or_not t s);
+      each = λ t x found. by t x found (same_or_not t s);
       families = families ∙ kept.families;
       objects = rows_with S M s object _ new.rows.entries kept.objects rows;
       total_is = (let whole = kept.total_is in let more = sum_with S M s object none in omega (arith, sum, whole, more));
+      bounded = bounded;
       count_is = (let whole = kept.count_is in let more = number_with M s object none in omega (arith, number, whole, more));
       extents = extents_with S M s object none _ new.extents.items kept.extents held;
       extents_size = size ∙ kept.extents_size;
@@ -169,16 +171,16 @@ module _ (S : Schema) (M : Catalog) (homes : Homes) (kept : IsKept S M homes) wh
           let before = kept.counts home in
           let more = passing_with (is_of S home) M s object none in
           let change = counted home.0 in
-          let one_is = comes_one object there home.0 in
+          let one_is = comes_one object is_sound.0 home.0 in
           omega (arith, before, more, change, one_is));
       bases = bases ∙ kept.bases;
       keys = keys_with S M s object none unique pairs keys.listed _ new.keys.items kept.keys found;
       keys_size = as_many ∙ kept.keys_size;
     }
       where
-        by : (t : ℕ) (x : Object) → get (insert M s object) t ≡ Some x → (t ≡ s) ⊎ (t ≡ s → ⊥) → IsSome (home_at S x.home)
-        by t x found (inl same) = let one : Some object ≡ Some x = sym (come M s object t same) ∙ found in let it : object ≡ x = cc in subst (λ (o : Object). IsSome (home_at S o.home)) it there
-        by t x found (inr other) = kept.there t x (sym (others M s object t other) ∙ found)
+        by : (t : ℕ) (x : Object) → get (insert M s object) t ≡ Some x → (t ≡ s) ⊎ (t ≡ s → ⊥) → IsSound S x
+        by t x found (inl same) = let one : Some object ≡ Some x = sym (come M s object t same) ∙ found in let it : object ≡ x = cc in subst (IsSound S) it is_sound
+        by t x found (inr other) = kept.each t x (sym (others M s object t other) ∙ found)
 
 -- ---- the keys of an object
 
@@ -207,7 +209,7 @@ key_within n k (j ∷ js) all any =
     (λ _ _ more. key_within n k js (and_right (nat_le (j.0 + 1) n) _ all) more)
     refl any
 
-module _ (S : Schema) (M : Catalog) (homes : Homes) (kept : IsKept S M homes) where
+module _ (S : Schema) (M : Catalog) (homes : Parts) (kept : IsKept S M homes) where
   -- a key that an object holds has its index
   pub key_there : (object : Object) (key : KeyNo) (bytes : List ℕ) → holds S key bytes object ≡ true → key.0 < length homes.keys.items
   key_there object key bytes held =
@@ -251,7 +253,7 @@ module _ (S : Schema) (M : Catalog) (homes : Homes) (kept : IsKept S M homes) wh
 
 -- ---- the object behind a row
 
-module _ (S : Schema) (M : Catalog) (homes : Homes) (kept : IsKept S M homes) (s : ℕ) (row : Stored) (is : object_at s homes.rows.entries ≡ Some row) where
+module _ (S : Schema) (M : Catalog) (homes : Parts) (kept : IsKept S M homes) (s : ℕ) (row : Stored) (is : object_at s homes.rows.entries ≡ Some row) where
   behind : (object : Object) × (get M s ≡ Some object) × (row ≡ stored S object)
   behind = object_behind S M homes kept s row is
 
@@ -262,7 +264,7 @@ module _ (S : Schema) (M : Catalog) (homes : Homes) (kept : IsKept S M homes) (s
   row_counts = one_there S M homes kept s behind.0 behind.1
 
   pub row_home : row.home.0 ≤ length homes.counts.items
-  row_home = subst (λ (r : Stored). r.home.0 ≤ length homes.counts.items) (sym behind.2) (home_within S M homes kept behind.0 (kept.there s behind.0 behind.1))
+  row_home = subst (λ (r : Stored). r.home.0 ≤ length homes.counts.items) (sym behind.2) (home_within S M homes kept behind.0 (kept.each s behind.0 behind.1).0)
 
   pub row_counted : (to : ℕ) → comes (bases_in homes.counts.items) row.home.0 to ≤ number_at homes.counts.items to
   row_counted to = subst (λ (r : Stored). comes (bases_in homes.counts.items) r.home.0 to ≤ number_at homes.counts.items to) (sym behind.2) (some_counted S M homes kept s behind.0 behind.1 to)
@@ -271,7 +273,7 @@ module _ (S : Schema) (M : Catalog) (homes : Homes) (kept : IsKept S M homes) (s
   row_entered = subst (λ (r : Stored). is_entered_in homes.extents.items r.home.0 s ≡ true) (sym behind.2) (entered_there S M homes kept s behind.0 behind.1)
 
   pub row_without :
-      (new : Homes) (pairs : List (KeyNo × List ℕ)) → AreKeysOf S (get M s) pairs → new.families ≡ homes.families → TurnsObject homes.rows.entries new.rows.entries s None
+      (new : Parts) (pairs : List (KeyNo × List ℕ)) → AreKeysOf S (get M s) pairs → new.families ≡ homes.families → TurnsObject homes.rows.entries new.rows.entries s None
       → new.total ≡ homes.total - (16 + length row.bytes) → new.objects ≡ homes.objects - 1
       → TurnsHeldIn homes.extents.items new.extents.items row.home.0 s false → length new.extents.items ≡ length homes.extents.items
       → AreRaised new.counts.items homes.counts.items row.home.0 → bases_in new.counts.items ≡ bases_in homes.counts.items
@@ -285,31 +287,31 @@ module _ (S : Schema) (M : Catalog) (homes : Homes) (kept : IsKept S M homes) (s
 
 -- ---- an object that is put
 
-module _ (homes : Homes) (s : ℕ) (row : Stored) (pairs : List (KeyNo × List ℕ)) (may : MayPutObject homes s row pairs) where
+module _ (homes : Parts) (s : ℕ) (row : Stored) (pairs : List (KeyNo × List ℕ)) (may : MayPutObject homes s row pairs) where
   pub row_sum_fits : homes.total + (16 + length row.bytes) ≤ most
-  row_sum_fits = subst (λ (r : Stored). homes.total + (16 + length r.bytes) ≤ most) (sym may.is) (sum_fits may.schema may.catalog homes may.kept s may.object may.none may.there may.bounded)
+  row_sum_fits = subst (λ (r : Stored). homes.total + (16 + length r.bytes) ≤ most) (sym may.is) (sum_fits may.schema may.catalog homes may.kept s may.object may.none may.is_sound may.bounded)
 
   pub row_number_fits : homes.objects + 1 ≤ most
-  row_number_fits = number_fits may.schema may.catalog homes may.kept s may.object may.none may.there may.bounded
+  row_number_fits = number_fits may.schema may.catalog homes may.kept s may.object may.none may.is_sound may.bounded
 
   pub row_home_there : row.home.0 ≤ length homes.counts.items
-  row_home_there = subst (λ (r : Stored). r.home.0 ≤ length homes.counts.items) (sym may.is) (home_within may.schema may.catalog homes may.kept may.object may.there)
+  row_home_there = subst (λ (r : Stored). r.home.0 ≤ length homes.counts.items) (sym may.is) (home_within may.schema may.catalog homes may.kept may.object may.is_sound.0)
 
   pub row_counts_fit : (to : ℕ) → number_at homes.counts.items to + comes (bases_in homes.counts.items) row.home.0 to ≤ most
-  row_counts_fit to = subst (λ (r : Stored). number_at homes.counts.items to + comes (bases_in homes.counts.items) r.home.0 to ≤ most) (sym may.is) (counts_fit may.schema may.catalog homes may.kept s may.object may.none may.there may.bounded to)
+  row_counts_fit to = subst (λ (r : Stored). number_at homes.counts.items to + comes (bases_in homes.counts.items) r.home.0 to ≤ most) (sym may.is) (counts_fit may.schema may.catalog homes may.kept s may.object may.none may.is_sound may.bounded to)
 
   pub may_put_row : MayPut homes.keys.items pairs
   may_put_row = may_put_keys may.schema may.catalog homes may.kept s may.object may.none may.unique pairs may.keys may.keys_reserved
 
   pub row_with :
-      (new : Homes) → new.families ≡ homes.families → TurnsObject homes.rows.entries new.rows.entries s (Some row)
+      (new : Parts) → new.families ≡ homes.families → TurnsObject homes.rows.entries new.rows.entries s (Some row)
       → new.total ≡ homes.total + (16 + length row.bytes) → new.objects ≡ homes.objects + 1
       → TurnsHeldIn homes.extents.items new.extents.items row.home.0 s true → length new.extents.items ≡ length homes.extents.items
       → AreRaised homes.counts.items new.counts.items row.home.0 → bases_in new.counts.items ≡ bases_in homes.counts.items
       → TurnsFound homes.keys.items new.keys.items pairs (Some s) → length new.keys.items ≡ length homes.keys.items
       → IsKept may.schema (insert may.catalog s may.object) new
   row_with new families rows sum number held size counted bases found as_many =
-      kept_with may.schema may.catalog homes may.kept s may.object may.none may.there may.bounded new pairs may.keys may.unique families
+      kept_with may.schema may.catalog homes may.kept s may.object may.none may.is_sound may.bounded new pairs may.keys may.unique families
       (subst (λ (r : Stored). TurnsObject homes.rows.entries new.rows.entries s (Some r)) may.is rows)
       (sum ∙ ap (λ (r : Stored). homes.total + (16 + length r.bytes)) may.is) number
       (subst (λ (r : Stored). TurnsHeldIn homes.extents.items new.extents.items r.home.0 s true) may.is held) size
@@ -323,15 +325,16 @@ lent_items v old new is same = with_items_is v new (same ∙ ap length is ∙ sy
 
 -- what is kept is seen by what is there alone, and not by what is reserved
 pub kept_same :
-    (S : Schema) (M : Catalog) (old new : Homes) → new.families ≡ old.families → KeepsObjects old.rows.entries new.rows.entries → new.total ≡ old.total → new.objects ≡ old.objects
+    (S : Schema) (M : Catalog) (old new : Parts) → new.families ≡ old.families → KeepsObjects old.rows.entries new.rows.entries → new.total ≡ old.total → new.objects ≡ old.objects
     → KeepsHeldIn old.extents.items new.extents.items → length new.extents.items ≡ length old.extents.items → new.counts.items ≡ old.counts.items
     → KeepsFound old.keys.items new.keys.items → length new.keys.items ≡ length old.keys.items → IsKept S M old → IsKept S M new
 kept_same S M old new families rows sum number held size counts found as_many kept = record {
   sound = kept.sound;
-  there = kept.there;
+  each = kept.each;
   families = families ∙ kept.families;
   objects = λ s. rows s ∙ kept.objects s;
   total_is = sum ∙ kept.total_is;
+  bounded = kept.bounded;
   count_is = number ∙ kept.count_is;
   extents = λ h s. held h s ∙ kept.extents h s;
   extents_size = size ∙ kept.extents_size;

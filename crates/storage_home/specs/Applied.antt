@@ -5,24 +5,15 @@ use Rattle.pss_base.specs.declared.put.Put.{Put}
 use Rattle.type_layout.specs.declared.home.HomeNo.{HomeNo}
 use Rattle.type_layout.specs.declared.key.KeyNo.{KeyNo}
 use Rattle.type_layout.specs.declared.schema.Schema.{Schema}
-use Rattle.type_layout.specs.Schemas.{given, home_at, key_at, members_at}
-use Rattle.type_layout.specs.Values.{IsRecord}
+use Rattle.type_layout.specs.Schemas.{given, home_at, key_at}
 use Rattle.pss_catalog.specs.Catalog.{Object, Catalog, holds, object_spelling, total, IsUnique}
 use Rattle.pss_catalog.specs.Changes.{Change as Step, over}
 use Rattle.storage_home.specs.declared.change.Change.{Change}
-use Rattle.storage_home.specs.declared.homes.Homes.{Homes}
+use Rattle.storage_home.specs.declared.parts.Parts.{Parts}
 use Rattle.storage_home.specs.Keys.{lists, AreKeysReserved, IsOnce}
-use Rattle.storage_home.specs.Kept.{IsKept, IsReserved}
-
--- the greatest sum that is kept
-abbrev pub most : ℕ
-most = 18446744073709551615
+use Rattle.storage_home.specs.Kept.{most, IsSound, IsKept, IsReserved}
 
 -- ---- one change
-
--- an object of a home that is there, with a record of the home's layout
-abbrev pub IsSound : Schema → Object → Type 0
-IsSound S object = IsSome (home_at S object.home) × IsRecord (members_at S object.home) object.values
 
 -- octets, where there are some, spell the record of an object of this home
 abbrev pub IsState : Schema → ℕ → Option (List ℕ) → Option Object → Type 0
@@ -53,15 +44,15 @@ AreChanges S M _ _ = ⊥
 -- ---- what is reserved
 
 -- the serial of a new record is reserved for its home, and the new keys are
-abbrev pub IsChangeReserved : Homes → Change → Type 0
+abbrev pub IsChangeReserved : Parts → Change → Type 0
 IsChangeReserved homes change = (IsSome change.put.bytes → IsReserved homes (record { 0 = change.put.home }) change.put.serial) × AreKeysReserved homes.keys.items change.new_keys
 
-abbrev pub AreReserved : Homes → List Change → Type 0
+abbrev pub AreReserved : Parts → List Change → Type 0
 AreReserved homes [] = Unit {0}
 AreReserved homes (c ∷ cs) = IsChangeReserved homes c × AreReserved homes cs
 
 -- all that was reserved stays so
-abbrev pub AllStay : Homes → Homes → Type 0
+abbrev pub AllStay : Parts → Parts → Type 0
 AllStay old new = (home : HomeNo) (s : ℕ) → IsReserved old home s → IsReserved new home s
 
 -- each of the keys is there
@@ -77,15 +68,8 @@ abbrev pub AreNamed : Schema → List Change → Type 0
 AreNamed S [] = Unit {0}
 AreNamed S (c ∷ cs) = IsNamed S c × AreNamed S cs
 
--- changes whose homes and keys are of the schema
-pub record MayReserve (homes : Homes) (changes : List Change) : Type 0 where
-  pub schema : Schema
-  pub catalog : Catalog
-  pub kept : IsKept schema catalog homes
-  pub named : AreNamed schema changes
-
 -- changes for which all is reserved may be made of a catalog that is kept: they leave keys unique, and the sum within its limit
-pub record MayApply (homes : Homes) (changes : List Change) : Type 0 where
+pub record MayApply (homes : Parts) (changes : List Change) : Type 0 where
   pub schema : Schema
   pub catalog : Catalog
   pub steps : List Step

@@ -1,20 +1,29 @@
 -- What is kept of a catalog.
-use Rattle.std.specs.Prelude.{ℕ, ◌≡◌, ◌↔◌, ◌==◌, List, length, Option, Some, Bool, true, false, IsSome}
+use Rattle.std.specs.Prelude.{ℕ, ◌≡◌, ◌≤◌, ◌↔◌, ◌==◌, List, length, Option, Some, Bool, true, false, IsSome}
 use Rattle.std.specs.Option.{option_map}
 use Rattle.std.specs.FinMap.{get, entries}
 use Rattle.type_layout.specs.declared.home.HomeNo.{HomeNo}
 use Rattle.type_layout.specs.declared.key.KeyNo.{KeyNo}
 use Rattle.type_layout.specs.declared.schema.Schema.{Schema}
-use Rattle.type_layout.specs.Schemas.{given, home_at, descends}
+use Rattle.type_layout.specs.Schemas.{given, home_at, members_at, descends}
 use Rattle.type_layout.specs.Sound.{IsSoundSchema}
+use Rattle.type_layout.specs.Values.{IsRecord}
 use Rattle.pss_catalog.specs.Catalog.{Object, Catalog, holds, pids_where, object_spelling, total, EachObject}
 use Rattle.pss_catalog.specs.Families.{bases_of}
 use Rattle.storage_home.specs.declared.rows.Stored.{Stored}
-use Rattle.storage_home.specs.declared.homes.Homes.{Homes}
+use Rattle.storage_home.specs.declared.parts.Parts.{Parts}
 use Rattle.storage_home.specs.Rows.{object_at, is_reserved_at}
 use Rattle.storage_home.specs.Extents.{is_held_in, is_entered_in}
 use Rattle.storage_home.specs.Counts.{bases_in, number_at}
 use Rattle.storage_home.specs.Keys.{found_at}
+
+-- the greatest sum that is kept
+abbrev pub most : ℕ
+most = 18446744073709551615
+
+-- an object of a home that is there, with a record of the home's layout
+abbrev pub IsSound : Schema → Object → Type 0
+IsSound S object = IsSome (home_at S object.home) × IsRecord (members_at S object.home) object.values
 
 -- an object as it is stored
 abbrev pub stored : Schema → Object → Stored
@@ -32,14 +41,15 @@ IsHolder S M key bytes serial = (object : Object) × (get M serial ≡ Some obje
 abbrev pub is_object_of : ℕ → Option Object → Bool
 is_object_of home object = given object false (λ o. o.home.0 == home)
 
--- these homes keep the catalog: each object with its octets, the sum and the number of all, for each home its own
--- objects by serial and how many there are with those of its heirs, and for each key its holders
-pub record IsKept (S : Schema) (M : Catalog) (homes : Homes) : Type 0 where
+-- these homes keep the catalog: each object with the octets of its record, the sum and the number of all, for each home its
+-- own objects by serial and how many there are with those of its heirs, and for each key its holders
+pub record IsKept (S : Schema) (M : Catalog) (homes : Parts) : Type 0 where
   pub sound : IsSoundSchema S
-  pub there : EachObject M (λ serial object. IsSome (home_at S object.home))
+  pub each : EachObject M (λ serial object. IsSound S object)
   pub families : homes.families ≡ bases_of S
   pub objects : (serial : ℕ) → object_at serial homes.rows.entries ≡ option_map (stored S) (get M serial)
   pub total_is : homes.total ≡ total S M
+  pub bounded : total S M ≤ most
   pub count_is : homes.objects ≡ length (entries M)
   pub extents : (home serial : ℕ) → is_held_in homes.extents.items home serial ≡ is_object_of home (get M serial)
   pub extents_size : length homes.extents.items ≡ length S.homes
@@ -49,13 +59,13 @@ pub record IsKept (S : Schema) (M : Catalog) (homes : Homes) : Type 0 where
   pub keys_size : length homes.keys.items ≡ length S.keys
 
 -- room is kept for an object of this home with this serial
-abbrev pub IsReserved : Homes → HomeNo → ℕ → Type 0
+abbrev pub IsReserved : Parts → HomeNo → ℕ → Type 0
 IsReserved homes home serial = (is_reserved_at serial homes.rows.entries ≡ true) × (is_entered_in homes.extents.items home.0 serial ≡ true)
 
 -- what holds of each catalog that these homes keep
-abbrev pub Keeping : Homes → (Schema → Catalog → Type 0) → Type 0
+abbrev pub Keeping : Parts → (Schema → Catalog → Type 0) → Type 0
 Keeping homes P = (S : Schema) (M : Catalog) → IsKept S M homes → P S M
 
 -- these homes keep a catalog
-abbrev pub AnyKept : Homes → Type 0
+abbrev pub AnyKept : Parts → Type 0
 AnyKept homes = (S : Schema) × (M : Catalog) × IsKept S M homes

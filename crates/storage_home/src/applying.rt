@@ -15,6 +15,7 @@ use crate::counts::{lower, raise};
 use crate::extents::{hold_in, release_in};
 use crate::homes::Homes;
 use crate::keys::{put_all, take_all};
+use crate::parts::Parts;
 use crate::rows::{Stored, is_reserved, object_of, put, take};
 use pss_base::{Bytes, Put};
 use type_layout::{HomeNo, KeyNo};
@@ -31,10 +32,12 @@ impl Homes {
         requires { MayApply self.old changes }
         ensures { (m : MayApply self.old changes) → IsKept m.schema (over m.catalog m.steps) self.new }
     {
-        self.take_changed(changes.as_slice());
-        self.put_changed(changes.into_vec());
+        self.parts.take_changed(changes.as_slice());
+        self.parts.put_changed(changes.into_vec());
     }
+}
 
+impl Parts {
     fn take_changed(&mut self, changes: &[Change])
         requires { AnyTakeAll self.old changes.now }
         ensures kept { (S : Schema) (F : Catalog) → MayTakeAll S F self.old changes.now → IsKept S F self.new }

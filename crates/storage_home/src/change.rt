@@ -32,6 +32,13 @@ impl KeyValues {
         }
     }
 
+    /// These, which are not copied.
+    pub fn from_vec(pairs: Vec<(KeyNo, Bytes)>) -> KeyValues
+        ensures { result ≡ pairs.items }
+    {
+        KeyValues { pairs }
+    }
+
     /// Puts one last. `NoMemory`: the list is as before.
     pub fn push(&mut self, pair: (KeyNo, Bytes)) -> Result<(), NoMemory>
         ensures ok { OnOk result (self.new ≡ self.old ++ pair ∷ []) }

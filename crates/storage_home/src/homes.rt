@@ -1,38 +1,44 @@
 // The objects of a store, and what is asked of them.
-ghost use Rattle.std.specs.Prelude.{◌≡◌, ℕ, List, map, length};
+ghost use Rattle.std.specs.Prelude.{◌≡◌, ◌<◌, ◌^◌, ℕ, List, map, length};
 ghost use Rattle.std.specs.Option.{option_map, option_to_list};
 ghost use Rattle.std.specs.FinMap.{get, entries};
 ghost use Rattle.type_layout.specs.declared.home.HomeNo.{HomeNo};
 ghost use Rattle.pss_catalog.specs.Catalog.{object_spelling, holders, pids_where, total};
+ghost use Rattle.pss_catalog.specs.Families.{bases_of};
 ghost use Rattle.storage_home.specs.Kept.{Keeping, is_of};
 
-use crate::counts::{Count, count_of};
-use crate::extents::Extent;
+use crate::counts::count_of;
 use crate::keys::find;
-use crate::rows::{Rows, object_of};
-use key_index::KeyIndex;
+use crate::parts::Parts;
+use crate::rows::object_of;
 use pss_catalog::Families;
-use std::alloc::Global;
+use std::marker::Model;
 use type_layout::{HomeNo, KeyNo};
 
 /// The committed objects of a store: each with the octets of its record, by its serial; who holds which key; and for each
 /// storage home its objects in the order of their serials, and how many there are with those of the homes that derive from it.
 ///
-/// Contracts see the catalog that is kept (`IsKept`): every clause speaks of each catalog that these homes keep.
+/// Contracts see the catalog that is kept (`IsKept`), and there always is one: every clause speaks of each catalog that
+/// these homes keep.
 #[derive(Drop)]
 pub struct Homes {
-    pub(crate) alloc: Global,
-    pub(crate) families: Families,
-    pub(crate) rows: Rows,
-    /// The sum over the objects of 16 and the length of the record.
-    pub(crate) total: u64,
-    /// The number of all objects.
-    pub(crate) objects: u64,
-    /// For each home, from number 1.
-    pub(crate) extents: Vec<Extent>,
-    pub(crate) counts: Vec<Count>,
-    /// For each key, from number 0.
-    pub(crate) keys: Vec<KeyIndex>,
+    pub(crate) parts: Parts,
+}
+
+impl Model for Homes {
+    ghost use Rattle.storage_home.specs.declared.parts.Parts.{Parts};
+
+    ghost Value = { Parts };
+
+    ghost use Rattle.storage_home.specs.contracts.parts.Parts as parts_code;
+
+    ghost coded = { parts_code.the_row.coded };
+
+    ghost use Rattle.storage_home.specs.Kept.{AnyKept};
+
+    ghost view = { λ h. h.parts };
+
+    ghost invariant = { λ h. AnyKept h.parts };
 }
 
 impl Homes {
@@ -40,7 +46,7 @@ impl Homes {
     pub fn get(&self, serial: u64) -> Option<(HomeNo, &[u8])>
         ensures { Keeping self.now (λ S M. option_map {U = HomeNo × List ℕ} (λ found. (found.0, found.1.now)) result ≡ option_map {U = HomeNo × List ℕ} (λ object. (object.home, object_spelling S object)) (get M serial)) }
     {
-        match object_of(&self.rows, serial) {
+        match object_of(&self.parts.rows, serial) {
             Some(object) => Some((object.home, object.bytes.as_slice())),
             None => None,
         }
@@ -51,28 +57,37 @@ impl Homes {
     pub fn find_key(&self, key: KeyNo, bytes: &[u8]) -> Option<u64>
         ensures { Keeping self.now (λ S M. map (λ pid. pid.serial) (holders S M key bytes.now) ≡ option_to_list result) }
     {
-        find(&self.keys, key, bytes)
+        find(&self.parts.keys, key, bytes)
     }
 
     /// The sum over all objects of 16 and the length of the record in octets.
     pub fn total_bytes(&self) -> u64
         ensures { Keeping self.now (λ S M. result ≡ total S M) }
     {
-        self.total
+        self.parts.total
     }
 
-    /// The number of all objects.
+    /// The number of all objects. Each counts 16 and more in the sum, which is less than 2^64.
     pub fn objects(&self) -> u64
-        ensures { Keeping self.now (λ S M. result ≡ length (entries M)) }
+        ensures objects { Keeping self.now (λ S M. result ≡ length (entries M)) }
+        ensures few { result < 2 ^ 60 }
     {
-        self.objects
+        self.parts.objects
     }
 
     /// The number of the objects of a home and of the homes that derive from it, 0 where the home is not there. It is
     /// kept, and read off.
     pub fn count(&self, home: HomeNo) -> u64
-        ensures { Keeping self.now (λ S M. result ≡ length (pids_where (is_of S home) M)) }
+        ensures objects { Keeping self.now (λ S M. result ≡ length (pids_where (is_of S home) M)) }
+        ensures few { result < 2 ^ 60 }
     {
-        count_of(&self.counts, home)
+        count_of(&self.parts.counts, home)
+    }
+
+    /// Which homes derive from which.
+    pub fn families(&self) -> &Families
+        ensures { Keeping self.now (λ S M. result.now ≡ bases_of S) }
+    {
+        &self.parts.families
     }
 }

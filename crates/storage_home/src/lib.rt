@@ -13,6 +13,7 @@ mod homes;
 mod keys;
 mod listing;
 mod loading;
+mod parts;
 mod reserving;
 mod rows;
 

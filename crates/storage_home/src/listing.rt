@@ -3,7 +3,7 @@ ghost use Rattle.std.specs.Prelude.{◌≡◌, ◌≤◌, ℕ, List, Some, take,
 ghost use Rattle.type_layout.specs.declared.home.HomeNo.{HomeNo as Home};
 ghost use Rattle.type_layout.specs.declared.schema.Schema.{Schema};
 ghost use Rattle.pss_catalog.specs.Catalog.{Catalog, pids_where};
-ghost use Rattle.storage_home.specs.Kept.{Keeping, AnyKept, is_of};
+ghost use Rattle.storage_home.specs.Kept.{Keeping, is_of};
 ghost use Rattle.storage_home.specs.inner.Queues.{IsApart, AreIn, IsQueue, AnyQueue, IsListing, waiting_at, enqueued};
 
 use crate::extents::{Extent, next_above_in, next_in};
@@ -23,10 +23,10 @@ impl Homes {
     /// answer and in the homes, times a logarithm. Serials that are reserved and have no object are passed over: a
     /// commit reserves some just before it is applied.
     pub fn first(&self, home: HomeNo, n: u32) -> Result<Pids, NoMemory>
-        requires { AnyKept self.now }
         ensures { IfOk result (λ pids. Keeping self.now (λ S M. pids ≡ take n (pids_where (is_of S home) M))) }
     {
-        first_of(self.alloc, &self.extents, self.families.heirs(home), n)
+        let parts = &self.parts;
+        first_of(parts.alloc, &parts.extents, parts.families.heirs(home), n)
     }
 }
 

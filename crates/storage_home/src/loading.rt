@@ -13,6 +13,7 @@ ghost use Rattle.storage_home.specs.Extents.{is_held_in};
 use crate::change::KeyValues;
 use crate::extents::Extent;
 use crate::homes::Homes;
+use crate::parts::Parts;
 use crate::rows::{self, Stored};
 use crate::{counts, keys};
 use cdr_codec::key_of_octets;
@@ -31,11 +32,13 @@ impl Homes {
         requires rows { MayLoad schema.now rows }
         ensures { IfOk result (λ homes. (m : MayLoad schema.now rows) → IsKept schema.now (over empty m.steps) homes) }
     {
-        let mut homes = none(alloc, schema)?;
-        homes.load_all(schema, rows.into_vec())?;
-        Ok(homes)
+        let mut parts = none(alloc, schema)?;
+        parts.load_all(schema, rows.into_vec())?;
+        Ok(Homes { parts })
     }
+}
 
+impl Parts {
     fn load_all(&mut self, schema: &Schema, rows: Vec<Put>) -> Result<(), NoMemory>
         requires { AnyLoadAll schema.now self.old rows.items }
         ensures { OnOk result ((F : Catalog) → MayLoadAll schema.now F self.old rows.items → IsKept schema.now F self.new) }
@@ -80,14 +83,14 @@ impl Homes {
     }
 }
 
-// Homes without any object.
-fn none(alloc: Global, schema: &Schema) -> Result<Homes, NoMemory>
+// No object at all.
+fn none(alloc: Global, schema: &Schema) -> Result<Parts, NoMemory>
     requires { IsSoundSchema schema.now }
-    ensures { IfOk result (λ homes. IsKept schema.now empty homes) }
+    ensures { IfOk result (λ parts. IsKept schema.now empty parts) }
 {
     let families = Families::new(alloc, schema)?;
     let homes = schema.homes.as_slice();
-    Ok(Homes {
+    Ok(Parts {
         alloc,
         families,
         rows: rows::empty(alloc),

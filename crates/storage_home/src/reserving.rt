@@ -2,13 +2,14 @@
 ghost use Rattle.std.specs.Prelude.{◌≡◌, ◌≤◌, length, true, OnOk};
 ghost use Rattle.storage_home.specs.Keys.{AreThere, AreKeysReserved, StayReserved};
 ghost use Rattle.storage_home.specs.Kept.{IsKept, IsReserved, Keeping};
-ghost use Rattle.storage_home.specs.Applied.{MayReserve, AreReserved, AllStay, IsChangeReserved};
-ghost use Rattle.storage_home.specs.inner.Steps.{IsPlaced};
+ghost use Rattle.storage_home.specs.Applied.{AreNamed, AreReserved, AllStay, IsChangeReserved};
+ghost use Rattle.storage_home.specs.inner.Steps.{MayReserve, IsPlaced};
 
 use crate::change::{Change, Changes};
 use crate::extents::enter_in;
 use crate::homes::Homes;
 use crate::keys::reserve_all;
+use crate::parts::Parts;
 use crate::rows::reserve;
 use pss_base::{Bytes, NoMemory};
 use type_layout::{HomeNo, KeyNo};
@@ -19,15 +20,17 @@ impl Homes {
     ///
     /// `NoMemory`: the objects are as before, and what was reserved stays reserved.
     pub fn reserve_for(&mut self, changes: &Changes) -> Result<(), NoMemory>
-        requires { MayReserve self.old changes.now }
+        requires { Keeping self.old (λ S M. AreNamed S changes.now) }
         ensures kept { Keeping self.old (λ S M. IsKept S M self.new) }
         ensures ok { OnOk result (AreReserved self.new changes.now) }
         ensures stay { AllStay self.old self.new }
         ensures keys_stay { StayReserved self.old.keys.items self.new.keys.items }
     {
-        self.reserve_changes(changes.as_slice())
+        self.parts.reserve_changes(changes.as_slice())
     }
+}
 
+impl Parts {
     fn reserve_changes(&mut self, changes: &[Change]) -> Result<(), NoMemory>
         requires { MayReserve self.old changes.now }
         ensures kept { Keeping self.old (λ S M. IsKept S M self.new) }

@@ -10,28 +10,37 @@ use Rattle.type_layout.specs.Types.{PlainValue}
 use Rattle.pss_catalog.specs.Catalog.{Object, Catalog, object_spelling, total, IsUnique}
 use Rattle.pss_catalog.specs.Changes.{Change as Step, over, with_state}
 use Rattle.storage_home.specs.declared.change.Change.{Change}
-use Rattle.storage_home.specs.declared.homes.Homes.{Homes}
+use Rattle.storage_home.specs.declared.parts.Parts.{Parts}
 use Rattle.storage_home.specs.declared.rows.Stored.{Stored}
 use Rattle.storage_home.specs.Keys.{AreKeysReserved, AreThere}
-use Rattle.storage_home.specs.Kept.{IsKept, IsReserved, stored}
-use Rattle.storage_home.specs.Applied.{most, IsSound, IsNew, AreKeysOf, AreChanges, AreReserved, AreRows}
+use Rattle.storage_home.specs.Kept.{most, IsSound, IsKept, IsReserved, stored}
+use Rattle.storage_home.specs.Applied.{IsNew, AreKeysOf, AreChanges, AreReserved, AreNamed, AreRows}
+
+-- ---- what is reserved
+
+-- changes whose homes and keys are of the schema
+pub record MayReserve (homes : Parts) (changes : List Change) : Type 0 where
+  pub schema : Schema
+  pub catalog : Catalog
+  pub kept : IsKept schema catalog homes
+  pub named : AreNamed schema changes
 
 -- ---- one object
 
 -- the object with a serial, where there is one, may be taken out with its keys
-pub record MayTake (homes : Homes) (serial : ℕ) (pairs : List (KeyNo × List ℕ)) : Type 0 where
+pub record MayTake (homes : Parts) (serial : ℕ) (pairs : List (KeyNo × List ℕ)) : Type 0 where
   pub schema : Schema
   pub catalog : Catalog
   pub kept : IsKept schema catalog homes
   pub keys : AreKeysOf schema (get catalog serial) pairs
 
 -- an object may be put with its keys
-pub record MayPutObject (homes : Homes) (serial : ℕ) (row : Stored) (pairs : List (KeyNo × List ℕ)) : Type 0 where
+pub record MayPutObject (homes : Parts) (serial : ℕ) (row : Stored) (pairs : List (KeyNo × List ℕ)) : Type 0 where
   pub schema : Schema
   pub catalog : Catalog
   pub object : Object
   pub kept : IsKept schema catalog homes
-  pub there : IsSome (home_at schema object.home)
+  pub is_sound : IsSound schema object
   pub is : row ≡ stored schema object
   pub none : get catalog serial ≡ None
   pub keys : AreKeysOf schema (Some object) pairs
@@ -41,11 +50,11 @@ pub record MayPutObject (homes : Homes) (serial : ℕ) (row : Stored) (pairs : L
   pub keys_reserved : AreKeysReserved homes.keys.items pairs
 
 -- what is reserved for other serials stays so
-abbrev pub OthersStay : Homes → Homes → ℕ → Type 0
+abbrev pub OthersStay : Parts → Parts → ℕ → Type 0
 OthersStay old new serial = (home : HomeNo) (s : ℕ) → (s ≡ serial → ⊥) → IsReserved old home s → IsReserved new home s
 
 -- what a change names is there: its home, where it has a record, and its new keys
-abbrev pub IsPlaced : Homes → Change → Type 0
+abbrev pub IsPlaced : Parts → Change → Type 0
 IsPlaced homes change = (IsSome change.put.bytes → (1 ≤ change.put.home) × (change.put.home ≤ length homes.extents.items)) × AreThere homes.keys.items change.new_keys
 
 -- ---- changes, one after the other
@@ -71,7 +80,7 @@ AreFresh N [] = Unit {0}
 AreFresh N (step ∷ steps) = (get N step.serial ≡ None) × AreFresh (with_state N step.serial step.state) steps
 
 -- once the objects of these changes are taken out, the catalog F is kept
-pub record MayTakeAll (S : Schema) (F : Catalog) (homes : Homes) (changes : List Change) : Type 0 where
+pub record MayTakeAll (S : Schema) (F : Catalog) (homes : Parts) (changes : List Change) : Type 0 where
   pub original : Catalog
   pub catalog : Catalog
   pub steps : List Step
@@ -81,11 +90,11 @@ pub record MayTakeAll (S : Schema) (F : Catalog) (homes : Homes) (changes : List
   pub same : AgreeAt catalog original steps
   pub ends : bare catalog steps ≡ F
 
-abbrev pub AnyTakeAll : Homes → List Change → Type 0
+abbrev pub AnyTakeAll : Parts → List Change → Type 0
 AnyTakeAll homes changes = (S : Schema) × (F : Catalog) × MayTakeAll S F homes changes
 
 -- once the records of these changes are put, the catalog F is kept
-pub record MayPutAll (S : Schema) (F : Catalog) (homes : Homes) (changes : List Change) : Type 0 where
+pub record MayPutAll (S : Schema) (F : Catalog) (homes : Parts) (changes : List Change) : Type 0 where
   pub original : Catalog
   pub catalog : Catalog
   pub steps : List Step
@@ -98,7 +107,7 @@ pub record MayPutAll (S : Schema) (F : Catalog) (homes : Homes) (changes : List 
   pub reserved : AreReserved homes changes
   pub ends : over catalog steps ≡ F
 
-abbrev pub AnyPutAll : Homes → List Change → Type 0
+abbrev pub AnyPutAll : Parts → List Change → Type 0
 AnyPutAll homes changes = (S : Schema) × (F : Catalog) × MayPutAll S F homes changes
 
 -- ---- rows, one after the other
@@ -117,7 +126,7 @@ abbrev pub keys_in : Schema → HomeNo → List KeyNo
 keys_in S home = given (home_at S home) [] (λ h. h.keys)
 
 -- an object may be loaded
-pub record MayLoadOne (S : Schema) (homes : Homes) (serial : ℕ) (row : Stored) : Type 0 where
+pub record MayLoadOne (S : Schema) (homes : Parts) (serial : ℕ) (row : Stored) : Type 0 where
   pub catalog : Catalog
   pub object : Object
   pub kept : IsKept S catalog homes
@@ -128,7 +137,7 @@ pub record MayLoadOne (S : Schema) (homes : Homes) (serial : ℕ) (row : Stored)
   pub bounded : total S (insert catalog serial object) ≤ most
 
 -- once these rows are loaded, the catalog F is kept
-pub record MayLoadAll (S : Schema) (F : Catalog) (homes : Homes) (rows : List Put) : Type 0 where
+pub record MayLoadAll (S : Schema) (F : Catalog) (homes : Parts) (rows : List Put) : Type 0 where
   pub catalog : Catalog
   pub steps : List Step
   pub kept : IsKept S catalog homes
@@ -138,5 +147,5 @@ pub record MayLoadAll (S : Schema) (F : Catalog) (homes : Homes) (rows : List Pu
   pub bounded : total S F ≤ most
   pub ends : over catalog steps ≡ F
 
-abbrev pub AnyLoadAll : Schema → Homes → List Put → Type 0
+abbrev pub AnyLoadAll : Schema → Parts → List Put → Type 0
 AnyLoadAll S homes rows = (F : Catalog) × MayLoadAll S F homes rows

@@ -4,9 +4,9 @@ use Rattle.storage_home.specs.declared.counts.Count.{Count}
 use Rattle.storage_home.specs.Extents.{TurnsHeldIn}
 use Rattle.storage_home.specs.Counts.{bases_in, number_at, AreLower, AreRaised, comes}
 use Rattle.storage_home.specs.Keys.{MayPut, TurnsFound}
-use Rattle.storage_home.specs.Applied.{most}
+use Rattle.storage_home.specs.Kept.{most}
 use Rattle.storage_home.proofs.Taking.{lent_items, lower_kept, may_put_row, row_sum_fits, row_number_fits, row_home_there, row_counts_fit, row_with}
-use Rattle.storage_home.proofs.homes.Homes.put_object.Goals as goal
+use Rattle.storage_home.proofs.parts.Parts.put_object.Goals as goal
 
 pub overflow_add-self-2 : goal.overflow_add-self-2
 overflow_add-self-2 c =

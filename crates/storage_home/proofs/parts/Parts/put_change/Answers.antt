@@ -4,7 +4,7 @@ use Rattle.storage_home.specs.Keys.{TurnsKeysReserved}
 use Rattle.storage_home.specs.Kept.{IsKept}
 use Rattle.storage_home.specs.inner.Steps.{MayPutObject}
 use Rattle.storage_home.proofs.Stepping.{may_put, put_on, none_put}
-use Rattle.storage_home.proofs.homes.Homes.put_change.Goals as goal
+use Rattle.storage_home.proofs.parts.Parts.put_change.Goals as goal
 
 pub put_object-requires : goal.put_object-requires
 put_object-requires c =

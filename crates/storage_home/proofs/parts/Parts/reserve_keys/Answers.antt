@@ -2,7 +2,7 @@ use Rattle.std.proofs.Common.{length, refl, sym, ap, subst, ◌∙◌}
 use Rattle.std.specs.Vec.{with_items}
 use Rattle.storage_home.specs.Keys.{KeepsFound}
 use Rattle.storage_home.proofs.Taking.{lent_items, kept_same}
-use Rattle.storage_home.proofs.homes.Homes.reserve_keys.Goals as goal
+use Rattle.storage_home.proofs.parts.Parts.reserve_keys.Goals as goal
 
 pub returns-clause-kept : goal.returns-clause-kept
 returns-clause-kept c S M kept =

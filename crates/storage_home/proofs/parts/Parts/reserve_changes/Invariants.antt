@@ -1,10 +1,10 @@
 use Rattle.std.proofs.Common.{drop}
 use Rattle.type_layout.specs.declared.schema.Schema.{Schema}
-use Rattle.storage_home.specs.declared.homes.Homes.{Homes}
+use Rattle.storage_home.specs.declared.parts.Parts.{Parts}
 use Rattle.storage_home.specs.Keys.{StayReserved}
 use Rattle.storage_home.specs.Kept.{IsKept, Keeping}
 use Rattle.storage_home.specs.Applied.{AllStay, AreNamed, AreReserved}
-use Rattle.storage_home.proofs.homes.Homes.reserve_changes.Given as goal
+use Rattle.storage_home.proofs.parts.Parts.reserve_changes.Given as goal
 
 abbrev pub invariant-loop-change : goal.invariant-loop-change
 invariant-loop-change l =
@@ -12,4 +12,4 @@ invariant-loop-change l =
     × AllStay l.initial.self l.self
     × StayReserved l.initial.self.keys.items l.self.keys.items
     × ((S : Schema) → AreNamed S l.changes → AreNamed S (drop l.change-index l.changes))
-    × ((later : Homes) → AllStay l.self later → StayReserved l.self.keys.items later.keys.items → AreReserved later (drop l.change-index l.changes) → AreReserved later l.changes)
+    × ((later : Parts) → AllStay l.self later → StayReserved l.self.keys.items later.keys.items → AreReserved later (drop l.change-index l.changes) → AreReserved later l.changes)

@@ -3,7 +3,7 @@ use Rattle.std.specs.Vec.Iter.{into_iter_items}
 use Rattle.storage_home.specs.inner.Steps.{MayPutAll}
 use Rattle.storage_home.proofs.Places.{no_items}
 use Rattle.storage_home.proofs.Stepping.{all_put}
-use Rattle.storage_home.proofs.homes.Homes.put_changed.Goals as goal
+use Rattle.storage_home.proofs.parts.Parts.put_changed.Goals as goal
 
 pub put_change-requires : goal.put_change-requires
 put_change-requires c =

@@ -5,7 +5,7 @@ use Rattle.storage_home.specs.Kept.{IsKept}
 use Rattle.storage_home.specs.inner.Steps.{MayTake, MayTakeAll}
 use Rattle.storage_home.proofs.Places.{drop_end}
 use Rattle.storage_home.proofs.Stepping.{may_take, taken_on, all_taken}
-use Rattle.storage_home.proofs.homes.Homes.take_changed.Goals as goal
+use Rattle.storage_home.proofs.parts.Parts.take_changed.Goals as goal
 
 pub loop-change-init : goal.loop-change-init
 loop-change-init c = (λ S F m. m, λ home s reserved. reserved, λ key bytes. refl)

@@ -2,7 +2,7 @@ use Rattle.type_layout.specs.declared.schema.Schema.{Schema}
 use Rattle.pss_catalog.specs.Catalog.{Catalog}
 use Rattle.std.specs.Vec.Iter.{into_iter_items}
 use Rattle.storage_home.specs.inner.Steps.{MayPutAll}
-use Rattle.storage_home.proofs.homes.Homes.put_changed.Given as goal
+use Rattle.storage_home.proofs.parts.Parts.put_changed.Given as goal
 
 abbrev pub invariant-loop-change : goal.invariant-loop-change
 invariant-loop-change l =

@@ -8,7 +8,7 @@ use Rattle.storage_home.specs.Keys.{AreThere, TurnsFound}
 use Rattle.storage_home.specs.Kept.{IsKept}
 use Rattle.storage_home.proofs.Keeping.{without_none}
 use Rattle.storage_home.proofs.Taking.{lent_items, nothing_behind, lower_kept, keys_there, row_weighs, row_counts, row_home, row_counted, row_entered, row_without}
-use Rattle.storage_home.proofs.homes.Homes.take_object.Goals as goal
+use Rattle.storage_home.proofs.parts.Parts.take_object.Goals as goal
 
 pub returns-in_default-clause-kept : goal.returns-in_default-clause-kept
 returns-in_default-clause-kept c m =

@@ -4,7 +4,7 @@ use Rattle.storage_home.specs.Keys.{AreThere, AreKeysReserved}
 use Rattle.storage_home.specs.Kept.{IsKept}
 use Rattle.storage_home.specs.inner.Steps.{MayPutObject}
 use Rattle.storage_home.proofs.LoadingRows.{loaded_keys, loaded_home, loaded_keys_there, may_put_loaded, loaded_reserved}
-use Rattle.storage_home.proofs.homes.Homes.load_object.Goals as goal
+use Rattle.storage_home.proofs.parts.Parts.load_object.Goals as goal
 
 pub reserve_serial-requires-clause-there : goal.reserve_serial-requires-clause-there
 reserve_serial-requires-clause-there c = loaded_home c.args.schema.now c.args.self.now c.args.serial c.args.object c.requires

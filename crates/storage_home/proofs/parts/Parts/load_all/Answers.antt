@@ -3,7 +3,7 @@ use Rattle.std.specs.Vec.Iter.{into_iter_items}
 use Rattle.storage_home.specs.inner.Steps.{MayLoadAll}
 use Rattle.storage_home.proofs.Places.{no_items}
 use Rattle.storage_home.proofs.LoadingRows.{all_loaded}
-use Rattle.storage_home.proofs.homes.Homes.load_all.Goals as goal
+use Rattle.storage_home.proofs.parts.Parts.load_all.Goals as goal
 
 pub load-requires : goal.load-requires
 load-requires c =

@@ -1,5 +1,5 @@
 use Rattle.std.proofs.Common.{◌≤◌, length, sym, subst, rules, IsSome}
-use Rattle.storage_home.proofs.homes.Homes.reserve_change.Goals as goal
+use Rattle.storage_home.proofs.parts.Parts.reserve_change.Goals as goal
 
 pub reserve_serial-requires-clause-there : goal.reserve_serial-requires-clause-there
 reserve_serial-requires-clause-there c =

@@ -1,7 +1,7 @@
 use Rattle.pss_catalog.specs.Catalog.{Catalog}
 use Rattle.std.specs.Vec.Iter.{into_iter_items}
 use Rattle.storage_home.specs.inner.Steps.{MayLoadAll}
-use Rattle.storage_home.proofs.homes.Homes.load_all.Given as goal
+use Rattle.storage_home.proofs.parts.Parts.load_all.Given as goal
 
 abbrev pub invariant-loop-row : goal.invariant-loop-row
 invariant-loop-row l =

@@ -3,7 +3,7 @@ use Rattle.std.proofs.lemmas.List.{drop_more}
 use Rattle.storage_home.specs.Applied.{AreNamed, AreReserved}
 use Rattle.storage_home.proofs.Places.{drop_end}
 use Rattle.storage_home.proofs.Naming.{placed, change_stays}
-use Rattle.storage_home.proofs.homes.Homes.reserve_changes.Goals as goal
+use Rattle.storage_home.proofs.parts.Parts.reserve_changes.Goals as goal
 
 pub reserve_change-requires : goal.reserve_change-requires
 reserve_change-requires c =

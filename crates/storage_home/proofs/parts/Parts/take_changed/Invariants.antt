@@ -4,7 +4,7 @@ use Rattle.pss_catalog.specs.Catalog.{Catalog}
 use Rattle.storage_home.specs.Keys.{KeepsKeysReserved}
 use Rattle.storage_home.specs.inner.Steps.{MayTakeAll}
 use Rattle.storage_home.specs.Applied.{AllStay}
-use Rattle.storage_home.proofs.homes.Homes.take_changed.Given as goal
+use Rattle.storage_home.proofs.parts.Parts.take_changed.Given as goal
 
 abbrev pub invariant-loop-change : goal.invariant-loop-change
 invariant-loop-change l =

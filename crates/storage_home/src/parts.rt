@@ -1,0 +1,24 @@
+// What is kept of the objects of a store.
+use crate::counts::Count;
+use crate::extents::Extent;
+use crate::rows::Rows;
+use key_index::KeyIndex;
+use pss_catalog::Families;
+use std::alloc::Global;
+
+/// Objects by serial, their sum and their number, the serials of each home and how many there are, and the holders of keys.
+#[derive(Drop)]
+pub struct Parts {
+    pub alloc: Global,
+    pub families: Families,
+    pub rows: Rows,
+    /// The sum over the objects of 16 and the length of the record.
+    pub total: u64,
+    /// The number of all objects.
+    pub objects: u64,
+    /// For each home, from number 1.
+    pub extents: Vec<Extent>,
+    pub counts: Vec<Count>,
+    /// For each key, from number 0.
+    pub keys: Vec<KeyIndex>,
+}

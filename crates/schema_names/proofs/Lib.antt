@@ -1,0 +1,4 @@
+pub mod Entering
+pub mod Finding
+pub mod Placing
+pub mod Rooted

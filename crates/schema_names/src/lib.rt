@@ -1,0 +1,9 @@
+//! A schema with tables of its names: what the words of a command name in it is found by hash.
+#![tactic(auto)]
+
+mod members;
+mod named;
+mod roots;
+mod table;
+
+pub use named::NamedSchema;

@@ -89,16 +89,16 @@ def copy_texts(texts, crate):
                 shutil.copy(os.path.join(folder, name), os.path.join(to, name.replace(".txt", ".antt")))
 
 
-def lines(path):
+def lines(path, *words):
     """The lines that a program prints, each as its words."""
-    told = subprocess.run([path], stdin=subprocess.DEVNULL, stdout=subprocess.PIPE, text=True, check=True).stdout
+    told = subprocess.run([path, *words], stdin=subprocess.DEVNULL, stdout=subprocess.PIPE, text=True, check=True).stdout
     return [line.split() for line in told.splitlines()]
 
 
-def least(path):
+def least(path, *words):
     """What a program tells in lines of a name, a size and a number: the least number of each name and size. Other work on the machine makes none less."""
     numbers = {}
-    for name, size, number in lines(path):
+    for name, size, number in lines(path, *words):
         numbers[name, int(size)] = min(int(number), numbers.get((name, int(size)), int(number)))
     return numbers
 

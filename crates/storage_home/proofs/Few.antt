@@ -1,12 +1,18 @@
 -- How many objects homes may keep.
-use Rattle.std.proofs.Common.{◌^◌, ◌<◌, arith}
+use Rattle.std.proofs.Common.{length, ◌^◌, ◌<◌, arith}
+use Rattle.std.specs.FinMap.{entries}
+use Rattle.type_layout.specs.declared.schema.Schema.{Schema}
 use Rattle.type_layout.specs.declared.home.HomeNo.{HomeNo}
+use Rattle.pss_catalog.specs.Catalog.{Catalog}
 use Rattle.storage_home.specs.declared.parts.Parts.{Parts}
 use Rattle.storage_home.specs.Counts.{number_at}
-use Rattle.storage_home.specs.Kept.{is_of, AnyKept}
+use Rattle.storage_home.specs.Kept.{IsKept, is_of, AnyKept}
 use Rattle.storage_home.proofs.Keeping.{fewer, fewer_pass}
 
 -- each counts sixteen and more in a sum that is kept
+pub few_entries : (S : Schema) (M : Catalog) (homes : Parts) → IsKept S M homes → length (entries M) < 2 ^ 60
+few_entries S M homes kept = let sum = fewer S M in let most = kept.bounded in omega (arith, sum, most)
+
 pub few_objects : (homes : Parts) → AnyKept homes → homes.objects < 2 ^ 60
 few_objects homes any =
     let sum = fewer any.0 any.1 in

@@ -36,6 +36,16 @@ module _ (S : Schema) (M : Catalog) (homes : Parts) (kept : IsKept S M homes) (k
           let holder = (kept.keys key bytes s).0 is in
           ap (map (λ (pid : Pid). pid.serial)) (lists_one (holds S key bytes) M s holder.0 holder.1 holder.2 (λ t x found passes. (let here = (kept.keys key bytes t).1 (x, found, passes) in let one : Some t ≡ Some s = sym here ∙ is in cc)))
 
+same_option : (a b : Option ℕ) → option_to_list a ≡ option_to_list b → a ≡ b
+same_option None None e = refl
+same_option None (Some t) e = cc
+same_option (Some s) None e = cc
+same_option (Some s) (Some t) e = cc
+
+-- who is told as the holder is found
+pub told_is : (S : Schema) (M : Catalog) (homes : Parts) → IsKept S M homes → (key : KeyNo) (bytes : List ℕ) (o : Option ℕ) → map (λ pid. pid.serial) (holders S M key bytes) ≡ option_to_list o → found_at homes.keys.items key.0 bytes ≡ o
+told_is S M homes kept key bytes o told = same_option _ o (sym (holder_is S M homes kept key bytes) ∙ told)
+
 -- a key has one holder
 pub unique_kept : (S : Schema) (M : Catalog) (homes : Parts) → IsKept S M homes → IsUnique S M
 unique_kept S M homes kept k bytes s t x y at_s at_t of_x of_y =

@@ -1,0 +1,10 @@
+use Rattle.std.proofs.Common.{ℕ, ◌≡◌, List, Some, false, length, drop, cond}
+use Rattle.tx_session.specs.Indexes.{found_at, is_key_reserved, lists, MayPut}
+use Rattle.tx_session.proofs.indexes.put_all.Given as goal
+
+abbrev pub invariant-loop-key : goal.invariant-loop-key
+invariant-loop-key l =
+    ((key : ℕ) (bytes : List ℕ) → cond (lists (drop l.key-index l.pairs) key bytes) (Some l.serial) (found_at l.indexes key bytes) ≡ cond (lists l.pairs key bytes) (Some l.serial) (found_at l.initial.indexes key bytes))
+    × ((key : ℕ) (bytes : List ℕ) → cond (lists (drop l.key-index l.pairs) key bytes) false (is_key_reserved l.indexes key bytes) ≡ cond (lists l.pairs key bytes) false (is_key_reserved l.initial.indexes key bytes))
+    × (length l.indexes ≡ length l.initial.indexes)
+    × MayPut l.indexes (drop l.key-index l.pairs)

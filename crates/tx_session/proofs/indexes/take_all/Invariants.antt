@@ -1,0 +1,10 @@
+use Rattle.std.proofs.Common.{ℕ, ◌≡◌, List, None, length, drop, cond}
+use Rattle.tx_session.specs.Indexes.{found_at, lists, AreThere, KeepsKeysReserved}
+use Rattle.tx_session.proofs.indexes.take_all.Given as goal
+
+abbrev pub invariant-loop-key : goal.invariant-loop-key
+invariant-loop-key l =
+    ((key : ℕ) (bytes : List ℕ) → cond (lists (drop l.key-index l.pairs) key bytes) None (found_at l.indexes key bytes) ≡ cond (lists l.pairs key bytes) None (found_at l.initial.indexes key bytes))
+    × KeepsKeysReserved l.initial.indexes l.indexes
+    × (length l.indexes ≡ length l.initial.indexes)
+    × AreThere l.indexes (drop l.key-index l.pairs)

@@ -1,0 +1,45 @@
+-- What an owner's step makes of what is kept.
+use Rattle.std.specs.Prelude.{ℕ, ◌≡◌, ◌<◌, List, Option, Some, None}
+use Rattle.std.specs.FinMap.{len}
+use Rattle.std.specs.FinSet as set
+use Rattle.pss_base.specs.declared.owner.OwnerNo.{OwnerNo}
+use Rattle.type_layout.specs.declared.schema.Schema.{Schema}
+use Rattle.type_layout.specs.Sound.{IsSoundSchema}
+use Rattle.pss_catalog.specs.Catalog.{Catalog, IsUnique}
+use Rattle.pss_machine.specs.Changes.{with_changes}
+use Rattle.pss_machine.specs.Owners.{Owner}
+use Rattle.tx_session.specs.declared.owned.Owned.{Owned}
+use Rattle.tx_session.specs.declared.parts.Parts.{Parts}
+use Rattle.tx_session.specs.declared.step.Step.{Step}
+use Rattle.tx_session.specs.declared.step.Put.{Put}
+use Rattle.tx_session.specs.Overlay.{changes_in}
+use Rattle.tx_session.specs.Owned.{owned_at, MayPutIn, HasPut, TurnsBy}
+use Rattle.tx_session.specs.Owners.{Under, AreOwners}
+use Rattle.tx_session.specs.Steps.{MayBePut, changes_put}
+use Rattle.tx_session.specs.Views.{seen_with}
+
+-- an owner after a step: it has locked what it needed, and changed what it changed
+abbrev pub with_step : Step → Owner → Owner
+with_step step owner = record { level = owner.level; locks = set.union owner.locks (set.from_list step.needs); changes = with_changes owner.changes (changes_put step.put) }
+
+-- a step on the view of an owner that is there, which may change one object more
+pub record MayTake (S : Schema) (parts : Parts) (n : OwnerNo) (step : Step) : Type 0 where
+  pub catalog : Catalog
+  pub owned : Owned
+  pub sound : IsSoundSchema S
+  pub there : owned_at n.0 parts.table.entries ≡ Some owned
+  pub unique : IsUnique S (seen_with catalog (changes_in owned.overlay))
+  pub may : MayBePut S (seen_with catalog (changes_in owned.overlay)) step.put
+  pub few : len (changes_in owned.overlay) < 4294967295
+  pub owners : AreOwners parts
+  pub under : Under S parts
+
+-- what a step puts, where it puts something, may be put
+abbrev pub MaySettle : List (ℕ × Owned) → OwnerNo → Option Put → Type 0
+MaySettle es n None = Unit {0}
+MaySettle es n (Some put) = (owned : Owned) → owned_at n.0 es ≡ Some owned → MayPutIn owned put
+
+-- it has been put
+abbrev pub HasSettled : List (ℕ × Owned) → List (ℕ × Owned) → OwnerNo → Option Put → Type 0
+HasSettled old new n None = new ≡ old
+HasSettled old new n (Some put) = TurnsBy (λ before after. HasPut before after put) old new n.0

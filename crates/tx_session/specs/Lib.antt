@@ -1,0 +1,17 @@
+pub mod Views
+pub mod Seen
+pub mod Keyed
+pub mod Net
+pub mod Indexes
+pub mod States
+pub mod Overlay
+pub mod Stored
+pub mod Refusal
+pub mod Steps
+pub mod Asking
+pub mod Fitting
+pub mod Merging
+pub mod Homes
+pub mod Owned
+pub mod Owners
+pub mod Acting

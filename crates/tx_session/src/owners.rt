@@ -1,0 +1,215 @@
+// Owners, and what may be asked of each.
+ghost use Rattle.std.specs.Prelude.{◌≡◌, ◌+◌, ◌≤◌, ◌↔◌, Some, None, IsSome, IfOk, OnOk, OnErr, map, sum};
+ghost use Rattle.std.specs.Option.{option_map};
+ghost use Rattle.std.specs.FinMap.{get, insert, remove, empty, len, entries};
+ghost use Rattle.std.specs.FinSet as set;
+ghost use Rattle.type_layout.specs.declared.schema.Schema.{Schema as PlainSchema};
+ghost use Rattle.pss_base.specs.declared.owner.OwnerNo.{OwnerNo as Number};
+ghost use Rattle.pss_machine.specs.declared.answer.Answer.{Answer as Told};
+ghost use Rattle.pss_machine.specs.declared.answer.Answer.TheVariants as told;
+ghost use Rattle.pss_machine.specs.Maps.{with_at};
+ghost use Rattle.pss_machine.specs.Operations.{plain_op, plain_answer};
+ghost use Rattle.pss_machine.specs.Owners.{Owner, new_owner, has_changed, net, blocker, view, stepped};
+ghost use Rattle.storage_home.specs.Applied.{AreChanges};
+ghost use Rattle.lock_table.specs.Agreement.{locks_of};
+ghost use Rattle.tx_session.specs.Net.{AreNet};
+ghost use Rattle.tx_session.specs.Owners.{owners_in, Under, MaySee, MayAct, step_of};
+
+use crate::net::net_changes;
+use crate::owned::Owned;
+use crate::parts::Parts;
+use crate::state::state_at;
+use crate::table;
+use crate::view::View;
+use lock_table::LockTable;
+use pss_base::{NoMemory, OwnerNo, Steps};
+use pss_machine::{Answer, Level, Op};
+use std::alloc::Global;
+use std::marker::Model;
+use std::sync::ledger::Ledger;
+use storage_home::{Changes, Homes};
+use type_layout::{Record, Schema};
+
+/// Owners, which are transactions and basic sessions: the level of each, what it has locked, and what it changed.
+///
+/// Contracts see the machine's owners (`owners_in`). The schema is the one given with the homes in each call; everything
+/// must have been changed under it (`Under`), which holds under every schema of owners that are new, and is kept by each call.
+#[derive(Drop)]
+pub struct Owners {
+    parts: Parts,
+}
+
+impl Model for Owners {
+    ghost use Rattle.tx_session.specs.declared.parts.Parts.{Parts};
+
+    ghost Value = { Parts };
+
+    ghost use Rattle.tx_session.specs.contracts.parts.Parts as parts_code;
+
+    ghost coded = { parts_code.the_row.coded };
+
+    ghost use Rattle.tx_session.specs.Owners.{AreOwners};
+
+    ghost view = { λ o. o.parts };
+
+    ghost invariant = { λ o. AreOwners o.parts };
+}
+
+impl Owners {
+    /// No owner. It takes no memory.
+    pub fn new(alloc: Global) -> Owners
+        ensures owners { owners_in result ≡ empty }
+        ensures under { (S : PlainSchema) → Under S result }
+    {
+        Owners {
+            parts: Parts {
+                alloc,
+                table: table::empty(alloc),
+                locks: LockTable::new(alloc),
+            },
+        }
+    }
+
+    /// An owner more, which has locked and changed nothing. There is none with this number yet.
+    ///
+    /// `NoMemory`: all is as before.
+    pub fn add(&mut self, owner: OwnerNo, level: Level) -> Result<(), NoMemory>
+        requires { get (owners_in self.old) owner.0 ≡ None }
+        ensures ok { OnOk result (owners_in self.new ≡ insert (owners_in self.old) owner.0 (new_owner level)) }
+        ensures err { OnErr result (owners_in self.new ≡ owners_in self.old) }
+        ensures under { (S : PlainSchema) → Under S self.old → Under S self.new }
+    {
+        let parts = &mut self.parts;
+        table::add(&mut parts.table, owner, Owned::new(parts.alloc, level))
+    }
+
+    /// What an operation comes to for an owner. `Busy` names the least other owner with a lock that clashes with what is needed;
+    /// then nothing has changed. Else the owner has locked what was needed, and the answer and the change are those of the
+    /// operation alone on what the owner sees.
+    ///
+    /// It takes time in what the operation touches and in the owner's changes, whatever is stored.
+    ///
+    /// `NoMemory`: all is as before.
+    pub fn act(
+        &mut self,
+        owner: OwnerNo,
+        schema: &Schema,
+        homes: &Homes,
+        op: &Op,
+    ) -> Result<Answer, NoMemory>
+        requires may { MayAct schema.now homes.now (owners_in self.old) owner (plain_op op.now) }
+        requires under { Under schema.now self.old }
+        ensures busy { IfOk result (λ answer. (m : MayAct schema.now homes.now (owners_in self.old) owner (plain_op op.now)) (n : Number) → (answer ≡ told.Busy n) ↔ (blocker (owners_in self.old) owner (step_of m).needs ≡ Some n)) }
+        ensures held_up { OnOk result ((m : MayAct schema.now homes.now (owners_in self.old) owner (plain_op op.now)) → IsSome (blocker (owners_in self.old) owner (step_of m).needs) → owners_in self.new ≡ owners_in self.old) }
+        ensures answer { IfOk result (λ answer. (m : MayAct schema.now homes.now (owners_in self.old) owner (plain_op op.now)) → blocker (owners_in self.old) owner (step_of m).needs ≡ None → plain_answer answer ≡ (step_of m).answer) }
+        ensures stepped { OnOk result ((m : MayAct schema.now homes.now (owners_in self.old) owner (plain_op op.now)) → blocker (owners_in self.old) owner (step_of m).needs ≡ None → owners_in self.new ≡ with_at (owners_in self.old) owner.0 (stepped (step_of m))) }
+        ensures err { OnErr result (owners_in self.new ≡ owners_in self.old) }
+        ensures under { Under schema.now self.new }
+    {
+        let step = self.parts.step_of(owner, schema, homes, op)?;
+        match self.parts.locks.blocker(owner, &step.needs) {
+            Some(other) => Ok(Answer::Busy(other)),
+            None => self.parts.take(owner, schema, step),
+        }
+    }
+
+    /// The record of the object with a serial as an owner sees it, where it sees one.
+    pub fn state_of(
+        &self,
+        owner: OwnerNo,
+        homes: &Homes,
+        schema: &Schema,
+        serial: u64,
+    ) -> Result<Option<Record>, NoMemory>
+        requires { MaySee schema.now homes.now (owners_in self.now) owner }
+        ensures { IfOk result (λ made. (m : MaySee schema.now homes.now (owners_in self.now) owner) → made ≡ option_map (λ object. object.values) (get (view m.catalog m.owner) serial)) }
+    {
+        let parts = &self.parts;
+        match table::find(&parts.table, owner) {
+            Some(owned) => {
+                let view = View {
+                    schema,
+                    committed: homes,
+                    overlay: &owned.overlay,
+                };
+                state_at(parts.alloc, &view, serial)
+            }
+            None => unreachable!(),
+        }
+    }
+
+    /// What a commit of an owner's changes has to make of the objects, by rising serials, with the keys that each had and has.
+    /// An object that was set back to what it was committed as is not among them.
+    pub fn changes(
+        &self,
+        owner: OwnerNo,
+        homes: &Homes,
+        schema: &Schema,
+    ) -> Result<Changes, NoMemory>
+        requires { MaySee schema.now homes.now (owners_in self.now) owner }
+        ensures net { IfOk result (λ changes. (m : MaySee schema.now homes.now (owners_in self.now) owner) → AreNet schema.now m.catalog (net m.catalog m.owner) changes) }
+        ensures wanted { IfOk result (λ changes. (m : MaySee schema.now homes.now (owners_in self.now) owner) → AreChanges schema.now m.catalog changes (net m.catalog m.owner)) }
+    {
+        let parts = &self.parts;
+        match table::find(&parts.table, owner) {
+            Some(owned) => {
+                let view = View {
+                    schema,
+                    committed: homes,
+                    overlay: &owned.overlay,
+                };
+                net_changes(parts.alloc, &view)
+            }
+            None => unreachable!(),
+        }
+    }
+
+    /// Whether an owner changed the object with a serial, maybe back to what it was.
+    pub fn changed(&self, owner: OwnerNo, serial: u64) -> bool
+        ensures { (o : Owner) → get (owners_in self.now) owner.0 ≡ Some o → result ≡ has_changed o serial }
+    {
+        match table::find(&self.parts.table, owner) {
+            Some(owned) => owned.has_changed(serial),
+            None => false,
+        }
+    }
+
+    /// How many objects an owner changed.
+    pub fn changed_count(&self, owner: OwnerNo) -> u32
+        ensures { (o : Owner) → get (owners_in self.now) owner.0 ≡ Some o → result ≡ len o.changes }
+    {
+        match table::find(&self.parts.table, owner) {
+            Some(owned) => owned.changed,
+            None => 0,
+        }
+    }
+
+    /// How many locks all owners have together.
+    pub fn held(&self) -> u64
+        ensures { result ≡ sum (map (λ e. set.len e.1.locks) (entries (owners_in self.now))) }
+    {
+        self.parts.locks.held()
+    }
+
+    /// Drops what an owner changed and locked. It stays, with its level. One step for each lock, and at most one more. It
+    /// takes no memory.
+    pub fn finish<L: Ledger>(&mut self, owner: OwnerNo, steps: &mut Steps<L>)
+        ensures finished { owners_in self.new ≡ with_at (owners_in self.old) owner.0 (λ o. new_owner o.level) }
+        ensures each { steps.old + set.len (locks_of (owners_in self.old) owner) ≤ steps.new }
+        ensures at_most { steps.new ≤ steps.old + set.len (locks_of (owners_in self.old) owner) + 1 }
+        ensures under { (S : PlainSchema) → Under S self.old → Under S self.new }
+    {
+        let parts = &mut self.parts;
+        parts.locks.release_all(owner, steps);
+        table::clear(&mut parts.table, parts.alloc, owner);
+    }
+
+    /// Takes an owner away that has no lock, as after `finish`. It takes no memory.
+    pub fn remove(&mut self, owner: OwnerNo)
+        requires { locks_of (owners_in self.old) owner ≡ set.empty }
+        ensures removed { owners_in self.new ≡ remove (owners_in self.old) owner.0 }
+        ensures under { (S : PlainSchema) → Under S self.old → Under S self.new }
+    {
+        table::remove(&mut self.parts.table, owner);
+    }
+}

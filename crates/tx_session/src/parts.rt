@@ -1,0 +1,12 @@
+// What is kept of all owners.
+use crate::table::Table;
+use lock_table::LockTable;
+use std::alloc::Global;
+
+/// Owners by number, and what they have locked.
+#[derive(Drop)]
+pub struct Parts {
+    pub alloc: Global,
+    pub table: Table,
+    pub locks: LockTable,
+}

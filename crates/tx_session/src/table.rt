@@ -1,0 +1,76 @@
+// Owners by their numbers.
+ghost use Rattle.std.specs.Prelude.{◌≡◌, [], Some, None, OnOk, OnErr};
+ghost use Rattle.std.specs.Option.{option_map};
+ghost use Rattle.tx_session.specs.declared.owned.Owned.{Owned as One};
+ghost use Rattle.tx_session.specs.Owned.{owned_at, TurnsOwned, TurnsBy, IsSame, AreAmong, IsReadyIn, MayPutIn, HasPut, IsCleared};
+
+use crate::owned::Owned;
+use crate::step::Put;
+use indexmap::IndexMap;
+use pss_base::{NoMemory, OwnerNo};
+use std::alloc::Global;
+use std::hash::{BuildHasherDefault, DefaultHasher};
+
+pub type Table = IndexMap<u32, Owned, BuildHasherDefault<DefaultHasher>>;
+
+pub fn empty(alloc: Global) -> Table
+    ensures { result.entries ≡ [] }
+{
+    IndexMap::with_hasher(alloc, BuildHasherDefault::new())
+}
+
+pub fn find(table: &Table, owner: OwnerNo) -> Option<&Owned>
+    ensures { option_map (λ owned. owned.now) result ≡ owned_at owner.0 table.now.entries }
+{
+    table.get(&owner.0)
+}
+
+pub fn add(table: &mut Table, owner: OwnerNo, owned: Owned) -> Result<(), NoMemory>
+    ensures ok { OnOk result (TurnsOwned table.old.entries table.new.entries owner.0 (Some owned)) }
+    ensures err { OnErr result (table.new.entries ≡ table.old.entries) }
+{
+    table.insert(owner.0, owned)?;
+    Ok(())
+}
+
+pub fn remove(table: &mut Table, owner: OwnerNo)
+    ensures { TurnsOwned table.old.entries table.new.entries owner.0 None }
+{
+    let _ = table.swap_remove(&owner.0);
+}
+
+/// Takes all that an owner changed away. It takes no memory.
+pub fn clear(table: &mut Table, alloc: Global, owner: OwnerNo)
+    ensures { TurnsBy IsCleared table.old.entries table.new.entries owner.0 }
+{
+    if let Some(owned) = table.get_mut(&owner.0) {
+        *owned = Owned::new(alloc, owned.level);
+    }
+}
+
+/// Sees to it that what a step puts may be put without memory. There are so many keys in all.
+pub fn reserve_in(
+    table: &mut Table,
+    owner: OwnerNo,
+    keys: usize,
+    put: &Option<Put>,
+) -> Result<(), NoMemory>
+    requires { AreAmong keys put.now }
+    ensures same { TurnsBy IsSame table.old.entries table.new.entries owner.0 }
+    ensures ready { OnOk result (IsReadyIn owner.0 keys put.now table.new.entries) }
+{
+    match table.get_mut(&owner.0) {
+        Some(owned) => owned.reserve(keys, put),
+        None => Ok(()),
+    }
+}
+
+/// Puts what a step puts. It takes no memory.
+pub fn put_in(table: &mut Table, owner: OwnerNo, put: Put)
+    requires { (owned : One) → owned_at owner.0 table.old.entries ≡ Some owned → MayPutIn owned put }
+    ensures { TurnsBy (λ old new. HasPut old new put) table.old.entries table.new.entries owner.0 }
+{
+    if let Some(owned) = table.get_mut(&owner.0) {
+        owned.put(put);
+    }
+}

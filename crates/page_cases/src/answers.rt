@@ -1,7 +1,13 @@
 // The answers to the lines of commands.
-use crate::roots::{append_pages, append_root};
+ghost use Rattle.std.specs.Prelude.{IfOk, Some};
+ghost use Rattle.pss_disk.specs.Moments.{IsSettled};
+ghost use Rattle.pss_disk.specs.Tape.{now_of, state_of};
+
+use crate::checkpoints::{Changes, make};
+use crate::crashes::{append_crashes, word_of};
+use crate::roots::{append_pages, append_root, station_of};
 use crate::words::{number_of, octets_of, split_word};
-use pss_base::{Bytes, NoMemory};
+use pss_base::{Bytes, NoMemory, Put, Puts};
 use pss_disk::MemStation;
 use std::alloc::Global;
 
@@ -32,15 +38,17 @@ fn put(alloc: Global, store: &mut Vec<u8>, rest: &[u8]) -> Result<(), NoMemory> 
 }
 
 // A station with the octets of a store, whose call of this number fails, where there is one.
-fn station_of(alloc: Global, store: &[u8], failing: &[u8]) -> Result<MemStation, NoMemory> {
+fn failing_at(alloc: Global, store: &[u8], failing: &[u8]) -> Result<MemStation, NoMemory>
+    ensures { IfOk result (λ station. IsSettled (Some (state_of station).content) (now_of station)) }
+{
     match number_of(failing) {
-        Some(call) => MemStation::new(alloc, store, &[call.min(99) as u32]),
-        None => MemStation::new(alloc, store, &[]),
+        Some(call) => station_of(alloc, store, &[call.min(99) as u32]),
+        None => station_of(alloc, store, &[]),
     }
 }
 
 fn tell_root(alloc: Global, out: &mut Bytes, store: &[u8], failing: &[u8]) -> Result<(), NoMemory> {
-    let mut station = station_of(alloc, store, failing)?;
+    let mut station = failing_at(alloc, store, failing)?;
     append_root(alloc, out, &mut station)?;
     out.extend(b"\n")
 }
@@ -51,23 +59,115 @@ fn tell_pages(
     store: &[u8],
     failing: &[u8],
 ) -> Result<(), NoMemory> {
-    let mut station = station_of(alloc, store, failing)?;
+    let mut station = failing_at(alloc, store, failing)?;
     append_pages(alloc, out, &mut station)?;
     out.extend(b"\n")
 }
 
-fn answer(
+// Tells a change for the next checkpoint.
+fn change(alloc: Global, puts: &mut Puts, rest: &[u8]) -> Result<(), NoMemory> {
+    let (serial, rest) = split_word(rest);
+    let (home, digits) = split_word(rest);
+    let bytes = octets_of(alloc, digits)?;
+    let bytes = if bytes.as_slice().is_empty() {
+        None
+    } else {
+        Some(bytes)
+    };
+    puts.push(Put {
+        home: number_of(home).unwrap_or(0).min(u32::MAX as u64) as u32,
+        serial: number_of(serial).unwrap_or(0),
+        bytes,
+    })
+}
+
+// Tells a change to a record of so many octets, each the least octet of the serial.
+fn fill(alloc: Global, puts: &mut Puts, rest: &[u8]) -> Result<(), NoMemory> {
+    let (serial, rest) = split_word(rest);
+    let (home, count) = split_word(rest);
+    let serial = number_of(serial).unwrap_or(0);
+    let mut bytes = Bytes::new(alloc);
+    for _ in 0..number_of(count).unwrap_or(0).min(8001) {
+        bytes.push((serial % 256) as u8)?;
+    }
+    puts.push(Put {
+        home: number_of(home).unwrap_or(0).min(u32::MAX as u64) as u32,
+        serial,
+        bytes: Some(bytes),
+    })
+}
+
+fn tell_checkpoint(
     alloc: Global,
     out: &mut Bytes,
-    store: &mut Vec<u8>,
-    line: &[u8],
+    state: &mut State,
+    rest: &[u8],
 ) -> Result<(), NoMemory> {
+    let mut station = station_of(alloc, &state.store, &[])?;
+    let changes = Changes {
+        puts: state.puts.as_slice(),
+        next: number_of(rest).unwrap_or(1),
+    };
+    let ended = make(alloc, &mut station, changes)?;
+    let calls = station.calls();
+    out.extend(word_of(ended))?;
+    out.extend(format!(in alloc; " {calls}\n")?.as_bytes())?;
+    state.store.clear();
+    state.store.extend_from_slice(station.bytes())?;
+    state.puts = Puts::new(alloc);
+    Ok(())
+}
+
+fn tell_crashes(
+    alloc: Global,
+    out: &mut Bytes,
+    state: &State,
+    rest: &[u8],
+) -> Result<(), NoMemory> {
+    let changes = Changes {
+        puts: state.puts.as_slice(),
+        next: number_of(rest).unwrap_or(1),
+    };
+    append_crashes(alloc, out, &state.store, changes)
+}
+
+// A number that changes with each octet and its place.
+fn sum_of(octets: &[u8]) -> u32 {
+    let mut sum: u32 = 0;
+    for octet in octets {
+        sum = sum.wrapping_mul(31).wrapping_add(u32::from(*octet));
+    }
+    sum
+}
+
+fn tell_sum(alloc: Global, out: &mut Bytes, store: &[u8], rest: &[u8]) -> Result<(), NoMemory> {
+    let (at, count) = split_word(rest);
+    let len = store.len() as u64;
+    let from = number_of(at).unwrap_or(0).min(len);
+    let to = from + number_of(count).unwrap_or(0).min(len - from);
+    let sum = sum_of(&store[from as usize..to as usize]);
+    out.extend(format!(in alloc; "{sum}\n")?.as_bytes())
+}
+
+// The store, and the changes that were told for the next checkpoint.
+#[derive(Drop)]
+struct State {
+    store: Vec<u8>,
+    puts: Puts,
+}
+
+fn answer(alloc: Global, out: &mut Bytes, state: &mut State, line: &[u8]) -> Result<(), NoMemory> {
     let (word, rest) = split_word(line);
     match word {
-        b"store" => begin(store, rest),
-        b"octets" => put(alloc, store, rest),
-        b"root" => tell_root(alloc, out, store, rest),
-        b"pages" => tell_pages(alloc, out, store, rest),
+        b"store" => begin(&mut state.store, rest),
+        b"octets" => put(alloc, &mut state.store, rest),
+        b"root" => tell_root(alloc, out, &state.store, rest),
+        b"pages" => tell_pages(alloc, out, &state.store, rest),
+        b"change" => change(alloc, &mut state.puts, rest),
+        b"fill" => fill(alloc, &mut state.puts, rest),
+        b"checkpoint" => tell_checkpoint(alloc, out, state, rest),
+        b"crashes" => tell_crashes(alloc, out, state, rest),
+        b"sum" => tell_sum(alloc, out, &state.store, rest),
         _ => out.extend(b"no command\n"),
     }
 }
@@ -75,10 +175,13 @@ fn answer(
 /// The answers to all lines of commands.
 pub fn answers(alloc: Global, input: &[u8]) -> Result<Bytes, NoMemory> {
     let mut out = Bytes::new(alloc);
-    let mut store = Vec::new(alloc);
+    let mut state = State {
+        store: Vec::new(alloc),
+        puts: Puts::new(alloc),
+    };
     for line in input.split(|byte| *byte == b'\n') {
         if !line.is_empty() {
-            answer(alloc, &mut out, &mut store, line)?;
+            answer(alloc, &mut out, &mut state, line)?;
         }
     }
     Ok(out)

@@ -1,11 +1,21 @@
 // The root and the pages of a store in memory.
-ghost use Rattle.std.specs.Prelude.{ℕ, ◌<◌, length, slice_index};
+ghost use Rattle.std.specs.Prelude.{IfOk, Some};
+ghost use Rattle.page_store.specs.Roots.{IsWithinLimits};
+ghost use Rattle.pss_disk.specs.Moments.{IsSettled};
+ghost use Rattle.pss_disk.specs.Tape.{now_of, state_of};
 
 use crate::words::append_octets;
 use page_store::{PageFault, Pages, Root, RootFault, read_root};
 use pss_base::{Bytes, DamageKind, NoMemory, Put};
 use pss_disk::MemStation;
 use std::alloc::Global;
+
+/// A station with these octets, of which no call came yet.
+pub fn station_of(alloc: Global, store: &[u8], failing: &[u32]) -> Result<MemStation, NoMemory>
+    ensures { IfOk result (λ station. IsSettled (Some (state_of station).content) (now_of station)) }
+{
+    MemStation::new(alloc, store, failing)
+}
 
 fn name_of(kind: DamageKind) -> &'static [u8] {
     match kind {
@@ -90,11 +100,39 @@ fn append_fetched(
     station: &mut MemStation,
     root: &Root,
 ) -> Result<(), NoMemory>
-    requires { (k : ℕ) → k < length root.now.slots → slice_index root.now.slots k < 16384 }
+    requires { IsWithinLimits root.now }
 {
     match Pages::fetch(alloc, station, root) {
         Ok(fetched) => append_rows(alloc, out, station.calls(), fetched.rows.as_slice()),
         Err(fault) => append_page_fault(alloc, out, fault),
+    }
+}
+
+// The root and the objects, without the number of calls.
+fn append_both(
+    alloc: Global,
+    out: &mut Bytes,
+    station: &mut MemStation,
+    root: &Root,
+) -> Result<(), NoMemory>
+    requires { IsWithinLimits root.now }
+{
+    append_fields(alloc, out, root)?;
+    match Pages::fetch(alloc, station, root) {
+        Ok(fetched) => append_rows(alloc, out, 0, fetched.rows.as_slice()),
+        Err(fault) => append_page_fault(alloc, out, fault),
+    }
+}
+
+/// The current root of a store and the objects in its pages.
+pub fn append_store(
+    alloc: Global,
+    out: &mut Bytes,
+    station: &mut MemStation,
+) -> Result<(), NoMemory> {
+    match read_root(alloc, station) {
+        Ok(root) => append_both(alloc, out, station, &root),
+        Err(fault) => append_root_fault(alloc, out, fault),
     }
 }
 

@@ -29,7 +29,7 @@ module _ (from to : ℕ) (image other : List ℕ) (same : AreSame from to image 
 
 -- a page
 module _ (start slot : ℕ) (image other : List ℕ) (same : AreSame start (start + 16384) image other) where
-  used_same : octets_in_use other start ≡ octets_in_use image start
+  pub used_same : octets_in_use other start ≡ octets_in_use image start
   used_same = four_same start (start + 16384) image other same (start + 24) (omega arith) (omega arith)
 
   count_same : entry_count other start ≡ entry_count image start
@@ -102,13 +102,13 @@ module _ (image other : List ℕ) where
   abbrev Kept : ℕ → Type 0
   Kept slot = AreSame (slot_start slot) (slot_end slot) image other
 
-  all_entries : (slots : List ℕ) → ((k : ℕ) → k < length slots → Kept (get_or slots k 0)) → ((k : ℕ) → k < length slots → IsPage image (slot_start (get_or slots k 0)) (get_or slots k 0)) → entries_in other slots ≡ entries_in image slots
+  pub all_entries : (slots : List ℕ) → ((k : ℕ) → k < length slots → Kept (get_or slots k 0)) → ((k : ℕ) → k < length slots → IsPage image (slot_start (get_or slots k 0)) (get_or slots k 0)) → entries_in other slots ≡ entries_in image slots
   all_entries [] same whole = refl
   all_entries (s ∷ slots) same whole =
       ap (λ l. l ++ entries_in other slots) (entries_same (slot_start s) s image other (same 0 (omega arith)) (whole 0 (omega arith)))
       ∙ ap (λ l. entries_of image (slot_start s) ++ l) (all_entries slots (λ k lt. same (suc k) (omega (arith, lt))) (λ k lt. whole (suc k) (omega (arith, lt))))
 
-  all_places : (slots : List ℕ) → ((k : ℕ) → k < length slots → Kept (get_or slots k 0)) → ((k : ℕ) → k < length slots → IsPage image (slot_start (get_or slots k 0)) (get_or slots k 0)) → places_in other slots ≡ places_in image slots
+  pub all_places : (slots : List ℕ) → ((k : ℕ) → k < length slots → Kept (get_or slots k 0)) → ((k : ℕ) → k < length slots → IsPage image (slot_start (get_or slots k 0)) (get_or slots k 0)) → places_in other slots ≡ places_in image slots
   all_places [] same whole = refl
   all_places (s ∷ slots) same whole =
       ap (λ l. map (λ e. (e.serial, s)) l ++ places_in other slots) (entries_same (slot_start s) s image other (same 0 (omega arith)) (whole 0 (omega arith)))
@@ -127,8 +127,19 @@ module _ (image other : List ℕ) where
 pub pages_kept : ArePagesKept
 pages_kept next slots image other same = record { pages = pages_there image other next slots same; entries = λ p. all_entries image other slots same p.whole; places = λ p. all_places image other slots same p.whole }
 
+-- the slots of a root lie inside its file
+module _ (root : Root) (image : List ℕ) (has : HasRoot root image) where
+  slot_right : (k : ℕ) → k < length root.slots → IsWrongSlot (slot_in image root.area) (length image) k → ⊥
+  slot_right k lt w = has.right _ (inr (inr (inr (record { k = k; within = omega (arith, lt, has.fields.page_count); place = refl; wrong = w }))))
+
+  pub slot_inside : (k : ℕ) → k < length root.slots → slot_end (get_or root.slots k 0) ≤ length image
+  slot_inside k lt =
+      let here : slot_in image root.area k ≡ get_or root.slots k 0 = has.fields.slots k lt in
+      ⊎_elim {A = length image < slot_end (get_or root.slots k 0)} {B = slot_end (get_or root.slots k 0) ≤ length image} {C = slot_end (get_or root.slots k 0) ≤ length image}
+      (λ past. absurd (slot_right k lt (inr (inl (subst (λ s. length image < slot_end s) (sym here) past))))) (λ le. le) (cases_lt (length image) (slot_end (get_or root.slots k 0)))
+
 -- a root
-module _ (root : Root) (image other : List ℕ) (has : HasRoot root image) (same : AreSame (area_start root.area) (area_start root.area + 131072) image other) (long : length image ≤ length other) where
+module _ (root : Root) (image other : List ℕ) (has : HasRoot root image) (same : AreSame (area_start root.area) (area_start root.area + 131072) image other) (long : journal_end ≤ length other) (inside : (k : ℕ) → k < length root.slots → slot_end (get_or root.slots k 0) ≤ length other) where
   abbrev start : ℕ
   start = area_start root.area
 
@@ -150,12 +161,12 @@ module _ (root : Root) (image other : List ℕ) (has : HasRoot root image) (same
   slot_there : (k : ℕ) → k < 8058 → slot_in other root.area k ≡ slot_in image root.area k
   slot_there k lt = four (start + 65568 + k * 4) (omega arith) (omega (arith, lt))
 
-  wrong_slot_back : (k : ℕ) → k < 8058 → IsWrongSlot (slot_in other root.area) (length other) k → IsWrongSlot (slot_in image root.area) (length image) k
-  wrong_slot_back k lt w = shorter (wrong_slot_same (slot_in other root.area) (slot_in image root.area) (length other) k (λ i le. slot_there i (omega (arith, le, lt))) w)
+  wrong_slot_back : (k : ℕ) → k < 8058 → k < length root.slots → IsWrongSlot (slot_in other root.area) (length other) k → IsWrongSlot (slot_in image root.area) (length image) k
+  wrong_slot_back k lt within w = shorter (wrong_slot_same (slot_in other root.area) (slot_in image root.area) (length other) k (λ i le. slot_there i (omega (arith, le, lt))) w)
     where
       shorter : IsWrongSlot (slot_in image root.area) (length other) k → IsWrongSlot (slot_in image root.area) (length image) k
       shorter (inl great) = inl great
-      shorter (inr (inl past)) = inr (inl (omega (arith, past, long)))
+      shorter (inr (inl past)) = absurd (omega (arith, past, inside k within, has.fields.slots k within))
       shorter (inr (inr twice)) = inr (inr twice)
 
   wrong_back : (at : ℕ) → IsWrongField other root.area at → IsWrongField image root.area at
@@ -164,7 +175,7 @@ module _ (root : Root) (image other : List ℕ) (has : HasRoot root image) (same
   wrong_back at (inr (inr (inl w))) = inr (inr (inl (w.0, omega (arith, w.1, count_there))))
   wrong_back at (inr (inr (inr w))) =
       let few : w.k < 8058 = omega (arith, w.within, count_there, few_pages) in
-      inr (inr (inr (record { k = w.k; within = omega (arith, w.within, count_there); place = w.place; wrong = wrong_slot_back w.k few w.wrong })))
+      inr (inr (inr (record { k = w.k; within = omega (arith, w.within, count_there); place = w.place; wrong = wrong_slot_back w.k few (omega (arith, w.within, count_there, has.fields.page_count)) w.wrong })))
 
   is_root_there : IsRoot other root.area
   is_root_there = record {
@@ -172,9 +183,9 @@ module _ (root : Root) (image other : List ℕ) (has : HasRoot root image) (same
     magic = stands_same start (start + 131072) image other same (start + 1) root_magic (omega arith) (omega arith) has.current.root.magic;
   }
 
-  pub root_there : (IsRoot other (1 - root.area) → Follows other root.area (1 - root.area)) → HasRoot root other
-  root_there newer = record {
-    long = omega (arith, has.long, long);
+  pub root_there_within : (IsRoot other (1 - root.area) → Follows other root.area (1 - root.area)) → HasRoot root other
+  root_there_within newer = record {
+    long = long;
     current = record { area_ = has.current.area_; root = is_root_there; newer = newer };
     fields = record {
       epoch = eight (start + 8) (omega arith) (omega arith) ∙ has.fields.epoch;
@@ -186,6 +197,10 @@ module _ (root : Root) (image other : List ℕ) (has : HasRoot root image) (same
     };
     right = λ at w. has.right at (wrong_back at w);
   }
+
+-- the same in each image that is no shorter
+pub root_there : IsRootThere
+root_there root image other has same long newer = root_there_within root image other has same (omega (arith, has.long, long)) (λ k lt. omega (arith, long, slot_inside root image has k lt)) newer
 
 pub root_kept : IsRootThere
 root_kept root image other has same long newer = root_there root image other has same long newer
@@ -212,19 +227,10 @@ module _ (root : Root) (image other : List ℕ) (has : HasRoot root image) (fron
       let rest : 1 - root.area ≤ 1 = omega arith in
       epoch_there root.area le ∙ has.current.newer (root_back (1 - root.area) rest r) ∙ ap (λ n. (n + 1) % 2 ^ 64) (sym (epoch_there (1 - root.area) rest))
 
-  slot_right : (k : ℕ) → k < length root.slots → IsWrongSlot (slot_in image root.area) (length image) k → ⊥
-  slot_right k lt w = has.right _ (inr (inr (inr (record { k = k; within = omega (arith, lt, has.fields.page_count); place = refl; wrong = w }))))
-
-  slot_inside : (k : ℕ) → k < length root.slots → slot_end (get_or root.slots k 0) ≤ length image
-  slot_inside k lt =
-      let here : slot_in image root.area k ≡ get_or root.slots k 0 = has.fields.slots k lt in
-      ⊎_elim {A = length image < slot_end (get_or root.slots k 0)} {B = slot_end (get_or root.slots k 0) ≤ length image} {C = slot_end (get_or root.slots k 0) ≤ length image}
-      (λ past. absurd (slot_right k lt (inr (inl (subst (λ s. length image < slot_end s) (sym here) past))))) (λ le. le) (cases_lt (length image) (slot_end (get_or root.slots k 0)))
-
   store_there : IsStoreThere root image other
   store_there = record {
     root_ = root_there root image other has (area_same root.area has.current.area_) long follows_there;
-    pages = pages_kept root.next root.slots image other (λ k lt. λ i low high. behind i (omega (arith, low)) (omega (arith, high, slot_inside k lt)));
+    pages = pages_kept root.next root.slots image other (λ k lt. λ i low high. behind i (omega (arith, low)) (omega (arith, high, slot_inside root image has k lt)));
   }
 
 pub store_kept : IsStoreKept

@@ -5,6 +5,7 @@ use Rattle.std.specs.declared.option.Option.{Option}
 use Rattle.std.specs.FinMap as finite
 use Rattle.pss_base.specs.declared.put.Put.{Put}
 use Rattle.page_store.specs.Pages.{IsSmall, entries_in, places_in, put_of}
+use Rattle.page_store.specs.Roots.{IsWithinLimits}
 use Rattle.page_store.specs.declared.root.Root.{Root}
 
 -- the current root but for its next serial; which page holds each object; the page with little in use, where there is
@@ -18,6 +19,10 @@ pub record Kept : Type 0 where
   pub small : Option ℕ
   pub noted : List Put
   pub room : ℕ
+
+-- what the limits of a store make of a root but for its next serial
+abbrev pub AreWithinLimits : ℕ → List ℕ → List ℕ → Type 0
+AreWithinLimits area shape slots = IsWithinLimits (record { area = area; epoch = 0; next = 1; shape = shape; slots = slots })
 
 -- a page that has little in use, or none where no page has
 abbrev pub IsSmallOne : List ℕ → List ℕ → Option ℕ → Type 0

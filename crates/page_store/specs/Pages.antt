@@ -1,6 +1,7 @@
 -- The pages of a root, and the entries of objects in them.
 use Rattle.std.specs.Prelude.{ℕ, zero, suc, ◌≡◌, ◌≢◌, ◌+◌, ◌<◌, ◌≤◌, List, [], ◌∷◌, ◌++◌, length, map, slice_index, Some, ⊤}
 use Rattle.pss_base.specs.declared.put.Put.{Put}
+pub use Rattle.page_store.specs.declared.entry.Entry.{Entry}
 use Rattle.pss_disk.specs.Octets.{octets_in}
 use Rattle.pss_disk.specs.Parts.{Stands, number4, number8}
 use Rattle.page_store.specs.Places.{slot_start}
@@ -32,12 +33,6 @@ pub record IsPageHead (image : List ℕ) (start slot : ℕ) : Type 0 where
   pub slot_ : number4 image (start + 16) ≡ slot
   pub zeros : Stands image (start + 28) page_zeros
   pub used : octets_in_use image start ≤ 16344
-
--- an object in a page: its home, its serial and the octets of its record
-pub record Entry : Type 0 where
-  pub home : ℕ
-  pub serial : ℕ
-  pub octets : List ℕ
 
 -- the entry at a place, and the place behind it
 abbrev pub record_length : List ℕ → ℕ → ℕ

@@ -1,6 +1,17 @@
+pub mod Buffers
 pub mod Copies
 pub mod Heads
+pub mod Marks
+pub mod Freeing
+pub mod Shown
+pub mod Located
+pub mod Repacked
+pub mod Planned
 pub mod Current
 pub mod Tested
+pub mod Gates
 pub mod Gathering
+pub mod Packing
+pub mod Laying
 pub mod Stops
+pub mod Switching

@@ -5,8 +5,10 @@ ghost use Rattle.pss_base.specs.Causes.{HasCauseIf};
 ghost use Rattle.pss_disk.specs.Reading.{OnlyReads};
 ghost use Rattle.page_store.specs.Faults.{is_page_disk_fault};
 ghost use Rattle.page_store.specs.Kept.{IsKept, rows_in};
+ghost use Rattle.page_store.specs.Objects.{IsRightPut};
 ghost use Rattle.page_store.specs.Pages.{ArePages};
 ghost use Rattle.page_store.specs.Refusals.{IsPageRefusal};
+ghost use Rattle.page_store.specs.Roots.{IsWithinLimits};
 
 use crate::fault::PageFault;
 use crate::gathered::Gathered;
@@ -18,6 +20,9 @@ use pss_base::{Bytes, NoMemory, Put, Puts};
 use pss_disk::Station;
 use std::alloc::Global;
 use std::marker::Model;
+
+mod checkpoint;
+mod planning;
 
 /// The current root of a store and its pages, without the records in them, and the changes noted for the next
 /// checkpoint. The room is the number of changes that may be noted without memory.
@@ -38,7 +43,9 @@ impl Model for Pages {
     ghost use Rattle.std.specs.Coded.{codes, coded_ℕ};
     ghost use Rattle.std.specs.Ordering.{nat_cmp};
     ghost use Rattle.std.specs.FinMap as finite;
-    ghost use Rattle.page_store.specs.Kept.{Kept};
+    ghost use Rattle.std.specs.Prelude.{All};
+    ghost use Rattle.page_store.specs.Kept.{AreWithinLimits, Kept};
+    ghost use Rattle.page_store.specs.Objects.{IsRightPut};
 
     ghost Value = { Kept };
 
@@ -46,7 +53,7 @@ impl Model for Pages {
 
     ghost view = { λ p. record { area = p.area; epoch = p.epoch; shape = p.shape; slots = p.slots; places = finite.from_entries p.places.entries; small = p.small; noted = p.noted.items; room = p.room } };
 
-    ghost invariant = { λ p. length p.noted.items + p.room ≤ vec_capacity p.noted };
+    ghost invariant = { λ p. (length p.noted.items + p.room ≤ vec_capacity p.noted) × All IsRightPut p.noted.items × AreWithinLimits p.area p.shape p.slots };
 }
 
 /// The pages of a root, and the objects in them.
@@ -59,6 +66,7 @@ pub struct Fetched {
 
 // The pages of a root whose entries were gathered.
 fn pages_of(alloc: Global, root: &Root, gathered: Gathered) -> Result<Fetched, NoMemory>
+    requires { IsWithinLimits root.now }
     ensures area { IfOk result (λ fetched. fetched.pages.area ≡ root.now.area) }
     ensures epoch { IfOk result (λ fetched. fetched.pages.epoch ≡ root.now.epoch) }
     ensures shape { IfOk result (λ fetched. fetched.pages.shape ≡ root.now.shape) }
@@ -89,7 +97,7 @@ fn pages_of(alloc: Global, root: &Root, gathered: Gathered) -> Result<Fetched, N
 impl Pages {
     /// Reads the pages of a root, and tests them. The objects are answered beside them: they are not kept.
     pub fn fetch<W: Station>(alloc: Global, w: &mut W, root: &Root) -> Result<Fetched, PageFault>
-        requires slots { (k : ℕ) → k < length root.now.slots → slice_index root.now.slots k < 16384 }
+        requires { IsWithinLimits root.now }
         ensures right { IfOk result (λ fetched. IfSome (W.content w.old) (ArePages root.now.next root.now.slots)) }
         ensures rows { IfOk result (λ fetched. IfSome (W.content w.old) (λ c. fetched.rows ≡ rows_in c root.now.slots)) }
         ensures kept { IfOk result (λ fetched. IfSome (W.content w.old) (IsKept root.now fetched.pages)) }
@@ -119,9 +127,10 @@ impl Pages {
         Ok(())
     }
 
-    /// Notes a change for the next checkpoint, and takes one of the room. It takes no memory.
+    /// Notes a change for the next checkpoint, and takes one of the room. It takes no memory. A record has 1 to 8,000 octets.
     pub fn note_reserved(&mut self, put: Put)
         requires room { 0 < self.old.room }
+        requires record_ { IsRightPut put }
         ensures { self.new ≡ record self.old { noted = self.old.noted ++ put ∷ []; room = self.old.room - 1 } }
     {
         self.noted.push_reserved(put);

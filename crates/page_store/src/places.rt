@@ -1,5 +1,6 @@
 // Which page holds an object.
 ghost use Rattle.std.specs.Prelude.{ℕ, ◌≡◌, ◌≢◌, ◌++◌, ◌∷◌, [], ◌<◌, ◌↔◌, IsTrue, length, slice_index, true, false, OnOk};
+ghost use Rattle.page_store.specs.Touched.{place_at, under_serials};
 ghost use Rattle.std.specs.Map.{keys_of};
 
 use indexmap::IndexMap;
@@ -31,4 +32,11 @@ pub fn add_place(places: &mut Places, serial: u64, slot: u32) -> Result<(), NoMe
 {
     places.insert(serial, slot)?;
     Ok(())
+}
+
+/// The slot of the page that holds an object, where there is one.
+pub fn place_of(places: &Places, serial: u64) -> Option<u32>
+    ensures { result ≡ place_at (under_serials places.now.entries) serial }
+{
+    places.get(&serial).copied()
 }

@@ -8,6 +8,7 @@ ghost use Rattle.page_store.specs.Places.{slot_end};
 ghost use Rattle.page_store.specs.Roots.{IsWrongSlot, slot_in};
 
 use crate::layout::{AREA, FIRST_SLOT, PAGE, SLOT_LIST, SLOTS};
+use crate::marks::flags;
 use crate::number::read_number4;
 use crate::reading::read_octets;
 use crate::slots::Slots;
@@ -56,14 +57,6 @@ fn is_wrong(named: &[bool], slot: u32, len: u64) -> bool
     ensures { IsTrue result ↔ ((16384 ≤ slot) ⊎ (len < slot_end slot) ⊎ (slice_index_or named.now slot false ≡ true)) }
 {
     slot >= SLOTS || len < FIRST_SLOT + slot as u64 * PAGE + PAGE || named[slot as usize]
-}
-
-// So many flags, none of them set.
-fn flags(alloc: Global, count: usize) -> Result<Vec<bool>, NoMemory>
-    ensures len { IfOk result (λ flags. length flags.items ≡ count) }
-    ensures none { IfOk result (λ flags. (k : ℕ) → slice_index_or flags.items k false ≡ false) }
-{
-    Ok(vec![in alloc; false; count]?)
 }
 
 /// The index of the first slot that is no page of a file of this length, or named before.

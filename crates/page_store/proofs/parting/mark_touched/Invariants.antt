@@ -1,0 +1,9 @@
+use Rattle.std.proofs.Common.{ℕ, ◌≡◌, ◌<◌, ◌||◌, false, length, get_or, take}
+use Rattle.page_store.specs.Touched.{is_touched, under_serials}
+use Rattle.page_store.proofs.parting.mark_touched.Given as goal
+
+abbrev pub invariant-loop-put : goal.invariant-loop-put
+invariant-loop-put l = record {
+  len : length l.marks ≡ 16384;
+  marked : (s : ℕ) → s < 16384 → get_or l.marks s false ≡ (is_touched (under_serials l.places.entries) (take l.put-index l.noted) s || get_or l.fn.marks s false);
+}

@@ -1,0 +1,37 @@
+-- Objects with the slots of their pages.
+use Rattle.std.specs.Prelude.{ℕ, ◌≡◌, ◌==◌, cond, List, [], ◌∷◌, ◌++◌, map, None, Some, ⊤}
+use Rattle.std.specs.Map.{lookup}
+use Rattle.std.specs.declared.option.Option.{Option}
+use Rattle.pss_base.specs.declared.put.Put.{Put}
+use Rattle.page_store.specs.Objects.{stored_of}
+use Rattle.page_store.specs.Pages.{Entry, entries_of}
+use Rattle.page_store.specs.Places.{slot_start}
+use Rattle.page_store.specs.declared.objects.Stored.{Stored}
+
+module _ {X : Type 0} where
+  -- what stands first under a key
+  abbrev pub at : ℕ → List (ℕ × X) → Option X
+  at q es = lookup (λ k. q == k) es
+
+  -- each key stands once
+  abbrev pub Apart : List (ℕ × X) → Type 0
+  Apart [] = ⊤
+  Apart (e ∷ es) = (at e.0 es ≡ None) × Apart es
+
+-- the entries of a page with its slot, and those of pages
+abbrev pub located_of : ℕ → List Entry → List (ℕ × (ℕ × Stored))
+located_of slot es = map (λ e. (e.serial, (slot, (stored_of e).1))) es
+
+abbrev pub located : List ℕ → List ℕ → List (ℕ × (ℕ × Stored))
+located image [] = []
+located image (slot ∷ slots) = located_of slot (entries_of image (slot_start slot)) ++ located image slots
+
+-- what a change leaves
+abbrev pub left_by : ℕ → Option (List ℕ) → Option Stored
+left_by home None = None
+left_by home (Some octets) = Some (record { home = home; octets = octets })
+
+-- what changes leave of an object
+abbrev pub after : List Put → ℕ → Option Stored → Option Stored
+after [] q o = o
+after (put ∷ puts) q o = after puts q (cond (q == put.serial) (left_by put.home put.bytes) o)

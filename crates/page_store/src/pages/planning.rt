@@ -1,0 +1,197 @@
+// What a checkpoint writes is laid out.
+ghost use Rattle.std.specs.Prelude.{ℕ, ◌≡◌, ◌+◌, ◌-◌, ◌%◌, ◌^◌, ◌<◌, ◌≤◌, ◌++◌, [], cond, not, None, List, length, map, slice_index, All, IfOk, IfSome, OnOk, MatchOption};
+ghost use Rattle.std.specs.FinMap as finite;
+ghost use Rattle.pss_base.specs.Causes.{HasCauseIf};
+ghost use Rattle.pss_disk.specs.Reading.{OnlyReads};
+ghost use Rattle.page_store.specs.Checkpoints.{AreSomeOf, MayCheckpoint, kept_slots, repacked_slots};
+ghost use Rattle.page_store.specs.Faults.{is_disk_stop};
+ghost use Rattle.page_store.specs.Objects.{IsRightPut};
+ghost use Rattle.page_store.specs.Packing.{AreLeastFree};
+ghost use Rattle.page_store.specs.Placed.{is_noted, placed};
+ghost use Rattle.page_store.specs.Roots.{IsWithinLimits};
+ghost use Rattle.page_store.specs.Switch.{AreWritable, Old, slots_of};
+ghost use Rattle.page_store.specs.inner.Planned.{IsNextRoot, IsPlan, IsPlanned};
+ghost use Rattle.page_store.specs.inner.Repacked.{MayBeWritten};
+
+use crate::entry::Entries;
+use crate::free::free_slots;
+use crate::layout::MOST_PAGES;
+use crate::new_page::NewPage;
+use crate::pages::Pages;
+use crate::parting::{Parted, part_slots};
+use crate::placing::{forget, new_pages, place_pages};
+use crate::repacking::repack;
+use crate::root::Root;
+use crate::slots::Slots;
+use crate::small::small_of;
+use pss_base::{NoMemory, Put, StoreStop};
+use pss_disk::Station;
+use std::mem;
+
+/// What a checkpoint writes: the next root and its new pages. And that of the pages with little in use, where there is one.
+#[derive(Drop)]
+pub struct Plan {
+    pub root: Root,
+    pub pages: Vec<NewPage>,
+    pub small: Option<u32>,
+}
+
+impl Pages {
+    /// Takes the changes that are noted.
+    pub fn take_noted(&mut self) -> Vec<Put>
+        ensures noted { result.items ≡ self.old.noted }
+        ensures right { All IsRightPut result.items }
+        ensures pages { self.new ≡ record self.old { noted = []; room = 0 } }
+    {
+        let alloc = *self.noted.allocator();
+        self.room = 0;
+        mem::replace(&mut self.noted, Vec::new(alloc))
+    }
+
+    /// Parts the slots of the root by the changes noted, and takes the objects of these away.
+    pub fn part(&mut self, noted: &[Put]) -> Result<Parted, NoMemory>
+        ensures repacked { IfOk result (λ parted. parted.repacked ≡ repacked_slots (record self.old { noted = noted.now })) }
+        ensures kept { IfOk result (λ parted. parted.kept ≡ kept_slots (record self.old { noted = noted.now })) }
+        ensures below { IfOk result (λ parted. (k : ℕ) → k < length parted.repacked → slice_index parted.repacked k < 16384) }
+        ensures some { IfOk result (λ parted. AreSomeOf self.old.slots parted.kept) }
+        ensures places { OnOk result ((q : ℕ) → finite.get self.new.places q ≡ cond (is_noted q noted.now) None (finite.get self.old.places q)) }
+        ensures pages { self.new ≡ record self.old { places = self.new.places } }
+    {
+        let alloc = *self.noted.allocator();
+        let parted = part_slots(
+            alloc,
+            self.slots.as_slice(),
+            &self.places,
+            noted,
+            self.small,
+        )?;
+        forget(&mut self.places, noted);
+        Ok(parted)
+    }
+
+    // Gives new pages the least free slots, and puts their objects there.
+    fn place(&mut self, packed: Vec<Entries>) -> Result<Vec<NewPage>, NoMemory>
+        requires few { length packed.items ≤ 8058 }
+        requires written { MayBeWritten packed.items }
+        ensures free { IfOk result (λ pages. AreLeastFree self.old.slots (length packed.items) (slots_of pages.items)) }
+        ensures packed { IfOk result (λ pages. map (λ page. page.entries) pages.items ≡ packed.items) }
+        ensures writable { IfOk result (λ pages. AreWritable pages.items) }
+        ensures places { IfOk result (λ pages. (q : ℕ) → finite.get self.new.places q ≡ placed pages.items q (finite.get self.old.places q)) }
+        ensures pages { self.new ≡ record self.old { places = self.new.places } }
+    {
+        let alloc = *self.noted.allocator();
+        let free = free_slots(alloc, self.slots.as_slice(), packed.len())?;
+        let pages = new_pages(alloc, packed, free.as_slice())?;
+        place_pages(&mut self.places, &pages)?;
+        Ok(pages)
+    }
+
+    // The root that follows, with the slots of some pages behind those that stay.
+    fn next_root(&self, stay: Slots, pages: &[NewPage], next: u64) -> Result<Root, NoMemory>
+        requires next { 1 ≤ next }
+        requires few { length stay + length pages.now ≤ 8058 }
+        requires some { AreSomeOf self.now.slots stay }
+        requires free { (count : ℕ) × AreLeastFree self.now.slots count (slots_of pages.now) }
+        ensures root { IfOk result (λ root. IsNextRoot self.now stay pages.now next root) }
+        ensures limits { IfOk result (λ root. IsWithinLimits root) }
+    {
+        let shape = self.shape.copy()?;
+        let slots = with_pages(stay, pages)?;
+        Ok(Root {
+            area: 1 - self.area,
+            epoch: next_epoch(self.epoch),
+            next,
+            shape,
+            slots,
+        })
+    }
+
+    /// Lays out what a checkpoint writes, where these slots stay and these pages are new.
+    pub fn lay_out(
+        &mut self,
+        stay: Slots,
+        packed: Vec<Entries>,
+        next: u64,
+    ) -> Result<Plan, NoMemory>
+        requires next { 1 ≤ next }
+        requires some { AreSomeOf self.old.slots stay }
+        requires written { MayBeWritten packed.items }
+        ensures plan { IfOk result (λ plan. IsPlan self.old stay packed.items next plan) }
+        ensures limits { IfOk result (λ plan. IsWithinLimits plan.root) }
+        ensures writable { IfOk result (λ plan. AreWritable plan.pages.items) }
+        ensures places { IfOk result (λ plan. (q : ℕ) → finite.get self.new.places q ≡ placed plan.pages.items q (finite.get self.old.places q)) }
+        ensures pages { self.new ≡ record self.old { places = self.new.places } }
+    {
+        if stay.as_slice().len() + packed.len() > MOST_PAGES as usize {
+            return Err(NoMemory);
+        }
+        let pages = self.place(packed)?;
+        let small = small_of(&pages);
+        let root = self.next_root(stay, &pages, next)?;
+        Ok(Plan { root, pages, small })
+    }
+
+    /// Lays out the next root and its pages. Those pages that hold an object of which a change is noted, and the one with
+    /// little in use, are read again, and their objects are packed anew with the changes over them. After an error the
+    /// pages are of no more use.
+    pub fn plan<W: Station>(&mut self, w: &mut W, next: u64) -> Result<Plan, StoreStop>
+        requires { 1 ≤ next }
+        ensures planned { IfOk result (λ plan. (old : Old) → IfSome (W.content w.old) (λ c. MayCheckpoint old self.old next c → IsPlanned old self.old next plan self.new c)) }
+        ensures limits { IfOk result (λ plan. IsWithinLimits plan.root) }
+        ensures writable { IfOk result (λ plan. AreWritable plan.pages.items) }
+        ensures noted { OnOk result (self.new.noted ≡ []) }
+        ensures room { OnOk result (self.new.room ≡ 0) }
+        ensures reads { OnlyReads W.now W.content W.history W.speak_faults w.old w.new }
+        ensures cause { HasCauseIf (W.disk_faults w.old) (W.disk_faults w.new) (is_disk_stop result) }
+    {
+        let alloc = *self.noted.allocator();
+        let noted = self.take_noted();
+        let parted = match self.part(&noted) {
+            Ok(parted) => parted,
+            Err(_) => return Err(StoreStop::NoMemory),
+        };
+        let packed = match repack(alloc, w, parted.repacked.as_slice(), noted) {
+            Ok(packed) => packed,
+            Err(stop) => return Err(stop),
+        };
+        match self.lay_out(parted.kept, packed, next) {
+            Ok(plan) => Ok(plan),
+            Err(_) => Err(StoreStop::NoMemory),
+        }
+    }
+
+    /// Keeps the root that was planned, once it is the current one.
+    pub fn adopt(&mut self, plan: Plan)
+        requires { IsWithinLimits plan.root }
+        ensures { self.new ≡ record self.old { area = plan.root.area; epoch = plan.root.epoch; shape = plan.root.shape; slots = plan.root.slots; small = plan.small } }
+    {
+        let Plan {
+            root,
+            pages: _,
+            small,
+        } = plan;
+        self.area = root.area;
+        self.epoch = root.epoch;
+        self.shape = root.shape;
+        self.slots = root.slots;
+        self.small = small;
+    }
+}
+
+// The epoch behind one.
+fn next_epoch(epoch: u64) -> u64
+    ensures next { result ≡ (epoch + 1) % 2 ^ 64 }
+    ensures given { epoch < 2 ^ 64 }
+{
+    epoch.wrapping_add(1)
+}
+
+// Slots with those of pages behind them.
+fn with_pages(mut slots: Slots, pages: &[NewPage]) -> Result<Slots, NoMemory>
+    ensures { IfOk result (λ all. all ≡ slots ++ slots_of pages.now) }
+{
+    for page in pages {
+        slots.push(page.slot)?;
+    }
+    Ok(slots)
+}

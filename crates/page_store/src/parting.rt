@@ -1,0 +1,104 @@
+// Which pages of a root are packed anew.
+ghost use Rattle.std.specs.Prelude.{ℕ, ◌≡◌, ◌<◌, ◌≤◌, ◌||◌, ◌++◌, ◌∷◌, [], not, if◌then◌else◌, false, length, slice_index, slice_index_or, IfOk, OnOk};
+ghost use Rattle.std.specs.List.{filter};
+ghost use Rattle.page_store.specs.Touched.{is_in, is_repacked, is_touched, place_at, under_serials};
+
+use crate::layout::SLOTS;
+use crate::marks::{flags, mark};
+use crate::places::{Places, place_of};
+use crate::slots::Slots;
+use pss_base::{NoMemory, Put};
+use std::alloc::Global;
+
+/// The slots of a root: those whose pages are packed anew, and those that are kept, both in their order.
+#[derive(Drop)]
+pub struct Parted {
+    pub repacked: Slots,
+    pub kept: Slots,
+}
+
+/// Parts the slots of a root. A page is packed anew where a change is noted of an object in it, or where it is the one with
+/// little in use.
+pub fn part_slots(
+    alloc: Global,
+    slots: &[u32],
+    places: &Places,
+    noted: &[Put],
+    small: Option<u32>,
+) -> Result<Parted, NoMemory>
+    requires { (k : ℕ) → k < length slots.now → slice_index slots.now k < 16384 }
+    ensures repacked { IfOk result (λ parted. parted.repacked ≡ filter (is_repacked (under_serials places.now.entries) noted.now small) slots.now) }
+    ensures kept { IfOk result (λ parted. parted.kept ≡ filter (λ s. not (is_repacked (under_serials places.now.entries) noted.now small s)) slots.now) }
+{
+    let mut marks = flags(alloc, SLOTS as usize)?;
+    mark_repacked(&mut marks, places, noted, small);
+    part_marked(alloc, slots, &marks)
+}
+
+// Sets the flag of each page that is packed anew.
+fn mark_repacked(marks: &mut [bool], places: &Places, noted: &[Put], small: Option<u32>)
+    requires { length marks.old ≡ 16384 }
+    ensures marked { (s : ℕ) → s < 16384 → slice_index_or marks.new s false ≡ (is_repacked (under_serials places.now.entries) noted.now small s || slice_index_or marks.old s false) }
+    ensures len { length marks.new ≡ 16384 }
+{
+    mark_small(marks, small);
+    mark_touched(marks, places, noted);
+}
+
+// Sets the flag of the page with little in use, where there is one.
+fn mark_small(marks: &mut [bool], small: Option<u32>)
+    requires { length marks.old ≡ 16384 }
+    ensures { (s : ℕ) → s < 16384 → slice_index_or marks.new s false ≡ (is_in s small || slice_index_or marks.old s false) }
+{
+    if let Some(slot) = small {
+        mark(marks, slot);
+    }
+}
+
+// Sets the flag of each page that holds an object of which a change is noted.
+fn mark_touched(marks: &mut [bool], places: &Places, noted: &[Put])
+    requires { length marks.old ≡ 16384 }
+    ensures { (s : ℕ) → s < 16384 → slice_index_or marks.new s false ≡ (is_touched (under_serials places.now.entries) noted.now s || slice_index_or marks.old s false) }
+{
+    for put in noted {
+        mark_place(marks, places, put.serial);
+    }
+}
+
+// Sets the flag of the page that holds an object, where there is one.
+fn mark_place(marks: &mut [bool], places: &Places, serial: u64)
+    requires { length marks.old ≡ 16384 }
+    ensures { (s : ℕ) → s < 16384 → slice_index_or marks.new s false ≡ (is_in s (place_at (under_serials places.now.entries) serial) || slice_index_or marks.old s false) }
+{
+    mark_small(marks, place_of(places, serial));
+}
+
+// Parts slots by their flags.
+fn part_marked(alloc: Global, slots: &[u32], marks: &[bool]) -> Result<Parted, NoMemory>
+    requires len { length marks.now ≡ 16384 }
+    requires below { (k : ℕ) → k < length slots.now → slice_index slots.now k < 16384 }
+    ensures repacked { IfOk result (λ parted. parted.repacked ≡ filter (λ s. slice_index_or marks.now s false) slots.now) }
+    ensures kept { IfOk result (λ parted. parted.kept ≡ filter (λ s. not (slice_index_or marks.now s false)) slots.now) }
+{
+    let mut parted = Parted {
+        repacked: Slots::new(alloc),
+        kept: Slots::new(alloc),
+    };
+    for slot in slots {
+        let marked = marks[*slot as usize];
+        add_parted(&mut parted, *slot, marked)?;
+    }
+    Ok(parted)
+}
+
+// Adds a slot to one of the two.
+fn add_parted(parted: &mut Parted, slot: u32, marked: bool) -> Result<(), NoMemory>
+    ensures repacked { OnOk result (parted.new.repacked ≡ parted.old.repacked ++ (if marked then slot ∷ [] else [])) }
+    ensures kept { OnOk result (parted.new.kept ≡ parted.old.kept ++ (if not marked then slot ∷ [] else [])) }
+{
+    if marked {
+        parted.repacked.push(slot)
+    } else {
+        parted.kept.push(slot)
+    }
+}

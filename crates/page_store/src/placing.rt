@@ -1,0 +1,63 @@
+// New pages get their slots, and objects their places.
+ghost use Rattle.std.specs.Prelude.{ℕ, ◌≡◌, ◌≤◌, cond, None, Some, length, map, IfOk, OnOk};
+ghost use Rattle.page_store.specs.Placed.{is_noted, is_object, placed, slot_under};
+ghost use Rattle.page_store.specs.Switch.{slots_of};
+
+use crate::entry::{Entries, Entry};
+use crate::new_page::NewPage;
+use crate::places::Places;
+use pss_base::{NoMemory, Put};
+use std::alloc::Global;
+
+/// Takes the objects away of which changes are noted.
+pub fn forget(places: &mut Places, noted: &[Put])
+    ensures { (q : ℕ) → slot_under q places.new.entries ≡ cond (is_noted q noted.now) None (slot_under q places.old.entries) }
+{
+    for put in noted {
+        let _ = places.swap_remove(&put.serial);
+    }
+}
+
+/// Puts the objects of new pages where these are.
+pub fn place_pages(places: &mut Places, pages: &[NewPage]) -> Result<(), NoMemory>
+    ensures { OnOk result ((q : ℕ) → slot_under q places.new.entries ≡ placed pages.now q (slot_under q places.old.entries)) }
+{
+    for page in pages {
+        match place_entries(places, page.slot, page.entries.as_slice()) {
+            Ok(()) => {}
+            Err(stop) => return Err(stop),
+        }
+    }
+    Ok(())
+}
+
+// Puts objects into the page of a slot.
+fn place_entries(places: &mut Places, slot: u32, entries: &[Entry]) -> Result<(), NoMemory>
+    ensures { OnOk result ((q : ℕ) → slot_under q places.new.entries ≡ cond (is_object q entries.now) (Some slot) (slot_under q places.old.entries)) }
+{
+    for entry in entries {
+        places.insert(entry.serial, slot)?;
+    }
+    Ok(())
+}
+
+/// Gives pages their slots.
+pub fn new_pages(
+    alloc: Global,
+    pages: Vec<Entries>,
+    slots: &[u32],
+) -> Result<Vec<NewPage>, NoMemory>
+    requires same { length pages.items ≡ length slots.now }
+    requires few { length slots.now ≤ 16384 }
+    ensures slots { IfOk result (λ new. slots_of new.items ≡ slots.now) }
+    ensures pages { IfOk result (λ new. map (λ page. page.entries) new.items ≡ pages.items) }
+{
+    let mut new = Vec::new(alloc);
+    let mut k = 0;
+    for entries in pages {
+        let slot = slots[k];
+        k += 1;
+        new.push(NewPage { slot, entries })?;
+    }
+    Ok(new)
+}

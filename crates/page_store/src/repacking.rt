@@ -1,0 +1,54 @@
+// The objects in pages are packed anew, with changes over them.
+ghost use Rattle.std.specs.Prelude.{ℕ, ◌<◌, length, slice_index, All, IfOk, IfSome};
+ghost use Rattle.std.specs.FinMap.{empty};
+ghost use Rattle.pss_base.specs.Causes.{HasCauseIf};
+ghost use Rattle.pss_disk.specs.Reading.{OnlyReads};
+ghost use Rattle.page_store.specs.Faults.{is_disk_stop};
+ghost use Rattle.page_store.specs.Kept.{rows_in};
+ghost use Rattle.page_store.specs.Objects.{IsRightPut, over};
+ghost use Rattle.page_store.specs.inner.Repacked.{AreRepacked, MayBeWritten};
+
+use crate::changing::changed;
+use crate::entry::Entries;
+use crate::packing::pack;
+use crate::rereading::reread;
+use pss_base::{NoMemory, Put, Puts, StoreStop};
+use pss_disk::Station;
+use std::alloc::Global;
+
+/// Reads the pages of these slots again, and packs the objects in them by rising serial, with changes made to them one after
+/// the other.
+pub fn repack<W: Station>(
+    alloc: Global,
+    w: &mut W,
+    slots: &[u32],
+    noted: Vec<Put>,
+) -> Result<Vec<Entries>, StoreStop>
+    requires below { (k : ℕ) → k < length slots.now → slice_index slots.now k < 16384 }
+    requires noted { All IsRightPut noted.items }
+    ensures written { IfOk result (λ pages. MayBeWritten pages.items) }
+    ensures packed { IfOk result (λ pages. IfSome (W.content w.old) (λ c. AreRepacked (over (over empty (rows_in c slots.now)) noted.items) pages.items)) }
+    ensures reads { OnlyReads W.now W.content W.history W.speak_faults w.old w.new }
+    ensures cause { HasCauseIf (W.disk_faults w.old) (W.disk_faults w.new) (is_disk_stop result) }
+{
+    let rows = match reread(alloc, w, slots) {
+        Ok(rows) => rows,
+        Err(stop) => return Err(stop),
+    };
+    match packed(alloc, rows, noted) {
+        Ok(pages) => Ok(pages),
+        Err(_) => Err(StoreStop::NoMemory),
+    }
+}
+
+// Packs the objects of some rows, with changes made to them one after the other.
+fn packed(alloc: Global, rows: Puts, noted: Vec<Put>) -> Result<Vec<Entries>, NoMemory>
+    requires rows { All IsRightPut rows }
+    requires noted { All IsRightPut noted.items }
+    ensures { IfOk result (λ pages. AreRepacked (over (over empty rows) noted.items) pages.items) }
+{
+    match changed(alloc, rows, noted) {
+        Ok(objects) => pack(alloc, objects),
+        Err(stop) => Err(stop),
+    }
+}

@@ -1,0 +1,22 @@
+use Rattle.std.proofs.Common.{ℕ, ◌≤◌, List, length, ◌∙◌, subst, sym}
+use Rattle.pss_recovery.specs.inner.Blanks.{IsMade, first_root}
+use Rattle.pss_recovery.proofs.Blank.{made_stands}
+use Rattle.pss_recovery.proofs.NewStore.{new_store}
+use Rattle.pss_recovery.proofs.Silent.{silent_still, silent_then}
+use Rattle.pss_recovery.proofs.store.Store.init.Goals as goal
+
+pub returns-in-Ok-eq0-clause-made : goal.returns-in-Ok-eq0-clause-made
+returns-in-Ok-eq0-clause-made g c =
+    made_stands c.write_new.result (g.W.Station.content c.write_new.new.w) (IsMade 4456448 (first_root c.as_slice.result.now)) _ _
+    (λ image made S is. new_store S c.as_slice.result.now image (is ∙ sym c.as_slice.ensures) (subst (λ (l : List ℕ). length l ≤ 65536) (sym c.as_slice.ensures) c.requires) made) c.write_new.ensures.made
+
+pub returns-in-Ok-eq0-clause-silent : goal.returns-in-Ok-eq0-clause-silent
+returns-in-Ok-eq0-clause-silent g c =
+    silent_then g.W.Station.now g.W.Station.history g.W.Station.speak_faults c.args.w.now c.len.new.self c.write_new.new.w
+    (silent_still g.W.Station.now g.W.Station.history g.W.Station.speak_faults c.args.w.now c.len.new.self c.len.ensures.time c.len.ensures.now c.len.ensures.other) c.write_new.ensures.silent
+
+pub returns-in-Ok-clause-silent : goal.returns-in-Ok-clause-silent
+returns-in-Ok-clause-silent g c = silent_still g.W.Station.now g.W.Station.history g.W.Station.speak_faults c.args.w.now c.len.new.self c.len.ensures.time c.len.ensures.now c.len.ensures.other
+
+pub returns-in-Err-clause-silent : goal.returns-in-Err-clause-silent
+returns-in-Err-clause-silent g c = silent_still g.W.Station.now g.W.Station.history g.W.Station.speak_faults c.args.w.now c.len.new.self c.len.ensures.time c.len.ensures.now c.len.ensures.other

@@ -1,0 +1,10 @@
+-- When an answer is a fault of the disk.
+use Rattle.std.specs.Prelude.{Bool, true, false, Result, Ok, Err}
+use Rattle.pss_recovery.specs.declared.fault.InitFault.{InitFault}
+use Rattle.pss_recovery.specs.declared.fault.InitFault.TheVariants as init
+
+abbrev pub is_init_disk_fault : {T : Type 0} → Result T InitFault → Bool
+is_init_disk_fault (Ok t) = false
+is_init_disk_fault (Err init.NotEmpty) = false
+is_init_disk_fault (Err init.DiskFault) = true
+is_init_disk_fault (Err init.NoMemory) = false

@@ -1,0 +1,9 @@
+pub mod Bodies
+pub mod Shapes
+pub mod Loading
+pub mod Replaying
+pub mod Stands
+pub mod Faults
+pub mod Laws
+pub mod Silence
+pub mod inner

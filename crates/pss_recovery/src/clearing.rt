@@ -1,0 +1,108 @@
+// A new store is written into an empty file.
+ghost use Rattle.std.specs.Prelude.{ℕ, ◌≡◌, ◌+◌, ◌*◌, ◌<◌, ◌≤◌, ◌++◌, List, length, Err, EachIndex, IfOk, IfSome, OnOk, slice_index};
+ghost use Rattle.pss_base.specs.Causes.{HasCause, HasCauseIf};
+ghost use Rattle.pss_disk.specs.Moments.{IsSettled};
+ghost use Rattle.pss_disk.specs.Octets.{disk_end};
+ghost use Rattle.redo_journal.specs.Journal.{journal_end};
+ghost use Rattle.pss_recovery.specs.declared.fault.InitFault.TheVariants as fault;
+ghost use Rattle.pss_recovery.specs.Faults.{is_init_disk_fault};
+ghost use Rattle.pss_recovery.specs.Silence.{IsSilent};
+ghost use Rattle.pss_recovery.specs.inner.Blanks.{IsBlank, IsMade, first_root, root_head};
+
+use crate::fault::InitFault;
+use crate::layout::{
+    FIRST_EPOCH, FIRST_SERIAL, OPEN, PIECE, PIECES, ROOT_EPOCH, ROOT_HEAD, ROOT_MAGIC, ROOT_NEXT,
+    ROOT_SHAPE_LENGTH,
+};
+use pss_base::{Bytes, Failed, NoMemory};
+use pss_disk::{Station, set_gate};
+use std::alloc::Global;
+
+// So many zero octets.
+fn zeros(alloc: Global, count: usize) -> Result<Vec<u8>, NoMemory>
+    ensures len { IfOk result (λ zeros. length zeros.items ≡ count) }
+    ensures zero { IfOk result (λ zeros. EachIndex zeros.items (λ i. slice_index zeros.items i ≡ 0)) }
+{
+    Ok(vec![in alloc; 0; count]?)
+}
+
+// What stands behind the gate of the first root, up to the shape.
+#[tactic(auto, unfolding(crate::specs::inner::Blanks::root_head))]
+fn head_of(len: u32) -> [u8; ROOT_HEAD]
+    ensures { result ≡ root_head len }
+{
+    let mut octets = [0; ROOT_HEAD];
+    octets[..ROOT_EPOCH].copy_from_slice(&ROOT_MAGIC);
+    octets[ROOT_EPOCH..ROOT_NEXT].copy_from_slice(&FIRST_EPOCH.to_be_bytes());
+    octets[ROOT_NEXT..ROOT_SHAPE_LENGTH].copy_from_slice(&FIRST_SERIAL.to_be_bytes());
+    octets[ROOT_SHAPE_LENGTH..ROOT_SHAPE_LENGTH + 4].copy_from_slice(&len.to_be_bytes());
+    octets
+}
+
+// What stands behind the gate of the first root.
+fn first_root(alloc: Global, shape: &[u8]) -> Result<Bytes, NoMemory>
+    requires { length shape.now ≤ 65536 }
+    ensures { IfOk result (λ octets. octets ≡ first_root shape.now) }
+{
+    let mut octets = Bytes::with_room(alloc, ROOT_HEAD + shape.len())?;
+    octets.extend(&head_of(shape.len() as u32))?;
+    octets.extend(shape)?;
+    Ok(octets)
+}
+
+// Writes so many pieces of zero octets into an empty file.
+fn clear<W: Station>(w: &mut W, piece: &[u8], count: u32) -> Result<(), Failed>
+    requires zero { EachIndex piece.now (λ i. slice_index piece.now i ≡ 0) }
+    requires within { count * length piece.now ≤ disk_end }
+    requires empty { IfSome (W.content w.old) (IsBlank 0) }
+    ensures cleared { OnOk result (IfSome (W.content w.new) (IsBlank (count * length piece.now))) }
+    ensures silent { IsSilent W.now W.history W.speak_faults w.old w.new }
+    ensures cause { HasCause (W.disk_faults w.old) (W.disk_faults w.new) result }
+{
+    let mut at: u64 = 0;
+    'pieces: for k in 0..count {
+        w.write_at(at, piece)?;
+        at += piece.len() as u64;
+    }
+    Ok(())
+}
+
+// Makes a store of zero octets, with a root behind its gate, in an empty file.
+fn make<W: Station>(w: &mut W, piece: &[u8], count: u32, root: &[u8]) -> Result<(), Failed>
+    requires zero { EachIndex piece.now (λ i. slice_index piece.now i ≡ 0) }
+    requires within { count * length piece.now ≤ disk_end }
+    requires short { 1 + length root.now ≤ count * length piece.now }
+    requires empty { IfSome (W.content w.old) (IsBlank 0) }
+    ensures made { OnOk result (IfSome (W.content w.new) (IsMade (count * length piece.now) root.now)) }
+    ensures settled { OnOk result (IsSettled (W.content w.new) (W.now w.new)) }
+    ensures silent { IsSilent W.now W.history W.speak_faults w.old w.new }
+    ensures cause { HasCause (W.disk_faults w.old) (W.disk_faults w.new) result }
+{
+    clear(w, piece, count)?;
+    w.write_at(1, root)?;
+    w.sync()?;
+    set_gate(w, 0, OPEN)?;
+    Ok(())
+}
+
+/// Makes a store without objects in an empty file.
+pub fn write_new<W: Station>(alloc: Global, w: &mut W, shape: &[u8]) -> Result<(), InitFault>
+    requires short { length shape.now ≤ 65536 }
+    requires empty { IfSome (W.content w.old) (λ c. length c ≡ 0) }
+    ensures made { OnOk result (IfSome (W.content w.new) (IsMade journal_end (first_root shape.now))) }
+    ensures settled { OnOk result (IsSettled (W.content w.new) (W.now w.new)) }
+    ensures never { result ≡ Err fault.NotEmpty → ⊥ }
+    ensures silent { IsSilent W.now W.history W.speak_faults w.old w.new }
+    ensures cause { HasCauseIf (W.disk_faults w.old) (W.disk_faults w.new) (is_init_disk_fault result) }
+{
+    let Ok(root) = first_root(alloc, shape) else {
+        return Err(InitFault::NoMemory);
+    };
+    let Ok(piece) = zeros(alloc, PIECE) else {
+        return Err(InitFault::NoMemory);
+    };
+    match make(w, &piece, PIECES, root.as_slice()) {
+        Ok(()) => Ok(()),
+        Err(_) => Err(InitFault::DiskFault),
+    }
+}

@@ -1,0 +1,66 @@
+// A body as octets.
+ghost use Rattle.std.specs.Prelude.{ℕ, ◌≡◌, ◌+◌, ◌^◌, ◌<◌, ◌≤◌, ◌++◌, List, length, IfOk, OnOk};
+ghost use Rattle.std.specs.List.{AllByRecursion, flat_map};
+ghost use Rattle.pss_recovery.specs.Bodies.{IsSpellable, body_octets, change_head, change_octets, record_octets};
+
+use crate::body::Body;
+use crate::layout::{LENGTH, RECORD, SERIAL};
+use pss_base::{Bytes, NoMemory, Put};
+use std::alloc::Global;
+
+// The record of a change, no octets where the object is removed.
+fn record_of(put: &Put) -> &[u8]
+    ensures { result.now ≡ record_octets put.now.bytes }
+{
+    match &put.bytes {
+        Some(bytes) => bytes.as_slice(),
+        None => &[],
+    }
+}
+
+// The head of a change.
+#[tactic(auto, unfolding(crate::specs::Bodies::change_head))]
+fn head_octets(home: u32, serial: u64, len: u32) -> [u8; RECORD]
+    ensures { result ≡ change_head home serial len }
+{
+    let mut octets = [0; RECORD];
+    octets[..SERIAL].copy_from_slice(&home.to_be_bytes());
+    octets[SERIAL..LENGTH].copy_from_slice(&serial.to_be_bytes());
+    octets[LENGTH..].copy_from_slice(&len.to_be_bytes());
+    octets
+}
+
+// Adds a change.
+fn put_change(octets: &mut Bytes, put: &Put) -> Result<(), NoMemory>
+    requires { length (record_octets put.now.bytes) < 2 ^ 32 }
+    ensures { OnOk result (octets.new ≡ octets.old ++ change_octets put.now) }
+{
+    let record = record_of(put);
+    octets.extend(&head_octets(put.home, put.serial, record.len() as u32))?;
+    octets.extend(record)
+}
+
+// Adds changes.
+fn put_changes(octets: &mut Bytes, puts: &[Put]) -> Result<(), NoMemory>
+    requires { AllByRecursion IsSpellable puts.now }
+    ensures { OnOk result (octets.new ≡ octets.old ++ flat_map change_octets puts.now) }
+{
+    for put in puts {
+        put_change(octets, put)?;
+    }
+    Ok(())
+}
+
+/// The octets of a body.
+pub fn encode_body(alloc: Global, body: &Body) -> Result<Bytes, NoMemory>
+    requires few { length body.now.puts < 2 ^ 32 }
+    requires each { AllByRecursion IsSpellable body.now.puts }
+    ensures { IfOk result (λ octets. octets ≡ body_octets body.now) }
+{
+    let mut octets = Bytes::new(alloc);
+    let puts = body.puts.as_slice();
+    octets.extend(&body.next.to_be_bytes())?;
+    octets.extend(&(puts.len() as u32).to_be_bytes())?;
+    put_changes(&mut octets, puts)?;
+    Ok(octets)
+}

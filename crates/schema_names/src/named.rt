@@ -78,7 +78,10 @@ fn names_of_all(alloc: Global, schema: &Schema) -> Result<Vec<HomeNames>, NoMemo
 }
 
 impl NamedSchema {
-    /// The schema, with tables of its names. They take memory in the lengths of the names.
+    /// The schema, with tables of its names. They take memory in the lengths of the names, those that a home has from others
+    /// once for each home.
+    ///
+    /// `NoMemory`: the schema is gone with them.
     pub fn new(alloc: Global, schema: Schema) -> Result<NamedSchema, NoMemory>
         requires { IsSoundSchema schema }
         ensures { IfOk result (λ named. named ≡ schema) }
@@ -102,7 +105,7 @@ impl NamedSchema {
     }
 
     /// The storage home that a word names: by its scoped name, with or without `::` in front, or by a catalog's scoped name,
-    /// a point, and the name under which the catalog provides it.
+    /// a point, and the name under which the catalog provides it. None: it names no home.
     pub fn home(&self, word: &[u8]) -> Option<HomeNo>
         ensures { result ≡ home_named self.now word.now }
     {
@@ -133,7 +136,7 @@ impl NamedSchema {
         self.of_homes.get(home.0 as usize - 1)
     }
 
-    /// The number of a home's member of a name.
+    /// The place, from 0, of a home's member of a name. None: the home is not there, or has no such member.
     pub fn member(&self, home: HomeNo, word: &[u8]) -> Option<u32>
         ensures { result ≡ member_named self.now home word.now }
     {
@@ -141,7 +144,7 @@ impl NamedSchema {
         read(&names.members, word)
     }
 
-    /// A home's factory of a name.
+    /// A home's factory of a name. None: the home is not there, or has no such factory.
     pub fn factory(&self, home: HomeNo, word: &[u8]) -> Option<&Factory>
         ensures { option_map (λ factory. factory.now) result ≡ factory_named self.now home word.now }
     {
@@ -151,7 +154,7 @@ impl NamedSchema {
         home.factories.as_slice().get(place)
     }
 
-    /// A home's key of a name.
+    /// A home's key of a name, its own or one that it has from others. None: the home is not there, or has no such key.
     pub fn key(&self, home: HomeNo, word: &[u8]) -> Option<KeyNo>
         ensures { result ≡ key_named self.now home word.now }
     {

@@ -1,7 +1,7 @@
 // The answers to cases.
 use crate::commands::append_said;
 use crate::replies::reply_of;
-use crate::words::{octets_of, split_word};
+use case_lines::{Cases, octets_of, split_word};
 use pss_base::{Bytes, NoMemory};
 use script_text::print_reply;
 use std::alloc::Global;
@@ -30,25 +30,20 @@ fn append_reply(alloc: Global, out: &mut Bytes, rest: &[u8]) -> Result<(), NoMem
     }
 }
 
-fn append_answer(alloc: Global, out: &mut Bytes, case: &[u8]) -> Result<(), NoMemory> {
-    let (kind, rest) = split_word(case);
-    match kind {
-        b"line" => append_line(alloc, out, rest)?,
-        b"octets" => append_octets(alloc, out, rest)?,
-        b"reply" => append_reply(alloc, out, rest)?,
-        b"#" => return Ok(()),
-        _ => out.extend(b"no such case")?,
-    }
-    out.extend(b"\n")
-}
+/// Lines and replies. Nothing is kept from one case to the next.
+#[derive(Drop)]
+pub struct Scripts;
 
-/// The answers to all cases, a line for each.
-pub fn answers(alloc: Global, input: &[u8]) -> Result<Bytes, NoMemory> {
-    let mut out = Bytes::new(alloc);
-    for case in input.split(|byte| *byte == b'\n') {
-        if !case.is_empty() {
-            append_answer(alloc, &mut out, case)?;
+impl Cases for Scripts {
+    fn answer(&mut self, alloc: Global, out: &mut Bytes, case: &[u8]) -> Result<(), NoMemory> {
+        let (kind, rest) = split_word(case);
+        match kind {
+            b"line" => append_line(alloc, out, rest)?,
+            b"octets" => append_octets(alloc, out, rest)?,
+            b"reply" => append_reply(alloc, out, rest)?,
+            b"#" => return Ok(()),
+            _ => out.extend(b"no such case")?,
         }
+        out.extend(b"\n")
     }
-    Ok(out)
 }

@@ -1,5 +1,5 @@
 // Replies by their names and parts.
-use crate::words::{number_of, short_number_of, split_word};
+use case_lines::{number_of, short_number_of, split_word};
 use pss_base::{Bytes, NoMemory, Pids, read_pid};
 use pss_machine::{Reply, StateName};
 use std::alloc::Global;

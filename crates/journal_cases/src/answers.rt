@@ -1,7 +1,7 @@
 // The answers to the lines of commands.
 use crate::crashes::{Append, append_crashes};
 use crate::journals::{append_found, append_to, station_of};
-use crate::words::{append_octets, number_of, octets_of, split_word};
+use case_lines::{Cases, append_octets, number_of, octets_of, split_word};
 use pss_base::{Bytes, NoMemory};
 use std::alloc::Global;
 
@@ -95,32 +95,31 @@ fn crashes(alloc: Global, out: &mut Bytes, store: &[u8], rest: &[u8]) -> Result<
     append_crashes(alloc, out, store, &append)
 }
 
-fn answer(
-    alloc: Global,
-    out: &mut Bytes,
-    store: &mut Vec<u8>,
-    line: &[u8],
-) -> Result<(), NoMemory> {
-    let (word, rest) = split_word(line);
-    match word {
-        b"store" => begin(store, rest),
-        b"octets" => put(alloc, store, rest),
-        b"replay" => tell(alloc, out, store, rest),
-        b"append" => append(alloc, out, store, rest),
-        b"show" => show(out, store, rest),
-        b"crashes" => crashes(alloc, out, store, rest),
-        _ => out.extend(b"no command\n"),
+/// A store, with a journal that is read and added to.
+#[derive(Drop)]
+pub struct Journals {
+    store: Vec<u8>,
+}
+
+impl Journals {
+    pub fn new(alloc: Global) -> Journals {
+        Journals {
+            store: Vec::new(alloc),
+        }
     }
 }
 
-/// The answers to all lines of commands.
-pub fn answers(alloc: Global, input: &[u8]) -> Result<Bytes, NoMemory> {
-    let mut out = Bytes::new(alloc);
-    let mut store = Vec::new(alloc);
-    for line in input.split(|byte| *byte == b'\n') {
-        if !line.is_empty() {
-            answer(alloc, &mut out, &mut store, line)?;
+impl Cases for Journals {
+    fn answer(&mut self, alloc: Global, out: &mut Bytes, line: &[u8]) -> Result<(), NoMemory> {
+        let (word, rest) = split_word(line);
+        match word {
+            b"store" => begin(&mut self.store, rest),
+            b"octets" => put(alloc, &mut self.store, rest),
+            b"replay" => tell(alloc, out, &self.store, rest),
+            b"append" => append(alloc, out, &mut self.store, rest),
+            b"show" => show(out, &self.store, rest),
+            b"crashes" => crashes(alloc, out, &self.store, rest),
+            _ => out.extend(b"no command\n"),
         }
     }
-    Ok(out)
 }

@@ -3,7 +3,7 @@ ghost use Rattle.std.specs.Prelude.{IfOk, Some};
 ghost use Rattle.pss_disk.specs.Moments.{IsSettled};
 ghost use Rattle.pss_disk.specs.Tape.{now_of, state_of};
 
-use crate::words::append_octets;
+use case_lines::append_octets;
 use pss_base::{Bytes, NoMemory};
 use pss_disk::MemStation;
 use redo_journal::{Journal, Replay, ReplayFault, replay};

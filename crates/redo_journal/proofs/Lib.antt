@@ -3,6 +3,7 @@ pub mod Keeping
 pub mod Spelling
 pub mod Chains
 pub mod Headers
+pub mod Lengths
 pub mod Pieces
 pub mod Exact
 pub mod Found

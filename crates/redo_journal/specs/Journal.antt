@@ -1,5 +1,6 @@
 -- The journal of a store: bodies behind gates, and what an image of the store holds there.
-use Rattle.std.specs.Prelude.{ℕ, ◌≡◌, ◌≢◌, ◌⊎◌, ◌+◌, ◌<◌, List, [], ◌∷◌, ◌++◌, length, slice_get, Some, IfSome}
+use Rattle.std.specs.Prelude.{ℕ, ◌≡◌, ◌≢◌, ◌⊎◌, ◌+◌, ◌<◌, ◌≤◌, List, [], ◌∷◌, ◌++◌, length, slice_get, Some, IfSome}
+use Rattle.std.specs.declared.option.Option.{Option}
 use Rattle.std.specs.Int.{to_be_bytes, w32, w64}
 use Rattle.pss_disk.specs.Moments.{IsImage, Moment}
 use Rattle.pss_disk.specs.Parts.{Stands, number4, octet_at}
@@ -83,6 +84,10 @@ advanced len position = record { end = behind position.end len; epoch = position
 abbrev pub HoldsEither : Position → List (List ℕ) → List ℕ → Moment → Type 0
 HoldsEither position before body m =
     IfSome m.disk (λ disk. (image : List ℕ) → IsImage disk image → Holds position before image ⊎ Holds (advanced (length body) position) (before ++ body ∷ []) image)
+
+-- where the content is told, each image is no shorter than it
+abbrev pub NoShorter : Option (List ℕ) → Moment → Type 0
+NoShorter content m = IfSome content (λ c. IfSome m.disk (λ disk. (image : List ℕ) → IsImage disk image → length c ≤ length image))
 
 -- a record and the closed gate behind it
 abbrev pub framed : ℕ → List ℕ → List ℕ

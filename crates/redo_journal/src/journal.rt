@@ -5,7 +5,7 @@ ghost use Rattle.pss_base.specs.Causes.{HasCause};
 ghost use Rattle.pss_disk.specs.Images.{IsOutside, IsQuiet, Keeps};
 ghost use Rattle.pss_disk.specs.Moments.{IsSettled, Through};
 ghost use Rattle.pss_disk.specs.Octets.{StaysOutside, range_of, write};
-ghost use Rattle.redo_journal.specs.Journal.{Fits, HoldsEither, IsReady, advanced, behind, framed};
+ghost use Rattle.redo_journal.specs.Journal.{Fits, HoldsEither, IsReady, NoShorter, advanced, behind, framed};
 ghost use Rattle.redo_journal.specs.inner.Laying.{laid};
 
 use crate::header::{fits_behind, write_header};
@@ -37,6 +37,7 @@ fn lay<W: Station>(w: &mut W, end: u64, epoch: u64, body: &[u8]) -> Result<(), F
     ensures settled { OnOk result (IsSettled (W.content w.new) (W.now w.new)) }
     ensures failed { OnErr result (StaysOutside (range_of (end + 1) (laid epoch body.now)) (W.content w.old) (W.content w.new)) }
     ensures images { Through (W.history w.old) (W.history w.new) (Keeps (IsOutside (range_of (end + 1) (laid epoch body.now))) (W.content w.old)) }
+    ensures long { Through (W.history w.old) (W.history w.new) (NoShorter (W.content w.old)) }
     ensures quiet { Through (W.history w.old) (W.history w.new) (IsQuiet (W.now w.old)) }
     ensures said { IsQuiet (W.now w.old) (W.now w.new) }
     ensures cause { HasCause (W.disk_faults w.old) (W.disk_faults w.new) result }
@@ -60,6 +61,7 @@ fn append_at<W: Station>(w: &mut W, end: u64, epoch: u64, body: &[u8]) -> Result
     ensures failed { OnErr result (StaysOutside (range_of end (framed epoch body.now)) (W.content w.old) (W.content w.new)) }
     ensures bodies { (before : List (List ℕ)) → IfSome (W.content w.old) (IsReady (record { end = end; epoch = epoch }) before) → Through (W.history w.old) (W.history w.new) (HoldsEither (record { end = end; epoch = epoch }) before body.now) }
     ensures others { Through (W.history w.old) (W.history w.new) (Keeps (IsOutside (range_of end (framed epoch body.now))) (W.content w.old)) }
+    ensures long { Through (W.history w.old) (W.history w.new) (NoShorter (W.content w.old)) }
     ensures quiet { Through (W.history w.old) (W.history w.new) (IsQuiet (W.now w.old)) }
     ensures said { IsQuiet (W.now w.old) (W.now w.new) }
     ensures cause { HasCause (W.disk_faults w.old) (W.disk_faults w.new) result }
@@ -87,7 +89,7 @@ impl Journal {
 
     /// Appends a body: writes header, body and a closed gate behind the gate at the end; syncs; opens that gate; syncs.
     /// It takes no memory. At each moment a crash leaves the bodies so far, or these and the new one, and all octets
-    /// in front of the gate and behind the closed one. `DiskFault`: the journal is not used any more.
+    /// in front of the gate and behind the closed one; no image is shorter than the content was. `DiskFault`: the journal is not used any more.
     pub fn append<W: Station>(&mut self, w: &mut W, body: &[u8]) -> Result<(), DiskFault>
         requires fits { Fits self.old.end (length body.now) }
         requires settled { IsSettled (W.content w.old) (W.now w.old) }
@@ -99,6 +101,7 @@ impl Journal {
         ensures same { OnErr result (self.new ≡ self.old) }
         ensures bodies { (before : List (List ℕ)) → IfSome (W.content w.old) (IsReady self.old before) → Through (W.history w.old) (W.history w.new) (HoldsEither self.old before body.now) }
         ensures others { Through (W.history w.old) (W.history w.new) (Keeps (IsOutside (range_of self.old.end (framed self.old.epoch body.now))) (W.content w.old)) }
+        ensures long { Through (W.history w.old) (W.history w.new) (NoShorter (W.content w.old)) }
         ensures quiet { Through (W.history w.old) (W.history w.new) (IsQuiet (W.now w.old)) }
         ensures said { IsQuiet (W.now w.old) (W.now w.new) }
         ensures cause { HasCause (W.disk_faults w.old) (W.disk_faults w.new) result }

@@ -9,6 +9,7 @@ use Rattle.redo_journal.specs.Journal.{framed}
 use Rattle.redo_journal.specs.inner.Laying.{laid}
 use Rattle.redo_journal.proofs.Chains.{either_while_laid, either_while_opened, ready_then}
 use Rattle.redo_journal.proofs.Keeping.{keeps_changed, keeps_fewer}
+use Rattle.redo_journal.proofs.Lengths.{opened_long}
 use Rattle.redo_journal.proofs.Spelling.{gate_in_front, length-framed, length-laid}
 use Rattle.redo_journal.proofs.journal.append_at.Goals as goal
 
@@ -90,3 +91,11 @@ returns-clause-content g c = gate_in_front c.args.epoch c.args.end c.args.body.n
 pub returns-clause-added : goal.returns-clause-added
 returns-clause-added g c = λ before r.
     ready_then c.args.end c.args.epoch before c.args.body.now (g.W.Station.content c.args.w.now) (g.W.Station.content c.lay.new.w) (g.W.Station.content c.set_gate.new.station) c.requires.fits c.in_ok-lay.ensures.content c.in_ok-set_gate.ensures.content r
+
+pub returns-in_err-set_gate-clause-long : goal.returns-in_err-set_gate-clause-long
+returns-in_err-set_gate-clause-long g c =
+    then_come _ _ _ _ c.lay.ensures.long (weaker _ _ _ _ (opened_long c.args.end c.args.epoch c.args.body.now (g.W.Station.content c.args.w.now) (g.W.Station.content c.lay.new.w) c.in_ok-lay.ensures.content) c.set_gate.ensures.images)
+
+pub returns-clause-long : goal.returns-clause-long
+returns-clause-long g c =
+    then_come _ _ _ _ c.lay.ensures.long (weaker _ _ _ _ (opened_long c.args.end c.args.epoch c.args.body.now (g.W.Station.content c.args.w.now) (g.W.Station.content c.lay.new.w) c.in_ok-lay.ensures.content) c.set_gate.ensures.images)

@@ -6,6 +6,7 @@ use Rattle.pss_disk.proofs.Images.{agrees_write, misses_part, stays_same_known, 
 use Rattle.pss_disk.proofs.Stretches.{stretch_start, synced_images, synced_quiet}
 use Rattle.redo_journal.specs.inner.Laying.{laid}
 use Rattle.redo_journal.proofs.Keeping.{stays_within_range, write_within_range}
+use Rattle.redo_journal.proofs.Lengths.{lengths_start, lengths_sync, lengths_write}
 use Rattle.redo_journal.proofs.Spelling.{length-header, length-laid, three_writes}
 use Rattle.redo_journal.proofs.journal.lay.Goals as goal
 
@@ -173,3 +174,44 @@ returns-clause-content g c =
     let body = c.args.body.now in
     let is = three_writes c.args.epoch c.args.end c.write_header.result body (c.args.end + 13) (c.args.end + 13 + length body) (g.W.Station.content c.args.w.now) (g.W.Station.content c.write_at.new.self) (g.W.Station.content c.write_at-2.new.self) (g.W.Station.content c.write_at-3.new.self) refl refl c.write_header.ensures c.in_ok-write_at.ensures.written c.in_ok-write_at-2.ensures.written c.in_ok-write_at-3.ensures.written in
     c.sync.ensures.content ∙ is
+
+pub returns-in_err-write_at-clause-long : goal.returns-in_err-write_at-clause-long
+returns-in_err-write_at-clause-long g c =
+    let l0 = lengths_start (g.W.Station.content c.args.w.now) (g.W.Station.now c.args.w.now) (g.W.Station.history c.args.w.now) c.requires.settled in
+    let l1 = lengths_write (g.W.Station.content c.args.w.now) (g.W.Station.history c.args.w.now) (g.W.Station.history c.args.w.now) (g.W.Station.history c.write_at.new.self) (g.W.Station.now c.args.w.now) l0 (range_of (c.args.end + 1) c.write_header.result) (g.W.Station.now c.write_at.new.self) c.write_at.ensures.time c.in_err-write_at.ensures.maybe in
+    l1.images
+
+pub returns-in_err-write_at-2-clause-long : goal.returns-in_err-write_at-2-clause-long
+returns-in_err-write_at-2-clause-long g c =
+    let l0 = lengths_start (g.W.Station.content c.args.w.now) (g.W.Station.now c.args.w.now) (g.W.Station.history c.args.w.now) c.requires.settled in
+    let l1 = lengths_write (g.W.Station.content c.args.w.now) (g.W.Station.history c.args.w.now) (g.W.Station.history c.args.w.now) (g.W.Station.history c.write_at.new.self) (g.W.Station.now c.args.w.now) l0 (range_of (c.args.end + 1) c.write_header.result) (g.W.Station.now c.write_at.new.self) c.write_at.ensures.time (inr c.in_ok-write_at.ensures.now) in
+    let l2 = lengths_write (g.W.Station.content c.args.w.now) (g.W.Station.history c.args.w.now) (g.W.Station.history c.write_at.new.self) (g.W.Station.history c.write_at-2.new.self) (g.W.Station.now c.write_at.new.self) l1 (range_of (c.args.end + 13) c.args.body.now) (g.W.Station.now c.write_at-2.new.self) c.write_at-2.ensures.time c.in_err-write_at-2.ensures.maybe in
+    l2.images
+
+pub returns-in_err-write_at-3-clause-long : goal.returns-in_err-write_at-3-clause-long
+returns-in_err-write_at-3-clause-long g c =
+    let l0 = lengths_start (g.W.Station.content c.args.w.now) (g.W.Station.now c.args.w.now) (g.W.Station.history c.args.w.now) c.requires.settled in
+    let l1 = lengths_write (g.W.Station.content c.args.w.now) (g.W.Station.history c.args.w.now) (g.W.Station.history c.args.w.now) (g.W.Station.history c.write_at.new.self) (g.W.Station.now c.args.w.now) l0 (range_of (c.args.end + 1) c.write_header.result) (g.W.Station.now c.write_at.new.self) c.write_at.ensures.time (inr c.in_ok-write_at.ensures.now) in
+    let l2 = lengths_write (g.W.Station.content c.args.w.now) (g.W.Station.history c.args.w.now) (g.W.Station.history c.write_at.new.self) (g.W.Station.history c.write_at-2.new.self) (g.W.Station.now c.write_at.new.self) l1 (range_of (c.args.end + 13) c.args.body.now) (g.W.Station.now c.write_at-2.new.self) c.write_at-2.ensures.time (inr c.in_ok-write_at-2.ensures.now) in
+    let l3 = lengths_write (g.W.Station.content c.args.w.now) (g.W.Station.history c.args.w.now) (g.W.Station.history c.write_at-2.new.self) (g.W.Station.history c.write_at-3.new.self) (g.W.Station.now c.write_at-2.new.self) l2 (range_of (c.args.end + 13 + length c.args.body.now) (0 ∷ [])) (g.W.Station.now c.write_at-3.new.self) c.write_at-3.ensures.time c.in_err-write_at-3.ensures.maybe in
+    l3.images
+
+pub returns-in_err-sync-clause-long : goal.returns-in_err-sync-clause-long
+returns-in_err-sync-clause-long g c =
+    let body = c.args.body.now in
+    let l0 = lengths_start (g.W.Station.content c.args.w.now) (g.W.Station.now c.args.w.now) (g.W.Station.history c.args.w.now) c.requires.settled in
+    let l1 = lengths_write (g.W.Station.content c.args.w.now) (g.W.Station.history c.args.w.now) (g.W.Station.history c.args.w.now) (g.W.Station.history c.write_at.new.self) (g.W.Station.now c.args.w.now) l0 (range_of (c.args.end + 1) c.write_header.result) (g.W.Station.now c.write_at.new.self) c.write_at.ensures.time (inr c.in_ok-write_at.ensures.now) in
+    let l2 = lengths_write (g.W.Station.content c.args.w.now) (g.W.Station.history c.args.w.now) (g.W.Station.history c.write_at.new.self) (g.W.Station.history c.write_at-2.new.self) (g.W.Station.now c.write_at.new.self) l1 (range_of (c.args.end + 13) c.args.body.now) (g.W.Station.now c.write_at-2.new.self) c.write_at-2.ensures.time (inr c.in_ok-write_at-2.ensures.now) in
+    let l3 = lengths_write (g.W.Station.content c.args.w.now) (g.W.Station.history c.args.w.now) (g.W.Station.history c.write_at-2.new.self) (g.W.Station.history c.write_at-3.new.self) (g.W.Station.now c.write_at-2.new.self) l2 (range_of (c.args.end + 13 + length c.args.body.now) (0 ∷ [])) (g.W.Station.now c.write_at-3.new.self) c.write_at-3.ensures.time (inr c.in_ok-write_at-3.ensures.now) in
+    let is = three_writes c.args.epoch c.args.end c.write_header.result body (c.args.end + 13) (c.args.end + 13 + length body) (g.W.Station.content c.args.w.now) (g.W.Station.content c.write_at.new.self) (g.W.Station.content c.write_at-2.new.self) (g.W.Station.content c.write_at-3.new.self) refl refl c.write_header.ensures c.in_ok-write_at.ensures.written c.in_ok-write_at-2.ensures.written c.in_ok-write_at-3.ensures.written in
+    lengths_sync (g.W.Station.content c.args.w.now) (g.W.Station.history c.args.w.now) (g.W.Station.history c.write_at-3.new.self) (g.W.Station.history c.sync.new.self) (g.W.Station.now c.write_at-3.new.self) l3 (c.args.end + 1) (laid c.args.epoch body) (g.W.Station.content c.write_at-3.new.self) is c.sync.ensures.time
+
+pub returns-clause-long : goal.returns-clause-long
+returns-clause-long g c =
+    let body = c.args.body.now in
+    let l0 = lengths_start (g.W.Station.content c.args.w.now) (g.W.Station.now c.args.w.now) (g.W.Station.history c.args.w.now) c.requires.settled in
+    let l1 = lengths_write (g.W.Station.content c.args.w.now) (g.W.Station.history c.args.w.now) (g.W.Station.history c.args.w.now) (g.W.Station.history c.write_at.new.self) (g.W.Station.now c.args.w.now) l0 (range_of (c.args.end + 1) c.write_header.result) (g.W.Station.now c.write_at.new.self) c.write_at.ensures.time (inr c.in_ok-write_at.ensures.now) in
+    let l2 = lengths_write (g.W.Station.content c.args.w.now) (g.W.Station.history c.args.w.now) (g.W.Station.history c.write_at.new.self) (g.W.Station.history c.write_at-2.new.self) (g.W.Station.now c.write_at.new.self) l1 (range_of (c.args.end + 13) c.args.body.now) (g.W.Station.now c.write_at-2.new.self) c.write_at-2.ensures.time (inr c.in_ok-write_at-2.ensures.now) in
+    let l3 = lengths_write (g.W.Station.content c.args.w.now) (g.W.Station.history c.args.w.now) (g.W.Station.history c.write_at-2.new.self) (g.W.Station.history c.write_at-3.new.self) (g.W.Station.now c.write_at-2.new.self) l2 (range_of (c.args.end + 13 + length c.args.body.now) (0 ∷ [])) (g.W.Station.now c.write_at-3.new.self) c.write_at-3.ensures.time (inr c.in_ok-write_at-3.ensures.now) in
+    let is = three_writes c.args.epoch c.args.end c.write_header.result body (c.args.end + 13) (c.args.end + 13 + length body) (g.W.Station.content c.args.w.now) (g.W.Station.content c.write_at.new.self) (g.W.Station.content c.write_at-2.new.self) (g.W.Station.content c.write_at-3.new.self) refl refl c.write_header.ensures c.in_ok-write_at.ensures.written c.in_ok-write_at-2.ensures.written c.in_ok-write_at-3.ensures.written in
+    lengths_sync (g.W.Station.content c.args.w.now) (g.W.Station.history c.args.w.now) (g.W.Station.history c.write_at-3.new.self) (g.W.Station.history c.sync.new.self) (g.W.Station.now c.write_at-3.new.self) l3 (c.args.end + 1) (laid c.args.epoch body) (g.W.Station.content c.write_at-3.new.self) is c.sync.ensures.time

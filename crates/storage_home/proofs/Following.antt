@@ -9,15 +9,14 @@ use Rattle.type_layout.specs.declared.schema.Schema.{Schema}
 use Rattle.key_index.specs.Index.{Index}
 use Rattle.pss_catalog.specs.Catalog.{Object, Catalog, holds, IsUnique}
 use Rattle.pss_catalog.proofs.Forest.{same_place, other_place}
-use Rattle.storage_home.specs.declared.rows.Row.{Row}
-use Rattle.storage_home.specs.Rows.{object_at, TurnsObject}
+use Rattle.storage_home.specs.Rows.{Chunks, object_at, TurnsObject}
 use Rattle.storage_home.specs.Extents.{is_held_in, TurnsHeldIn}
 use Rattle.storage_home.specs.Keys.{found_at, lists, TurnsFound}
 use Rattle.storage_home.specs.Kept.{stored, IsHolder, is_object_of}
 use Rattle.storage_home.proofs.Places.{by_test}
 use Rattle.storage_home.proofs.Keeping.{same_or_not, gone, stays, was_there, come, others}
 
-abbrev pub RowsAre : Schema → Catalog → List (ℕ × Row) → Type 0
+abbrev pub RowsAre : Schema → Catalog → Chunks → Type 0
 RowsAre S M rows = (serial : ℕ) → object_at serial rows ≡ option_map (stored S) (get M serial)
 
 abbrev pub ExtentsAre : Catalog → List (BTreeMap ℕ Bool) → Type 0
@@ -27,14 +26,14 @@ abbrev pub KeysAre : Schema → Catalog → List Index → Type 0
 KeysAre S M keys = (key : KeyNo) (bytes : List ℕ) (serial : ℕ) → (found_at keys key.0 bytes ≡ Some serial) ↔ IsHolder S M key bytes serial
 
 module _ (S : Schema) (M : Catalog) (s : ℕ) where
-  pub rows_without : (old new : List (ℕ × Row)) → RowsAre S M old → TurnsObject old new s None → RowsAre S (remove M s) new
+  pub rows_without : (old new : Chunks) → RowsAre S M old → TurnsObject old new s None → RowsAre S (remove M s) new
   rows_without old new are turns t = turns t ∙ by (same_or_not t s)
     where
       by : (t ≡ s) ⊎ (t ≡ s → ⊥) → cond (s == t) None (object_at t old) ≡ option_map (stored S) (get (remove M s) t)
       by (inl same) = same_place t s None (object_at t old) (sym same) ∙ ap (option_map (stored S)) (sym (gone M s t same))
       by (inr other) = other_place t s None (object_at t old) (λ e. other (sym e)) ∙ are t ∙ ap (option_map (stored S)) (sym (stays M s t other))
 
-  pub rows_with : (object : Object) (old new : List (ℕ × Row)) → RowsAre S M old → TurnsObject old new s (Some (stored S object)) → RowsAre S (insert M s object) new
+  pub rows_with : (object : Object) (old new : Chunks) → RowsAre S M old → TurnsObject old new s (Some (stored S object)) → RowsAre S (insert M s object) new
   rows_with object old new are turns t = turns t ∙ by (same_or_not t s)
     where
       by : (t ≡ s) ⊎ (t ≡ s → ⊥) → cond (s == t) (Some (stored S object)) (object_at t old) ≡ option_map (stored S) (get (insert M s object) t)

@@ -1,5 +1,7 @@
 pub mod Rising
 pub mod Places
+pub mod Bits
+pub mod Chunks
 pub mod Nexts
 pub mod Raising
 pub mod Holding

@@ -1,5 +1,6 @@
 pub mod Changes
 pub mod Rows
+pub mod Cells
 pub mod Extents
 pub mod Counts
 pub mod Keys

@@ -1,4 +1,4 @@
-// The holders of keys, an index for each key.
+//! Who holds which key, by an index for each key of a schema: what is committed has one such table, and what changes there may have another.
 ghost use Rattle.std.specs.Prelude.{◌≡◌, ◌<◌, ℕ, List, Some, None, true, false, length, OnOk, OnErr, IfOk};
 ghost use Rattle.storage_home.specs.Keys.{found_at, is_key_reserved, AreThere, MayPut, KeepsFound, TurnsFoundAt, TurnsKeyReservedAt, KeepsKeysReserved, TurnsFound, TurnsKeysReserved, StayReserved};
 
@@ -7,6 +7,7 @@ use pss_base::{Bytes, NoMemory};
 use std::alloc::Global;
 use type_layout::KeyNo;
 
+/// An index for each of so many keys, in which nothing is held.
 pub fn none(alloc: Global, count: usize) -> Result<Vec<KeyIndex>, NoMemory>
     ensures size { IfOk result (λ indexes. length indexes.items ≡ count) }
     ensures found { IfOk result (λ indexes. (key : ℕ) (bytes : List ℕ) → found_at indexes.items key bytes ≡ None) }
@@ -18,7 +19,7 @@ pub fn none(alloc: Global, count: usize) -> Result<Vec<KeyIndex>, NoMemory>
     Ok(indexes)
 }
 
-/// The serial of the object that holds a key with these bytes.
+/// The serial of the object that holds a key with these bytes, none where nothing does or there is no such key.
 pub fn find(indexes: &[KeyIndex], key: KeyNo, bytes: &[u8]) -> Option<u64>
     ensures { result ≡ found_at indexes.now key.0 bytes.now }
 {
@@ -29,6 +30,8 @@ pub fn find(indexes: &[KeyIndex], key: KeyNo, bytes: &[u8]) -> Option<u64>
 }
 
 /// Reserves keys. They may be held, and stay so.
+///
+/// `NoMemory`: some of them may be reserved, and what was reserved stays so.
 pub fn reserve_all(indexes: &mut [KeyIndex], pairs: &[(KeyNo, Bytes)]) -> Result<(), NoMemory>
     requires { AreThere indexes.old pairs.now }
     ensures found { KeepsFound indexes.old indexes.new }
@@ -53,7 +56,7 @@ fn reserve(indexes: &mut [KeyIndex], key: KeyNo, bytes: &[u8]) -> Result<(), NoM
     index.reserve(bytes)
 }
 
-/// Takes keys from their holder.
+/// Takes keys from their holders, where they have some. What is reserved stays so. It takes no memory.
 pub fn take_all(indexes: &mut [KeyIndex], pairs: &[(KeyNo, Bytes)])
     requires { AreThere indexes.old pairs.now }
     ensures found { TurnsFound indexes.old indexes.new pairs.now None }
@@ -75,7 +78,7 @@ fn take(indexes: &mut [KeyIndex], key: KeyNo, bytes: &[u8])
     let _ = index.take(bytes);
 }
 
-/// Gives reserved keys that nothing holds to the object with a serial.
+/// Gives reserved keys that nothing holds to the object with a serial, and ends their reservations. It takes no memory.
 pub fn put_all(indexes: &mut [KeyIndex], pairs: &[(KeyNo, Bytes)], serial: u64)
     requires { MayPut indexes.old pairs.now }
     ensures found { TurnsFound indexes.old indexes.new pairs.now (Some serial) }

@@ -7,10 +7,11 @@
 
 mod applying;
 mod change;
+mod chunk;
 mod counts;
 mod extents;
 mod homes;
-mod keys;
+pub mod keys;
 mod listing;
 mod loading;
 mod parts;

@@ -66,7 +66,7 @@ impl Parts {
         ensures stay { AllStay self.old self.new }
         ensures keys { self.new.keys ≡ self.old.keys }
     {
-        reserve(&mut self.rows, serial)?;
+        reserve(self.alloc, &mut self.rows, serial)?;
         enter_in(&mut self.extents, home, serial)
     }
 

@@ -1,8 +1,8 @@
-use Rattle.std.proofs.Common.{sym}
-use Rattle.storage_home.specs.Rows.{row_at, is_reserved_in}
-use Rattle.storage_home.proofs.Places.{part_kept, reserved_there}
+use Rattle.std.proofs.Common.{IsSome, subst, rules}
+use Rattle.storage_home.proofs.Chunks.{chunk_turned}
 use Rattle.storage_home.proofs.rows.clear.Goals as goal
 
-pub returns-in-Some-clause-reserved : goal.returns-in-Some-clause-reserved
-returns-in-Some-clause-reserved c =
-    part_kept is_reserved_in (λ q. row_at q c.args.rows.now.entries) (λ q. row_at q _) c.args.serial _ ((c.get_mut.follows.holds _).3 (reserved_there _ c.requires)).0 (sym c.requires)
+pub returns-in-Some : goal.returns-in-Some
+returns-in-Some c =
+    let turns = ((c.get_mut.follows.holds c.remove.new.self).3 (subst IsSome c.in-Some.ensures.value (search rules))).0 in
+    chunk_turned c.args.rows.now.entries _ c.args.serial _ c.in-Some.chunk.now c.remove.new.self c.in-Some.ensures.value turns c.remove.ensures

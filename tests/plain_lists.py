@@ -18,7 +18,7 @@ PROGRAMS = {
     "incarnations": b"incarnations: 165861 operations, 0 differences\n",
     "storage_home": b"storage_home: 1493 operations, 0 differences\n",
     "pss_session": b"pss_session: 5000 operations, 0 differences\n",
-    "tx_session": b"tx_session: 3846 operations, 0 differences\n",
+    "tx_session": b"tx_session: 3855 operations, 0 differences\n",
 }
 
 

@@ -1,5 +1,5 @@
 -- An owner that may act, and what is kept of it.
-use Rattle.std.proofs.Common.{ℕ, ◌≡◌, ◌<◌, Some, true, false, sym, ap, subst, ◌∙◌, Result, Ok, Err, IfOk}
+use Rattle.std.proofs.Common.{ℕ, ◌≡◌, ◌<◌, Some, true, false, sym, ap, subst, ◌∙◌}
 use Rattle.std.specs.FinMap.{get, len}
 use Rattle.std.specs.FinSet as set
 use Rattle.pss_base.specs.declared.owner.OwnerNo.{OwnerNo}
@@ -15,21 +15,17 @@ use Rattle.lock_table.specs.Locks.{Held}
 use Rattle.lock_table.specs.Locks as table
 use Rattle.lock_table.specs.Agreement.{HaveLocks}
 use Rattle.lock_table.proofs.Owning.{same_blocker}
-use Rattle.tx_session.specs.declared.owned.Owned.{Owned}
+use Rattle.owner_view.specs.declared.owned.Owned.{Owned}
 use Rattle.tx_session.specs.declared.parts.Parts.{Parts}
-use Rattle.tx_session.specs.declared.step.Step.{Step}
-use Rattle.tx_session.specs.Overlay.{changes_in}
-use Rattle.tx_session.specs.Steps.{IsStep, MayBePut}
-use Rattle.tx_session.specs.Views.{seen_with}
-use Rattle.tx_session.specs.Owned.{owned_at}
+use Rattle.owner_view.specs.declared.step.Step.{Step}
+use Rattle.owner_view.specs.Steps.{IsStep, MayBePut}
+use Rattle.owner_view.specs.Views.{seen_with}
+use Rattle.owner_view.specs.Owned.{changed_by, MayLook, MayStep}
+use Rattle.tx_session.specs.Kept.{owned_at}
 use Rattle.tx_session.specs.Owners.{plain_owner, owners_in, Under, AreOwners, MaySee, MayAct, step_of}
 use Rattle.tx_session.specs.Acting.{with_step, MayTake}
-use Rattle.tx_session.specs.Seen.{Fits}
+use Rattle.owner_view.specs.Seen.{Fits}
 use Rattle.tx_session.proofs.Turns.{is_owner, kept_of}
-
-pub if_ok : {A E : Type 0} {P Q : A → Type 0} (r : Result A E) → ((a : A) → P a → Q a) → IfOk r P → IfOk r Q
-if_ok (Ok a) f p = f a p
-if_ok (Err e) f p = p
 
 same_one : {A : Type 0} (x y : A) → Some x ≡ Some y → x ≡ y
 same_one x y e = cc
@@ -40,21 +36,34 @@ module _ (S : Schema) (homes : Homes) (parts : Parts) (n : OwnerNo) (m : MaySee 
   pub is_it : plain_owner parts.locks n.0 owned ≡ m.owner
   is_it = same_one _ _ (sym (is_owner parts.locks parts.table.entries n.0 owned at) ∙ m.there)
 
-  pub its_changes : changes_in owned.overlay ≡ m.owner.changes
+  pub its_changes : changed_by owned ≡ m.owner.changes
   its_changes = ap (λ (o : Owner). o.changes) is_it
 
   pub its_level : owned.level ≡ m.owner.level
   its_level = ap (λ (o : Owner). o.level) is_it
 
-  pub own_fit : (s : ℕ) (x : Object) → get (changes_in owned.overlay) s ≡ Some (Some x) → Fits S x
+  pub own_fit : (s : ℕ) (x : Object) → get (changed_by owned) s ≡ Some (Some x) → Fits S x
   own_fit s x is = m.fits s x (ap (λ c. get c s) (sym its_changes) ∙ is)
 
-  pub its_view : seen_with m.catalog (changes_in owned.overlay) ≡ view m.catalog m.owner
+  pub its_view : seen_with m.catalog (changed_by owned) ≡ view m.catalog m.owner
   its_view = ap (seen_with m.catalog) its_changes
 
 -- an owner that may be seen is kept
 pub is_kept : (S : Schema) (homes : Homes) (parts : Parts) (n : OwnerNo) (m : MaySee S homes (owners_in parts) n) → (owned : Owned) × (owned_at n.0 parts.table.entries ≡ Some owned)
 is_kept S homes parts n m = (let k = kept_of parts.locks parts.table.entries n.0 m.owner m.there in (k.0, k.1))
+
+-- it may look, and act where the owner may
+abbrev pub its_may_look : (S : Schema) (homes : Homes) (parts : Parts) (n : OwnerNo) (m : MaySee S homes (owners_in parts) n) (owned : Owned) → owned_at n.0 parts.table.entries ≡ Some owned → MayLook S homes owned
+its_may_look S homes parts n m owned at = record { catalog = m.catalog; kept = m.kept; fits = own_fit S homes parts n m owned at }
+
+abbrev pub its_may_step :
+    (S : Schema) (homes : Homes) (parts : Parts) (n : OwnerNo) (op : PlainOp) (m : MayAct S homes (owners_in parts) n op) → Under S parts → (owned : Owned) → owned_at n.0 parts.table.entries ≡ Some owned → MayStep S homes owned op
+its_may_step S homes parts n op m under owned at = record {
+  look = its_may_look S homes parts n m.sees owned at;
+  fits_op = m.fits_op;
+  unique = subst (IsUnique S) (sym (its_view S homes parts n m.sees owned at)) m.unique;
+  under = under n.0 owned at;
+}
 
 -- what may be seen of the owners of the value may be seen of those of its parts
 abbrev pub within : (S : Schema) (homes : Homes) (value parts : Parts) (n : OwnerNo) → parts ≡ value → MaySee S homes (owners_in value) n → MaySee S homes (owners_in parts) n

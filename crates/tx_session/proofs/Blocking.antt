@@ -13,8 +13,8 @@ use Rattle.storage_home.specs.declared.parts.Parts.{Parts as Homes}
 use Rattle.lock_table.specs.Locks as table
 use Rattle.lock_table.specs.Agreement.{HaveLocks}
 use Rattle.tx_session.specs.declared.parts.Parts.{Parts}
-use Rattle.tx_session.specs.declared.step.Step.{Step}
-use Rattle.tx_session.specs.Steps.{IsStep}
+use Rattle.owner_view.specs.declared.step.Step.{Step}
+use Rattle.owner_view.specs.Steps.{IsStep}
 use Rattle.tx_session.specs.Owners.{owners_in, Under, AreOwners, MayAct, step_of}
 use Rattle.tx_session.specs.Acting.{with_step, MayTake}
 use Rattle.tx_session.proofs.Actors.{may_take, its_blocker, its_step, never_busy}

@@ -1,38 +1,25 @@
 -- Owners that come, finish and go.
-use Rattle.std.proofs.Common.{ℕ, ◌≡◌, List, [], Option, Some, None, refl, sym, ap, subst, ◌∙◌}
+use Rattle.std.proofs.Common.{ℕ, ◌≡◌, List, Option, Some, None, refl, sym, ap, subst, ◌∙◌}
 use Rattle.std.specs.Option.{option_map, unwrap_or}
-use Rattle.std.specs.List.{slice_get}
-use Rattle.std.specs.Ordering.{nat_cmp}
-use Rattle.std.specs.FinMap.{get, insert, remove, empty, len, get-empty, len-empty}
+use Rattle.std.specs.FinMap.{get, insert, remove}
 use Rattle.std.specs.FinSet as set
 use Rattle.pss_base.specs.declared.owner.OwnerNo.{OwnerNo}
 use Rattle.type_layout.specs.declared.schema.Schema.{Schema}
 use Rattle.type_layout.specs.Schemas.{given}
-use Rattle.pss_catalog.specs.Catalog.{Object}
 use Rattle.pss_machine.specs.declared.level.Level.{Level}
 use Rattle.pss_machine.specs.Maps.{with_at}
 use Rattle.pss_machine.specs.Owners.{Owner, new_owner}
 use Rattle.lock_table.specs.Locks.{Held, held_by, released}
 use Rattle.lock_table.specs.Agreement.{HaveLocks, locks_of}
 use Rattle.lock_table.proofs.Owning.{held_by-released, held_by-released_other}
-use Rattle.tx_session.specs.declared.owned.Owned.{Owned}
-use Rattle.tx_session.specs.Overlay.{changes_in, indexes_in}
-use Rattle.tx_session.specs.Views.{IsOwnHolder}
-use Rattle.tx_session.specs.Owned.{owned_at, IsCounted, IsIndexed, IsCleared, TurnsBy, TurnsOwned}
+use Rattle.owner_view.specs.declared.owned.Owned.{Owned}
+use Rattle.owner_view.specs.Owned.{IsCounted, IsUnder}
+use Rattle.tx_session.specs.Kept.{IsNew, IsCleared, owned_at, IsNew, TurnsBy, TurnsOwned}
 use Rattle.tx_session.specs.Owners.{plain_owner, owners_of}
 use Rattle.tx_session.proofs.Turns.{is_owner, no_owner, owner_turned, owner_gone, owners_same, locks_turned, each_turned, turned_from, turned_to, none_turned, turned_others, turned_here}
 
 same_one : {A : Type 0} (x y : A) → Some x ≡ Some y → x ≡ y
 same_one x y e = cc
-
--- who has changed nothing holds no key
-pub nothing_indexed : (S : Schema) (o : Owned) → changes_in o.overlay ≡ empty → indexes_in o.overlay ≡ [] → IsIndexed S o
-nothing_indexed S o changes indexes k bytes =
-    subst (λ is. IsOwnHolder S (changes_in o.overlay) k bytes (given (slice_get is k.0) None (λ index. get index.held bytes))) (sym indexes)
-    (λ s x at. (let no : None ≡ Some (Some x) = sym (get-empty nat_cmp s) ∙ ap (λ c. get c s) (sym changes) ∙ at in cc))
-
-pub nothing_counted : (o : Owned) → changes_in o.overlay ≡ empty → o.changed ≡ 0 → IsCounted o
-nothing_counted o changes count = count ∙ sym (ap len changes ∙ len-empty nat_cmp (Option Object))
 
 module _ (held : Held) (es fs : List (ℕ × Owned)) (n : OwnerNo) where
   -- no owner has no lock
@@ -41,22 +28,22 @@ module _ (held : Held) (es fs : List (ℕ × Owned)) (n : OwnerNo) where
 
   -- ---- one comes
 
-  module _ (level : Level) (o : Owned) (turns : TurnsOwned es fs n.0 (Some o)) (level_is : o.level ≡ level) (changes : changes_in o.overlay ≡ empty) (indexes : indexes_in o.overlay ≡ []) (count : o.changed ≡ 0) where
+  module _ (level : Level) (o : Owned) (turns : TurnsOwned es fs n.0 (Some o)) (new : IsNew level o) where
     pub owner_came : HaveLocks (owners_of held es) held → get (owners_of held es) n.0 ≡ None → owners_of held fs ≡ insert (owners_of held es) n.0 (new_owner level)
     owner_came have none =
         owner_turned held held es fs n (turned_others es fs n.0 (Some o) turns) (λ q other. refl) o (turned_here es fs n.0 (Some o) turns) ∙ ap (insert (owners_of held es) n.0) one
       where
         one : plain_owner held n.0 o ≡ new_owner level
-        one i = record { level = level_is i; locks = none_locked have none i; changes = changes i }
+        one i = record { level = new.level_is i; locks = none_locked have none i; changes = new.changes i }
 
     one_there : (P : Owned → Type 0) → P o → (p : Owned) → owned_at n.0 fs ≡ Some p → P p
     one_there P is p at = subst P (same_one o p (sym (turned_here es fs n.0 (Some o) turns) ∙ at)) is
 
-    pub under_came : (S : Schema) → ((q : ℕ) (p : Owned) → owned_at q es ≡ Some p → IsIndexed S p) → (q : ℕ) (p : Owned) → owned_at q fs ≡ Some p → IsIndexed S p
-    under_came S each = each_turned (IsIndexed S) es fs n (turned_others es fs n.0 (Some o) turns) (one_there (IsIndexed S) (nothing_indexed S o changes indexes)) each
+    pub under_came : (S : Schema) → ((q : ℕ) (p : Owned) → owned_at q es ≡ Some p → IsUnder S p) → (q : ℕ) (p : Owned) → owned_at q fs ≡ Some p → IsUnder S p
+    under_came S each = each_turned (IsUnder S) es fs n (turned_others es fs n.0 (Some o) turns) (one_there (IsUnder S) (new.under S)) each
 
     pub counted_came : ((q : ℕ) (p : Owned) → owned_at q es ≡ Some p → IsCounted p) → (q : ℕ) (p : Owned) → owned_at q fs ≡ Some p → IsCounted p
-    counted_came each = each_turned IsCounted es fs n (turned_others es fs n.0 (Some o) turns) (one_there IsCounted (nothing_counted o changes count)) each
+    counted_came each = each_turned IsCounted es fs n (turned_others es fs n.0 (Some o) turns) (one_there IsCounted new.counted) each
 
     pub locks_came : HaveLocks (owners_of held es) held → HaveLocks (owners_of held fs) held
     locks_came have =
@@ -82,10 +69,10 @@ module _ (held : Held) (es fs : List (ℕ × Owned)) (n : OwnerNo) where
             b = turned_to IsCleared es fs n turn a is
 
             one : plain_owner (released held n) n.0 b.0 ≡ new_owner a.level
-            one i = record { level = b.2.level i; locks = held_by-released held n i; changes = b.2.changes i }
+            one i = record { level = b.2.level_is i; locks = held_by-released held n i; changes = b.2.changes i }
 
-    pub under_finished : (S : Schema) → ((q : ℕ) (p : Owned) → owned_at q es ≡ Some p → IsIndexed S p) → (q : ℕ) (p : Owned) → owned_at q fs ≡ Some p → IsIndexed S p
-    under_finished S each = each_turned (IsIndexed S) es fs n turn.others (λ p at. let a = turned_from IsCleared es fs n turn p at in nothing_indexed S p a.2.changes a.2.indexes) each
+    pub under_finished : (S : Schema) → ((q : ℕ) (p : Owned) → owned_at q es ≡ Some p → IsUnder S p) → (q : ℕ) (p : Owned) → owned_at q fs ≡ Some p → IsUnder S p
+    under_finished S each = each_turned (IsUnder S) es fs n turn.others (λ p at. let a = turned_from IsCleared es fs n turn p at in a.2.under S) each
 
     pub counted_finished : ((q : ℕ) (p : Owned) → owned_at q es ≡ Some p → IsCounted p) → (q : ℕ) (p : Owned) → owned_at q fs ≡ Some p → IsCounted p
     counted_finished each = each_turned IsCounted es fs n turn.others (λ p at. let a = turned_from IsCleared es fs n turn p at in a.2.counted) each

@@ -1,41 +1,32 @@
 -- What becomes of the owners where one takes a step, or memory lacks for it.
-use Rattle.std.proofs.Common.{ℕ, ◌≡◌, ◌<◌, ◌==◌, List, length, Option, Some, None, false, refl, sym, ap, subst, ◌∙◌}
+use Rattle.std.proofs.Common.{ℕ, ◌≡◌, ◌<◌, ◌==◌, List, Option, Some, None, false, refl, sym, ap, subst, ◌∙◌}
 use Rattle.std.specs.Option.{option_map}
 use Rattle.std.specs.FinMap.{get, insert, len}
 use Rattle.pss_base.specs.declared.owner.OwnerNo.{OwnerNo}
 use Rattle.type_layout.specs.declared.schema.Schema.{Schema}
 use Rattle.type_layout.specs.Schemas.{given}
 use Rattle.pss_catalog.specs.Catalog.{Catalog, IsUnique}
-use Rattle.pss_machine.specs.Changes.{Changes, with_changes}
+use Rattle.pss_machine.specs.Changes.{with_changes}
 use Rattle.pss_machine.specs.Maps.{with_at}
 use Rattle.lock_table.specs.Locks.{Held, held_by, granted}
 use Rattle.lock_table.specs.Agreement.{HaveLocks}
 use Rattle.lock_table.proofs.Owning.{held_by-granted, held_by-granted_other}
-use Rattle.tx_session.specs.declared.owned.Owned.{Owned}
+use Rattle.owner_view.specs.declared.owned.Owned.{Owned}
 use Rattle.tx_session.specs.declared.parts.Parts.{Parts}
-use Rattle.tx_session.specs.declared.step.Put.{Put}
-use Rattle.tx_session.specs.declared.step.Step.{Step}
-use Rattle.tx_session.specs.Indexes.{found_at}
-use Rattle.tx_session.specs.Overlay.{changes_in, indexes_in}
-use Rattle.tx_session.specs.Views.{seen_with, IsOwnHolder}
-use Rattle.tx_session.specs.Steps.{IsPut, MayBePut, changes_put, state_put}
-use Rattle.tx_session.specs.Owned.{owned_at, IsCounted, IsIndexed, IsSame, IsReadyFor, IsReadyIn, MayPutIn, HasPut, TurnsBy}
+use Rattle.owner_view.specs.declared.step.Put.{Put}
+use Rattle.owner_view.specs.declared.step.Step.{Step}
+use Rattle.owner_view.specs.Views.{seen_with}
+use Rattle.owner_view.specs.Steps.{IsPut, MayBePut, changes_put, state_put}
+use Rattle.owner_view.specs.Owned.{changed_by, IsCounted, IsUnder, IsSame, IsReadyFor, MayPutIn, HasPut}
+use Rattle.tx_session.specs.Kept.{owned_at, IsReadyIn, TurnsBy}
 use Rattle.tx_session.specs.Owners.{plain_owner, owners_of, owners_in}
 use Rattle.tx_session.specs.Acting.{with_step, MayTake, MaySettle, HasSettled}
-use Rattle.tx_session.proofs.Putting.{told_insert}
 use Rattle.tx_session.proofs.Turns.{is_owner, owner_turned, owners_same, locks_turned, each_turned, turned_from, turned_to, none_turned, get_owner}
 
 same_Some : {A : Type 0} (x y : A) → Some x ≡ Some y → x ≡ y
 same_Some x y e = cc
 
 -- ---- nothing that can be told has changed
-
-same_indexed : (S : Schema) (old new : Owned) → IsSame old new → IsIndexed S old → IsIndexed S new
-same_indexed S old new same indexed k bytes =
-    subst (λ (c : Changes). IsOwnHolder S c k bytes (found_at (indexes_in new.overlay) k.0 bytes)) (sym same.changes) (subst (IsOwnHolder S (changes_in old.overlay) k bytes) (sym (same.found k.0 bytes)) (indexed k bytes))
-
-same_counted : (old new : Owned) → IsSame old new → IsCounted old → IsCounted new
-same_counted old new same counted = same.changed ∙ counted ∙ ap len (sym same.changes)
 
 same_plain : (held : Held) (n : ℕ) (old new : Owned) → IsSame old new → plain_owner held n new ≡ plain_owner held n old
 same_plain held n old new same i = record { level = same.level i; locks = held_by held (record { 0 = n }); changes = same.changes i }
@@ -50,11 +41,11 @@ module _ (held : Held) (es fs : List (ℕ × Owned)) (n : OwnerNo) (same : Turns
           let b = turned_to IsSame es fs n same a is in
           is_owner held fs n.0 b.0 b.1 ∙ ap Some (same_plain held n.0 a b.0 b.2) ∙ sym (is_owner held es n.0 a is)
 
-  pub indexed_stay : (S : Schema) → ((q : ℕ) (o : Owned) → owned_at q es ≡ Some o → IsIndexed S o) → (q : ℕ) (o : Owned) → owned_at q fs ≡ Some o → IsIndexed S o
-  indexed_stay S each = each_turned (IsIndexed S) es fs n same.others (λ b at. let a = turned_from IsSame es fs n same b at in same_indexed S a.0 b a.2 (each n.0 a.0 a.1)) each
+  pub indexed_stay : (S : Schema) → ((q : ℕ) (o : Owned) → owned_at q es ≡ Some o → IsUnder S o) → (q : ℕ) (o : Owned) → owned_at q fs ≡ Some o → IsUnder S o
+  indexed_stay S each = each_turned (IsUnder S) es fs n same.others (λ b at. let a = turned_from IsSame es fs n same b at in a.2.under S (each n.0 a.0 a.1)) each
 
   pub counted_stay : ((q : ℕ) (o : Owned) → owned_at q es ≡ Some o → IsCounted o) → (q : ℕ) (o : Owned) → owned_at q fs ≡ Some o → IsCounted o
-  counted_stay each = each_turned IsCounted es fs n same.others (λ b at. let a = turned_from IsSame es fs n same b at in same_counted a.0 b a.2 (each n.0 a.0 a.1)) each
+  counted_stay each = each_turned IsCounted es fs n same.others (λ b at. let a = turned_from IsSame es fs n same b at in a.2.counted (each n.0 a.0 a.1)) each
 
   pub locks_stay : HaveLocks (owners_of held es) held → HaveLocks (owners_of held fs) held
   locks_stay have = subst (λ owners. HaveLocks owners held) (sym owners_stay) have
@@ -64,25 +55,25 @@ module _ (held : Held) (es fs : List (ℕ × Owned)) (n : OwnerNo) (same : Turns
 -- the owner has put what the step puts
 pub record HasStepped (S : Schema) (put : Option Put) (old new : Owned) : Type 0 where
   pub level : new.level ≡ old.level
-  pub changes : changes_in new.overlay ≡ with_changes (changes_in old.overlay) (changes_put put)
+  pub changes : changed_by new ≡ with_changes (changed_by old) (changes_put put)
   pub counted : IsCounted new
-  pub indexed : IsIndexed S new
+  pub under : IsUnder S new
 
 module _ (S : Schema) (parts : Parts) (n : OwnerNo) (step : Step) (m : MayTake S parts n step) (between : List (ℕ × Owned)) (same : TurnsBy IsSame parts.table.entries between n.0) where
   abbrev V : Catalog
-  V = seen_with m.catalog (changes_in m.owned.overlay)
+  V = seen_with m.catalog (changed_by m.owned)
 
   -- with room the step may be put
-  abbrev may_put_in : (put : Put) → MayBePut S V (Some put) → (b : Owned) → IsSame m.owned b → IsReadyFor (length S.keys) (Some put) b → MayPutIn b put
+  abbrev may_put_in : (put : Put) → MayBePut S V (Some put) → (b : Owned) → IsSame m.owned b → IsReadyFor S (Some put) b → MayPutIn b put
   may_put_in put may b is ready = record {
     schema = S;
     catalog = m.catalog;
     sound = m.sound;
     unique = subst (λ c. IsUnique S (seen_with m.catalog c)) (sym is.changes) m.unique;
-    indexed = same_indexed S m.owned b is (m.under n.0 m.owned m.there);
+    under = is.under S (m.under n.0 m.owned m.there);
     is = subst (λ c. IsPut S (seen_with m.catalog c) put) (sym is.changes) may;
     ready = ready;
-    counted = same_counted m.owned b is (m.owners.counted n.0 m.owned m.there);
+    counted = is.counted (m.owners.counted n.0 m.owned m.there);
     few = subst (λ c. len c < 4294967295) (sym is.changes) m.few;
   }
 
@@ -91,14 +82,14 @@ module _ (S : Schema) (parts : Parts) (n : OwnerNo) (step : Step) (m : MayTake S
       let a = turned_from IsSame parts.table.entries between n same b at in
       subst (λ o. IsSame o b) (same_Some a.0 m.owned (sym a.1 ∙ m.there)) a.2
 
-  pub may_settle : IsReadyIn n.0 (length S.keys) step.put between → MaySettle between n step.put
+  pub may_settle : IsReadyIn n.0 S step.put between → MaySettle between n step.put
   may_settle ready = by step.put m.may ready
     where
-      by : (put : Option Put) → MayBePut S V put → IsReadyIn n.0 (length S.keys) put between → MaySettle between n put
+      by : (put : Option Put) → MayBePut S V put → IsReadyIn n.0 S put between → MaySettle between n put
       by None may ready = tt
       by (Some put) may ready = λ b at. may_put_in put may b (same_from b at) (ready b at)
 
-  module _ (fs : List (ℕ × Owned)) (ready : IsReadyIn n.0 (length S.keys) step.put between) (settled : HasSettled between fs n step.put) where
+  module _ (fs : List (ℕ × Owned)) (ready : IsReadyIn n.0 S step.put between) (settled : HasSettled between fs n step.put) where
     others : (q : ℕ) → (n.0 == q) ≡ false → owned_at q fs ≡ owned_at q parts.table.entries
     others q other = by step.put settled ∙ same.others q other
       where
@@ -112,15 +103,15 @@ module _ (S : Schema) (parts : Parts) (n : OwnerNo) (step : Step) (m : MayTake S
         a : (b : Owned) × (owned_at n.0 between ≡ Some b) × IsSame m.owned b
         a = turned_to IsSame parts.table.entries between n same m.owned m.there
 
-        by : (put : Option Put) → MayBePut S V put → IsReadyIn n.0 (length S.keys) put between → HasSettled between fs n put → (b : Owned) × (owned_at n.0 fs ≡ Some b) × HasStepped S put m.owned b
+        by : (put : Option Put) → MayBePut S V put → IsReadyIn n.0 S put between → HasSettled between fs n put → (b : Owned) × (owned_at n.0 fs ≡ Some b) × HasStepped S put m.owned b
         by None may ready is = (
           a.0,
           ap (owned_at n.0) is ∙ a.1,
           record {
             level = a.2.level;
             changes = a.2.changes;
-            counted = same_counted m.owned a.0 a.2 (m.owners.counted n.0 m.owned m.there);
-            indexed = same_indexed S m.owned a.0 a.2 (m.under n.0 m.owned m.there);
+            counted = a.2.counted (m.owners.counted n.0 m.owned m.there);
+            under = a.2.under S (m.under n.0 m.owned m.there);
           },
         )
         by (Some put) may ready is =
@@ -130,9 +121,9 @@ module _ (S : Schema) (parts : Parts) (n : OwnerNo) (step : Step) (m : MayTake S
               b.1,
               record {
                 level = b.2.level ∙ a.2.level;
-                changes = b.2.changes ∙ told_insert S V put.serial put.slot (changes_in a.0.overlay) may.may ∙ ap (λ c. insert c put.serial (state_put put.slot)) a.2.changes;
+                changes = b.2.changes ∙ ap (λ c. insert c put.serial (state_put put.slot)) a.2.changes;
                 counted = b.2.counted;
-                indexed = b.2.indexed may_put;
+                under = b.2.under may_put;
               },
             )
 
@@ -148,8 +139,8 @@ module _ (S : Schema) (parts : Parts) (n : OwnerNo) (step : Step) (m : MayTake S
         one : plain_owner after n.0 stepped.0 ≡ with_step step (plain_owner parts.locks n.0 m.owned)
         one i = record { level = stepped.2.level i; locks = held_by-granted parts.locks n step.needs i; changes = stepped.2.changes i }
 
-    pub under_stepped : (q : ℕ) (o : Owned) → owned_at q fs ≡ Some o → IsIndexed S o
-    under_stepped = each_turned (IsIndexed S) parts.table.entries fs n others (λ o at. subst (IsIndexed S) (same_Some stepped.0 o (sym stepped.1 ∙ at)) stepped.2.indexed) m.under
+    pub under_stepped : (q : ℕ) (o : Owned) → owned_at q fs ≡ Some o → IsUnder S o
+    under_stepped = each_turned (IsUnder S) parts.table.entries fs n others (λ o at. subst (IsUnder S) (same_Some stepped.0 o (sym stepped.1 ∙ at)) stepped.2.under) m.under
 
     pub counted_stepped : (q : ℕ) (o : Owned) → owned_at q fs ≡ Some o → IsCounted o
     counted_stepped = each_turned IsCounted parts.table.entries fs n others (λ o at. subst IsCounted (same_Some stepped.0 o (sym stepped.1 ∙ at)) stepped.2.counted) m.owners.counted

@@ -3,10 +3,10 @@ use Rattle.std.proofs.Common.{◌≡◌, Some, None, sym, ap, ◌∙◌}
 use Rattle.std.specs.FinMap.{get}
 use Rattle.pss_base.specs.declared.owner.OwnerNo.{OwnerNo}
 use Rattle.pss_machine.specs.Owners.{Owner}
-use Rattle.tx_session.specs.declared.owned.Owned.{Owned}
+use Rattle.owner_view.specs.declared.owned.Owned.{Owned}
 use Rattle.tx_session.specs.declared.parts.Parts.{Parts}
-use Rattle.tx_session.specs.Overlay.{changes_in}
-use Rattle.tx_session.specs.Owned.{owned_at}
+use Rattle.owner_view.specs.Owned.{changed_by}
+use Rattle.tx_session.specs.Kept.{owned_at}
 use Rattle.tx_session.specs.Owners.{plain_owner, owners_in}
 use Rattle.tx_session.proofs.Turns.{is_owner, no_owner}
 
@@ -14,7 +14,7 @@ same_one : {A : Type 0} (x y : A) → Some x ≡ Some y → x ≡ y
 same_one x y e = cc
 
 module _ (value parts : Parts) (is : parts ≡ value) (n : OwnerNo) (o : Owner) (there : get (owners_in value) n.0 ≡ Some o) where
-  pub changes_told : (owned : Owned) → Some owned ≡ owned_at n.0 parts.table.entries → changes_in owned.overlay ≡ o.changes
+  pub changes_told : (owned : Owned) → Some owned ≡ owned_at n.0 parts.table.entries → changed_by owned ≡ o.changes
   changes_told owned at =
       ap (λ (x : Owner). x.changes) (same_one (plain_owner parts.locks n.0 owned) o (sym (is_owner parts.locks parts.table.entries n.0 owned (sym at)) ∙ ap (λ (p : Parts). get (owners_in p) n.0) is ∙ there))
 

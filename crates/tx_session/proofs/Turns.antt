@@ -11,10 +11,10 @@ use Rattle.pss_catalog.proofs.Listing.{tie}
 use Rattle.pss_machine.specs.Owners.{Owner}
 use Rattle.lock_table.specs.Locks.{Held, held_by}
 use Rattle.lock_table.specs.Agreement.{HaveLocks, locks_of}
-use Rattle.tx_session.specs.declared.owned.Owned.{Owned}
-use Rattle.tx_session.specs.Owned.{owned_at, Both, TurnsBy, TurnsOwned}
+use Rattle.owner_view.specs.declared.owned.Owned.{Owned}
+use Rattle.tx_session.specs.Kept.{owned_at, Both, TurnsBy, TurnsOwned}
 use Rattle.tx_session.specs.Owners.{plain_owner, owners_of}
-use Rattle.tx_session.proofs.Places.{by_test, same_number}
+use Rattle.owner_view.proofs.Tests.{by_test, same_number}
 
 abbrev numbered : ℕ → OwnerNo
 numbered n = record { 0 = n }

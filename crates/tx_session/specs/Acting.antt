@@ -8,15 +8,15 @@ use Rattle.type_layout.specs.Sound.{IsSoundSchema}
 use Rattle.pss_catalog.specs.Catalog.{Catalog, IsUnique}
 use Rattle.pss_machine.specs.Changes.{with_changes}
 use Rattle.pss_machine.specs.Owners.{Owner}
-use Rattle.tx_session.specs.declared.owned.Owned.{Owned}
+use Rattle.owner_view.specs.declared.owned.Owned.{Owned}
 use Rattle.tx_session.specs.declared.parts.Parts.{Parts}
-use Rattle.tx_session.specs.declared.step.Step.{Step}
-use Rattle.tx_session.specs.declared.step.Put.{Put}
-use Rattle.tx_session.specs.Overlay.{changes_in}
-use Rattle.tx_session.specs.Owned.{owned_at, MayPutIn, HasPut, TurnsBy}
+use Rattle.owner_view.specs.declared.step.Step.{Step}
+use Rattle.owner_view.specs.declared.step.Put.{Put}
+use Rattle.owner_view.specs.Owned.{changed_by, MayPutIn, HasPut}
+use Rattle.tx_session.specs.Kept.{owned_at, TurnsBy}
 use Rattle.tx_session.specs.Owners.{Under, AreOwners}
-use Rattle.tx_session.specs.Steps.{MayBePut, changes_put}
-use Rattle.tx_session.specs.Views.{seen_with}
+use Rattle.owner_view.specs.Steps.{MayBePut, changes_put}
+use Rattle.owner_view.specs.Views.{seen_with}
 
 -- an owner after a step: it has locked what it needed, and changed what it changed
 abbrev pub with_step : Step → Owner → Owner
@@ -28,9 +28,9 @@ pub record MayTake (S : Schema) (parts : Parts) (n : OwnerNo) (step : Step) : Ty
   pub owned : Owned
   pub sound : IsSoundSchema S
   pub there : owned_at n.0 parts.table.entries ≡ Some owned
-  pub unique : IsUnique S (seen_with catalog (changes_in owned.overlay))
-  pub may : MayBePut S (seen_with catalog (changes_in owned.overlay)) step.put
-  pub few : len (changes_in owned.overlay) < 4294967295
+  pub unique : IsUnique S (seen_with catalog (changed_by owned))
+  pub may : MayBePut S (seen_with catalog (changed_by owned)) step.put
+  pub few : len (changed_by owned) < 4294967295
   pub owners : AreOwners parts
   pub under : Under S parts
 

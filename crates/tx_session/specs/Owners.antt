@@ -10,16 +10,16 @@ use Rattle.storage_home.specs.declared.parts.Parts.{Parts as Homes}
 use Rattle.storage_home.specs.Kept.{IsKept}
 use Rattle.lock_table.specs.Locks.{Held, held_by}
 use Rattle.lock_table.specs.Agreement.{HaveLocks}
-use Rattle.tx_session.specs.declared.owned.Owned.{Owned}
+use Rattle.owner_view.specs.declared.owned.Owned.{Owned}
 use Rattle.tx_session.specs.declared.parts.Parts.{Parts}
-use Rattle.tx_session.specs.Fitting.{FitsOp}
-use Rattle.tx_session.specs.Overlay.{changes_in}
-use Rattle.tx_session.specs.Owned.{owned_at, IsIndexed, IsCounted}
-use Rattle.tx_session.specs.Seen.{Fits}
+use Rattle.owner_view.specs.Fitting.{FitsOp}
+use Rattle.owner_view.specs.Owned.{changed_by, IsUnder, IsCounted}
+use Rattle.tx_session.specs.Kept.{owned_at}
+use Rattle.owner_view.specs.Seen.{Fits}
 
 -- an owner as the machine has it
 abbrev pub plain_owner : Held → ℕ → Owned → Owner
-plain_owner held n owned = record { level = owned.level; locks = held_by held (record { 0 = n }); changes = changes_in owned.overlay }
+plain_owner held n owned = record { level = owned.level; locks = held_by held (record { 0 = n }); changes = changed_by owned }
 
 abbrev pub owners_of : Held → List (ℕ × Owned) → Owners
 owners_of held [] = empty
@@ -31,7 +31,7 @@ owners_in parts = owners_of parts.locks parts.table.entries
 
 -- all that was changed was changed under this schema
 abbrev pub Under : Schema → Parts → Type 0
-Under S parts = (n : ℕ) (owned : Owned) → owned_at n parts.table.entries ≡ Some owned → IsIndexed S owned
+Under S parts = (n : ℕ) (owned : Owned) → owned_at n parts.table.entries ≡ Some owned → IsUnder S owned
 
 -- each lock is that of an owner, and each owner's changes are counted
 pub record AreOwners (parts : Parts) : Type 0 where

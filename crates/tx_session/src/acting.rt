@@ -5,16 +5,15 @@ ghost use Rattle.pss_machine.specs.Maps.{with_at};
 ghost use Rattle.pss_machine.specs.Operations.{plain_op};
 ghost use Rattle.pss_machine.specs.Owners.{view};
 ghost use Rattle.lock_table.specs.Locks.{blocker, granted};
-ghost use Rattle.tx_session.specs.Steps.{IsStep};
-ghost use Rattle.tx_session.specs.Owned.{AreAmong, IsReadyIn, IsSame, TurnsBy};
+ghost use Rattle.owner_view.specs.Steps.{IsStep};
+ghost use Rattle.owner_view.specs.Owned.{IsMade, IsSame};
+ghost use Rattle.tx_session.specs.Kept.{IsReadyIn, TurnsBy};
 ghost use Rattle.tx_session.specs.Owners.{owners_in, Under, AreOwners, MayAct};
 ghost use Rattle.tx_session.specs.Acting.{MayTake, MaySettle, HasSettled, with_step};
 
-use crate::operation::step_of;
 use crate::parts::Parts;
-use crate::step::Step;
 use crate::table::{find, put_in, reserve_in};
-use crate::view::View;
+use owner_view::Step;
 use pss_base::{NoMemory, OwnerNo};
 use pss_machine::{Answer, Op};
 use storage_home::Homes;
@@ -34,14 +33,7 @@ impl Parts {
         ensures { IfOk result (λ step. (m : MayAct schema.now homes.now (owners_in self.now) owner (plain_op op.now)) → IsStep schema.now m.sees.owner.level (view m.sees.catalog m.sees.owner) (plain_op op.now) step) }
     {
         match find(&self.table, owner) {
-            Some(owned) => {
-                let view = View {
-                    schema,
-                    committed: homes,
-                    overlay: &owned.overlay,
-                };
-                step_of(self.alloc, &view, owned.level, op)
-            }
+            Some(owned) => owned.step_of(self.alloc, schema, homes, op),
             None => unreachable!(),
         }
     }
@@ -58,22 +50,22 @@ impl Parts {
         ensures under { Under schema.now self.new }
         ensures owners { AreOwners self.new }
     {
-        match self.prepare(owner, schema.keys.as_slice().len(), &step) {
+        match self.prepare(owner, schema, &step) {
             Ok(()) => Ok(self.settle(owner, step)),
             Err(NoMemory) => Err(NoMemory),
         }
     }
 
     // Room for what a step puts, and the locks that it needs.
-    fn prepare(&mut self, owner: OwnerNo, keys: usize, step: &Step) -> Result<(), NoMemory>
-        requires among { AreAmong keys step.now.put }
+    fn prepare(&mut self, owner: OwnerNo, schema: &Schema, step: &Step) -> Result<(), NoMemory>
+        requires made { IsMade schema.now step.now.put }
         requires free { blocker self.old.locks owner step.now.needs ≡ None }
         ensures same { TurnsBy IsSame self.old.table.entries self.new.table.entries owner.0 }
-        ensures ready { OnOk result (IsReadyIn owner.0 keys step.now.put self.new.table.entries) }
+        ensures ready { OnOk result (IsReadyIn owner.0 schema.now step.now.put self.new.table.entries) }
         ensures granted { OnOk result (self.new.locks ≡ granted self.old.locks owner step.now.needs) }
         ensures err { OnErr result (self.new.locks ≡ self.old.locks) }
     {
-        reserve_in(&mut self.table, owner, keys, &step.put)?;
+        reserve_in(&mut self.table, owner, schema, &step.put)?;
         self.locks.grant(owner, &step.needs)
     }
 

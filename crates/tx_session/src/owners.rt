@@ -12,16 +12,13 @@ ghost use Rattle.pss_machine.specs.Operations.{plain_op, plain_answer};
 ghost use Rattle.pss_machine.specs.Owners.{Owner, new_owner, has_changed, net, blocker, view, stepped};
 ghost use Rattle.storage_home.specs.Applied.{AreChanges};
 ghost use Rattle.lock_table.specs.Agreement.{locks_of};
-ghost use Rattle.tx_session.specs.Net.{AreNet};
+ghost use Rattle.owner_view.specs.Net.{AreNet};
 ghost use Rattle.tx_session.specs.Owners.{owners_in, Under, MaySee, MayAct, step_of};
 
-use crate::net::net_changes;
-use crate::owned::Owned;
 use crate::parts::Parts;
-use crate::state::state_at;
 use crate::table;
-use crate::view::View;
 use lock_table::LockTable;
+use owner_view::Owned;
 use pss_base::{NoMemory, OwnerNo, Steps};
 use pss_machine::{Answer, Level, Op};
 use std::alloc::Global;
@@ -126,14 +123,7 @@ impl Owners {
     {
         let parts = &self.parts;
         match table::find(&parts.table, owner) {
-            Some(owned) => {
-                let view = View {
-                    schema,
-                    committed: homes,
-                    overlay: &owned.overlay,
-                };
-                state_at(parts.alloc, &view, serial)
-            }
+            Some(owned) => owned.state_of(parts.alloc, schema, homes, serial),
             None => unreachable!(),
         }
     }
@@ -152,14 +142,7 @@ impl Owners {
     {
         let parts = &self.parts;
         match table::find(&parts.table, owner) {
-            Some(owned) => {
-                let view = View {
-                    schema,
-                    committed: homes,
-                    overlay: &owned.overlay,
-                };
-                net_changes(parts.alloc, &view)
-            }
+            Some(owned) => owned.changes(parts.alloc, schema, homes),
             None => unreachable!(),
         }
     }
@@ -179,7 +162,7 @@ impl Owners {
         ensures { (o : Owner) → get (owners_in self.now) owner.0 ≡ Some o → result ≡ len o.changes }
     {
         match table::find(&self.parts.table, owner) {
-            Some(owned) => owned.changed,
+            Some(owned) => owned.changed_count(),
             None => 0,
         }
     }

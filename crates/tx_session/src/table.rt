@@ -1,15 +1,16 @@
 // Owners by their numbers.
 ghost use Rattle.std.specs.Prelude.{◌≡◌, [], Some, None, OnOk, OnErr};
 ghost use Rattle.std.specs.Option.{option_map};
-ghost use Rattle.tx_session.specs.declared.owned.Owned.{Owned as One};
-ghost use Rattle.tx_session.specs.Owned.{owned_at, TurnsOwned, TurnsBy, IsSame, AreAmong, IsReadyIn, MayPutIn, HasPut, IsCleared};
+ghost use Rattle.owner_view.specs.declared.owned.Owned.{Owned as One};
+ghost use Rattle.owner_view.specs.Owned.{IsSame, IsMade, MayPutIn, HasPut};
+ghost use Rattle.tx_session.specs.Kept.{owned_at, TurnsOwned, TurnsBy, IsReadyIn, IsCleared};
 
-use crate::owned::Owned;
-use crate::step::Put;
 use indexmap::IndexMap;
+use owner_view::{Owned, Put};
 use pss_base::{NoMemory, OwnerNo};
 use std::alloc::Global;
 use std::hash::{BuildHasherDefault, DefaultHasher};
+use type_layout::Schema;
 
 pub type Table = IndexMap<u32, Owned, BuildHasherDefault<DefaultHasher>>;
 
@@ -48,19 +49,19 @@ pub fn clear(table: &mut Table, alloc: Global, owner: OwnerNo)
     }
 }
 
-/// Sees to it that what a step puts may be put without memory. There are so many keys in all.
+/// Sees to it that what a step puts may be put without memory.
 pub fn reserve_in(
     table: &mut Table,
     owner: OwnerNo,
-    keys: usize,
+    schema: &Schema,
     put: &Option<Put>,
 ) -> Result<(), NoMemory>
-    requires { AreAmong keys put.now }
+    requires { IsMade schema.now put.now }
     ensures same { TurnsBy IsSame table.old.entries table.new.entries owner.0 }
-    ensures ready { OnOk result (IsReadyIn owner.0 keys put.now table.new.entries) }
+    ensures ready { OnOk result (IsReadyIn owner.0 schema.now put.now table.new.entries) }
 {
     match table.get_mut(&owner.0) {
-        Some(owned) => owned.reserve(keys, put),
+        Some(owned) => owned.reserve(schema, put),
         None => Ok(()),
     }
 }

@@ -1,5 +1,5 @@
 use Rattle.std.proofs.Common.{◌≡◌, Some, None, sym, ap, ◌∙◌}
-use Rattle.tx_session.specs.Owned.{owned_at}
+use Rattle.tx_session.specs.Kept.{owned_at}
 use Rattle.tx_session.proofs.table.reserve_in.Goals as goal
 
 pub returns-in-None-clause-ready : goal.returns-in-None-clause-ready

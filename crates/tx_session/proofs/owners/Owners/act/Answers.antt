@@ -1,6 +1,5 @@
 use Rattle.pss_machine.specs.Operations.{plain_op}
-use Rattle.tx_session.proofs.Actors.{if_ok}
-use Rattle.tx_session.proofs.Indexing.{on_ok}
+use Rattle.owner_view.proofs.Outcomes.{if_ok, on_ok}
 use Rattle.tx_session.proofs.Blocking.{may_be_taken, told_busy, not_free, not_busy, not_held_up, told_answer, stepped_on}
 use Rattle.tx_session.proofs.owners.Owners.act.Goals as goal
 

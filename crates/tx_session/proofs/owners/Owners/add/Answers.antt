@@ -1,13 +1,14 @@
 use Rattle.std.proofs.Common.{◌≡◌, None, OnOk, sym, subst}
 use Rattle.std.specs.FinMap.{get, insert}
 use Rattle.pss_machine.specs.Owners.{new_owner}
+use Rattle.tx_session.specs.Kept.{IsNew}
 use Rattle.tx_session.specs.Owners.{owners_of, owners_in, Under}
-use Rattle.tx_session.proofs.Coming.{IsNew, came, each_under, each_counted, locks_there}
+use Rattle.tx_session.proofs.Coming.{came, each_under, each_counted, locks_there}
 use Rattle.tx_session.proofs.owners.Owners.add.Goals as goal
 
 module _ (c : goal.After-add) where
   is_new : IsNew c.args.level c.new.result
-  is_new = record { level_is = c.new.ensures.level; changes = c.new.ensures.changes; indexes = c.new.ensures.indexes; count = c.new.ensures.changed }
+  is_new = record { level_is = c.new.ensures.level; changes = c.new.ensures.changes; counted = c.new.ensures.counted; under = c.new.ensures.under }
 
 pub invariant_of-self : goal.invariant_of-self
 invariant_of-self c = record {

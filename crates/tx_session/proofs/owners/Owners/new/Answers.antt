@@ -7,8 +7,9 @@ use Rattle.pss_machine.specs.Needs.{Locks}
 use Rattle.pss_machine.specs.Owners.{Owner}
 use Rattle.lock_table.specs.Locks.{Held}
 use Rattle.lock_table.specs.Agreement.{HaveLocks}
-use Rattle.tx_session.specs.declared.owned.Owned.{Owned}
-use Rattle.tx_session.specs.Owned.{owned_at, IsCounted}
+use Rattle.owner_view.specs.declared.owned.Owned.{Owned}
+use Rattle.owner_view.specs.Owned.{IsCounted}
+use Rattle.tx_session.specs.Kept.{owned_at}
 use Rattle.tx_session.specs.Owners.{owners_of}
 use Rattle.tx_session.proofs.owners.Owners.new.Goals as goal
 

@@ -2,7 +2,7 @@ use Rattle.std.proofs.Common.{◌≡◌, sym, ap, subst, ◌∙◌}
 use Rattle.std.specs.FinMap.{remove}
 use Rattle.std.specs.FinSet as set
 use Rattle.lock_table.specs.Agreement.{locks_of}
-use Rattle.tx_session.specs.Owned.{IsCounted, IsIndexed}
+use Rattle.owner_view.specs.Owned.{IsCounted, IsUnder}
 use Rattle.tx_session.specs.Owners.{owners_in, Under}
 use Rattle.tx_session.proofs.Endings.{owner_went, each_left, locks_left}
 use Rattle.tx_session.proofs.owners.Owners.remove.Goals as goal
@@ -21,4 +21,4 @@ returns-clause-removed c =
 
 pub returns-clause-under : goal.returns-clause-under
 returns-clause-under c S under =
-    each_left c.self.inside.parts.locks c.self.inside.parts.table.entries c.remove.new.table.entries c.args.owner c.remove.ensures (IsIndexed S) (subst (Under S) (sym c.self.view_is) under)
+    each_left c.self.inside.parts.locks c.self.inside.parts.table.entries c.remove.new.table.entries c.args.owner c.remove.ensures (IsUnder S) (subst (Under S) (sym c.self.view_is) under)

@@ -1,45 +1,38 @@
-use Rattle.std.proofs.Common.{◌≡◌, ℕ, length, sym, ap, subst, ◌∙◌}
+use Rattle.std.proofs.Common.{◌≡◌, sym, ap, subst, ◌∙◌}
 use Rattle.lock_table.specs.Locks.{Held, granted}
 use Rattle.lock_table.specs.Agreement.{HaveLocks}
-use Rattle.tx_session.specs.Overlay.{changes_in}
-use Rattle.tx_session.specs.Views.{seen_with}
-use Rattle.tx_session.specs.Owned.{AreAmong, IsReadyIn}
+use Rattle.owner_view.specs.Views.{seen_with}
+use Rattle.owner_view.specs.Owned.{changed_by}
 use Rattle.tx_session.specs.Owners.{owners_of}
-use Rattle.tx_session.proofs.Putting.{among}
 use Rattle.tx_session.proofs.Stepping.{owners_stay, indexed_stay, counted_stay, locks_stay, may_settle, owners_stepped, under_stepped, counted_stepped, locks_stepped}
 use Rattle.tx_session.proofs.parts.Parts.take.Goals as goal
 
-pub prepare-requires-clause-among : goal.prepare-requires-clause-among
-prepare-requires-clause-among c =
-    let m = c.requires.may in
-    subst (λ (n : ℕ). AreAmong n c.args.step.put) (sym (ap length c.as_slice.ensures)) (among c.args.schema.now (seen_with m.catalog (changes_in m.owned.overlay)) m.sound c.args.step.put m.may)
+pub prepare-requires-clause-made : goal.prepare-requires-clause-made
+prepare-requires-clause-made c = (let m = c.requires.may in record { seen = seen_with m.catalog (changed_by m.owned); sound = m.sound; may = m.may })
 
 pub settle-requires : goal.settle-requires
 settle-requires c =
     may_settle c.args.schema.now c.args.self.now c.args.owner c.args.step c.requires.may c.prepare.new.self.table.entries c.in-Ok.ensures.same
-    (subst (λ (n : ℕ). IsReadyIn c.args.owner.0 n c.args.step.put c.prepare.new.self.table.entries) (ap length c.as_slice.ensures) c.in-Ok.ensures.ready)
+    c.in-Ok.ensures.ready
 
 module _ (c : goal.After-settle) where
-  ready : IsReadyIn c.args.owner.0 (length c.args.schema.now.keys) c.args.step.put c.prepare.new.self.table.entries
-  ready = subst (λ (n : ℕ). IsReadyIn c.args.owner.0 n c.args.step.put c.prepare.new.self.table.entries) (ap length c.as_slice.ensures) c.in-Ok.ensures.ready
-
   granted_is : c.settle.new.self.locks ≡ granted c.args.self.now.locks c.args.owner c.args.step.needs
   granted_is = c.settle.ensures.locks ∙ c.in-Ok.ensures.granted
 
 pub returns-in-Ok-clause-stepped : goal.returns-in-Ok-clause-stepped
 returns-in-Ok-clause-stepped c =
     ap (λ (held : Held). owners_of held c.settle.new.self.table.entries) (granted_is c)
-    ∙ owners_stepped c.args.schema.now c.args.self.now c.args.owner c.args.step c.requires.may c.prepare.new.self.table.entries c.in-Ok.ensures.same c.settle.new.self.table.entries (ready c) c.settle.ensures.put
+    ∙ owners_stepped c.args.schema.now c.args.self.now c.args.owner c.args.step c.requires.may c.prepare.new.self.table.entries c.in-Ok.ensures.same c.settle.new.self.table.entries c.in-Ok.ensures.ready c.settle.ensures.put
 
 pub returns-in-Ok-clause-under : goal.returns-in-Ok-clause-under
-returns-in-Ok-clause-under c = under_stepped c.args.schema.now c.args.self.now c.args.owner c.args.step c.requires.may c.prepare.new.self.table.entries c.in-Ok.ensures.same c.settle.new.self.table.entries (ready c) c.settle.ensures.put
+returns-in-Ok-clause-under c = under_stepped c.args.schema.now c.args.self.now c.args.owner c.args.step c.requires.may c.prepare.new.self.table.entries c.in-Ok.ensures.same c.settle.new.self.table.entries c.in-Ok.ensures.ready c.settle.ensures.put
 
 pub returns-in-Ok-clause-owners : goal.returns-in-Ok-clause-owners
 returns-in-Ok-clause-owners c = record {
   locks =
       subst (λ (held : Held). HaveLocks (owners_of held c.settle.new.self.table.entries) held) (sym (granted_is c))
-      (locks_stepped c.args.schema.now c.args.self.now c.args.owner c.args.step c.requires.may c.prepare.new.self.table.entries c.in-Ok.ensures.same c.settle.new.self.table.entries (ready c) c.settle.ensures.put);
-  counted = counted_stepped c.args.schema.now c.args.self.now c.args.owner c.args.step c.requires.may c.prepare.new.self.table.entries c.in-Ok.ensures.same c.settle.new.self.table.entries (ready c) c.settle.ensures.put;
+      (locks_stepped c.args.schema.now c.args.self.now c.args.owner c.args.step c.requires.may c.prepare.new.self.table.entries c.in-Ok.ensures.same c.settle.new.self.table.entries c.in-Ok.ensures.ready c.settle.ensures.put);
+  counted = counted_stepped c.args.schema.now c.args.self.now c.args.owner c.args.step c.requires.may c.prepare.new.self.table.entries c.in-Ok.ensures.same c.settle.new.self.table.entries c.in-Ok.ensures.ready c.settle.ensures.put;
 }
 
 pub returns-in-Err-clause-err : goal.returns-in-Err-clause-err

@@ -1,0 +1,66 @@
+-- Objects with another value of a member, and the step that sets one.
+use Rattle.std.proofs.Common.{◌≡◌, ◌<◌, ℕ, List, [], ◌∷◌, length, Option, Some, None, sym, ap, subst, ◌∙◌}
+use Rattle.std.specs.List.{slice_get}
+use Rattle.std.specs.FinMap.{get}
+use Rattle.std.proofs.lemmas.Option.{slice_get_within}
+use Rattle.pss_base.specs.declared.pid.Pid.{Pid}
+use Rattle.type_layout.specs.declared.home.HomeNo.{HomeNo}
+use Rattle.type_layout.specs.declared.schema.Schema.{Schema}
+use Rattle.type_layout.specs.Schemas.{given, members_at}
+use Rattle.type_layout.specs.Types.{PlainValue}
+use Rattle.pss_catalog.specs.Catalog.{Object, Catalog, references}
+use Rattle.pss_machine.specs.declared.level.Level.{Level}
+use Rattle.pss_machine.specs.Operations.{Set, Gone, Done}
+use Rattle.pss_machine.specs.Alone.{Outcome, answers, object_of, with_member, unless_gone, stored}
+use Rattle.pss_machine.specs.Needs.{object_need, targets}
+use Rattle.pss_machine.specs.declared.lock.Mode.TheVariants.{X as Write}
+use Rattle.pss_laws.proofs.Records.{set_record}
+use Rattle.owner_view.specs.declared.seen.Seen.{Seen}
+use Rattle.owner_view.specs.declared.step.Step.{Step}
+use Rattle.owner_view.specs.Keyed.{all_keyed, keys_of}
+use Rattle.owner_view.specs.Seen.{Fits, FitsMember, IsOfHome, IsShown, home_seen}
+use Rattle.owner_view.specs.Stored.{IsSeenAs}
+use Rattle.owner_view.specs.Steps.{with_reads, set_needs, stored_unless, changes_put, MayBePut, ComesTo, IsGone, IsStep}
+use Rattle.owner_view.proofs.Showing.{home_shown}
+use Rattle.owner_view.proofs.Needing.{set_needs_are, set_gone}
+use Rattle.owner_view.proofs.Removing.{is_there}
+
+abbrev pub shown_as : (S : Schema) (state : Option Object) (seen : Seen) → IsSeenAs S state (Some seen) → IsShown S seen
+shown_as S state seen there = record { object = there.0; fits = there.2; is = there.3 }
+
+module _ (S : Schema) (V : Catalog) (p : Pid) (member : ℕ) (value : PlainValue) (fits : FitsMember S p member value) (seen : Seen) (there : IsSeenAs S (object_of V p) (Some seen)) where
+  home_is : there.0.home ≡ record { 0 = p.home }
+  home_is = (let n = (is_there V p there.0 there.1).1 in λ i. record { 0 = n i })
+
+  member_is : slice_get (members_at S there.0.home) member ≡ Some fits.0
+  member_is = ap (λ (h : HomeNo). slice_get (members_at S h) member) home_is ∙ fits.1
+
+  pub member_there : member < length (members_at S (home_seen seen))
+  member_there = subst (λ (h : HomeNo). member < length (members_at S h)) (sym (home_shown S seen (shown_as S (object_of V p) seen there))) (slice_get_within (members_at S there.0.home) member fits.0 member_is)
+
+  pub set_fits : (object : Object) → object ≡ with_member there.0 member value → Fits S object
+  set_fits object same = subst (Fits S) (sym same) (record { home = there.2.home; there = there.2.there; is_record = set_record (members_at S there.0.home) there.0.values member fits.0 value there.2.is_record member_is fits.2 })
+
+  pub set_home : (object : Object) → object ≡ with_member there.0 member value → IsOfHome (get V p.serial) object.home
+  set_home object same = subst (λ (o : Option Object). IsOfHome o object.home) (sym (is_there V p there.0 there.1).0) (ap (λ (o : Object). o.home) (sym same))
+
+module _ (S : Schema) (level : Level) (V : Catalog) (p : Pid) (member : ℕ) (value : PlainValue) where
+  abbrev outcome : Option Object → Outcome
+  outcome o = given o (answers (Gone p)) (λ x. unless_gone V (references value) (stored S V p.serial (with_member x member value) Done))
+
+  pub set_is : (x object : Object) (referred : List Pid) (step : Step) → object_of V p ≡ Some x → object ≡ with_member x member value → referred ≡ references value
+      → ComesTo S V (with_reads level (set_needs p.serial (keys_of S (get V p.serial)) (all_keyed S object)) (targets referred)) (stored_unless S V p.serial object referred Done) step → IsStep S level V (Set p member value) step
+  set_is x object referred step there same one r = record {
+    needs = r.needs ∙ (λ i. with_reads level (set_needs p.serial (keys_of S ((is_there V p x there).0 i)) (all_keyed S (same i))) (targets (one i))) ∙ set_needs_are S level V p member value x there;
+    answer = r.answer ∙ (λ i. (stored_unless S V p.serial (same i) (one i) Done).answer) ∙ ap (λ (o : Option Object). (outcome o).answer) (sym there);
+    changes = r.changes ∙ (λ i. (stored_unless S V p.serial (same i) (one i) Done).changes) ∙ ap (λ (o : Option Object). (outcome o).changes) (sym there);
+    put = r.put;
+  }
+
+  pub set_of_gone : (referred : List Pid) (step : Step) → object_of V p ≡ None → referred ≡ references value → IsGone level p referred step → IsStep S level V (Set p member value) step
+  set_of_gone referred step none one r = record {
+    needs = r.needs ∙ ap (λ (l : List Pid). with_reads level (object_need Write p.serial ∷ []) (targets l)) one ∙ set_gone S level V p member value none;
+    answer = r.answer ∙ ap (λ (o : Option Object). (outcome o).answer) (sym none);
+    changes = ap changes_put r.put ∙ ap (λ (o : Option Object). (outcome o).changes) (sym none);
+    put = subst (MayBePut S V) (sym r.put) tt;
+  }

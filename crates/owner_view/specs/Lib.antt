@@ -1,0 +1,14 @@
+pub mod Views
+pub mod Seen
+pub mod Keyed
+pub mod Net
+pub mod States
+pub mod Overlay
+pub mod Stored
+pub mod Refusal
+pub mod Steps
+pub mod Asking
+pub mod Fitting
+pub mod Merging
+pub mod Homes
+pub mod Owned

@@ -1,0 +1,49 @@
+-- The states of objects by what stands at their serials.
+use Rattle.std.specs.Prelude.{ℕ, ◌≡◌, List, [], ◌∷◌, Option, Some, None, cond, ◌==◌}
+use Rattle.std.specs.Ordering.{nat_cmp}
+use Rattle.std.specs.Map.{lookup}
+use Rattle.std.specs.FinMap.{insert, remove, empty}
+use Rattle.std.specs.BTreeMap.{is_at}
+use Rattle.type_layout.specs.Schemas.{given}
+use Rattle.pss_catalog.specs.Catalog.{Object}
+use Rattle.pss_machine.specs.Changes.{Changes}
+use Rattle.owner_view.specs.declared.states.Slot.{Slot}
+use Rattle.owner_view.specs.declared.states.Slot.TheVariants as slot
+use Rattle.owner_view.specs.declared.states.Told.{Told}
+use Rattle.owner_view.specs.declared.states.Told.TheVariants as told
+use Rattle.owner_view.specs.Seen.{plain_object}
+
+-- the state to which an object was changed, none where it was not
+abbrev pub slot_state : Slot → Option (Option Object)
+slot_state slot.Reserved = None
+slot_state slot.Gone = Some None
+slot_state (slot.There object) = Some (Some (plain_object object))
+
+abbrev pub told_state : Told → Option (Option Object)
+told_state told.Untouched = None
+told_state told.Gone = Some None
+told_state (told.There object) = Some (Some (plain_object object.now))
+
+abbrev pub slot_at : ℕ → List (ℕ × Slot) → Option Slot
+slot_at s es = lookup (is_at (nat_cmp s)) es
+
+abbrev pub state_at : ℕ → List (ℕ × Slot) → Option (Option Object)
+state_at s es = given (slot_at s es) None slot_state
+
+-- all states stay
+abbrev pub KeepsStates : List (ℕ × Slot) → List (ℕ × Slot) → Type 0
+KeepsStates old new = (q : ℕ) → state_at q new ≡ state_at q old
+
+-- at this serial stands this state, and all others stay
+abbrev pub TurnsState : List (ℕ × Slot) → List (ℕ × Slot) → ℕ → Option (Option Object) → Type 0
+TurnsState old new s state = (q : ℕ) → state_at q new ≡ cond (s == q) state (state_at q old)
+
+-- the changes with this state at a serial, or without the serial
+abbrev pub with_told : Option (Option Object) → ℕ → Changes → Changes
+with_told None s changes = remove changes s
+with_told (Some state) s changes = insert changes s state
+
+-- the changes that slots stand for
+abbrev pub changes_of : List (ℕ × Slot) → Changes
+changes_of [] = empty
+changes_of (e ∷ es) = with_told (slot_state e.1) e.0 (changes_of es)

@@ -1,0 +1,109 @@
+// What an owner changed, and who holds which keys among the changed objects.
+ghost use Rattle.std.specs.Prelude.{◌≡◌, ◌≤◌, List, [], length, None, OnOk, IsSome};
+ghost use Rattle.std.specs.FinMap as map;
+ghost use Rattle.key_index.specs.Index.{Index};
+ghost use Rattle.owner_view.specs.States.{slot_at, slot_state, told_state, with_told};
+ghost use Rattle.storage_home.specs.Keys.{found_at, AreThere, MayPut, KeepsFound, TurnsFound, KeepsKeysReserved};
+ghost use Rattle.owner_view.specs.Overlay.{changes_in, indexes_in, IsReady, FoundAfter};
+
+use crate::states::{self, Slot, States, Told, told_at};
+use key_index::KeyIndex;
+use pss_base::{Bytes, NoMemory};
+use std::alloc::Global;
+use std::collections::BTreeMap;
+use storage_home::keys::{find, put_all, reserve_all, take_all};
+use type_layout::KeyNo;
+
+/// An owner's changes by serial, and an index for each key of the changed objects as they are now.
+#[derive(Drop)]
+pub struct Overlay {
+    alloc: Global,
+    states: States,
+    /// For each key, from number 0, of the schema under which something was changed.
+    indexes: Vec<KeyIndex>,
+}
+
+impl Overlay {
+    /// No changes. It takes no memory.
+    pub fn new(alloc: Global) -> Overlay
+        ensures changes { changes_in result ≡ map.empty }
+        ensures indexes { indexes_in result ≡ [] }
+    {
+        Overlay {
+            alloc,
+            states: BTreeMap::new(alloc),
+            indexes: Vec::new(alloc),
+        }
+    }
+
+    /// The states by serial, with the serials that are only reserved.
+    pub fn states(&self) -> &States
+        ensures { result.now ≡ self.now.states }
+    {
+        &self.states
+    }
+
+    /// What was made of the object with a serial.
+    pub fn told(&self, serial: u64) -> Told<'_>
+        ensures { told_state result ≡ map.get (changes_in self.now) serial }
+    {
+        told_at(&self.states, serial)
+    }
+
+    /// The serial of the changed object that holds a key with these bytes, where one does.
+    pub fn holder(&self, key: KeyNo, bytes: &[u8]) -> Option<u64>
+        ensures { result ≡ found_at (indexes_in self.now) key.0 bytes.now }
+    {
+        find(&self.indexes, key, bytes)
+    }
+
+    /// Sees to it that a state may be put at a serial, with these keys, without memory. Nothing that is
+    /// told changes. There are so many keys in all.
+    pub fn reserve(
+        &mut self,
+        keys: usize,
+        serial: u64,
+        pairs: &[(KeyNo, Bytes)],
+    ) -> Result<(), NoMemory>
+        requires { (indexes : List Index) → keys ≤ length indexes → AreThere indexes pairs.now }
+        ensures changes { changes_in self.new ≡ changes_in self.old }
+        ensures found { KeepsFound (indexes_in self.old) (indexes_in self.new) }
+        ensures ok { OnOk result (IsReady keys serial pairs.now self.new) }
+    {
+        states::reserve(&mut self.states, serial)?;
+        grow(self.alloc, &mut self.indexes, keys)?;
+        reserve_all(&mut self.indexes, pairs)
+    }
+
+    /// Puts a state at a serial. The keys that its object had go, and those that it has come. It takes
+    /// no memory.
+    pub fn put_reserved(
+        &mut self,
+        serial: u64,
+        slot: Slot,
+        had: &[(KeyNo, Bytes)],
+        has: &[(KeyNo, Bytes)],
+    )
+        requires there { IsSome (slot_at serial self.old.states.entries) }
+        requires had { AreThere (indexes_in self.old) had.now }
+        requires has { (between : List Index) → TurnsFound (indexes_in self.old) between had.now None → KeepsKeysReserved (indexes_in self.old) between → MayPut between has.now }
+        ensures changes { changes_in self.new ≡ with_told (slot_state slot) serial (changes_in self.old) }
+        ensures found { FoundAfter (indexes_in self.old) (indexes_in self.new) serial had.now has.now }
+        ensures size { length (indexes_in self.new) ≡ length (indexes_in self.old) }
+    {
+        states::put(&mut self.states, serial, slot);
+        take_all(&mut self.indexes, had);
+        put_all(&mut self.indexes, has, serial);
+    }
+}
+
+// Sees to it that there are indexes for so many keys.
+fn grow(alloc: Global, indexes: &mut Vec<KeyIndex>, keys: usize) -> Result<(), NoMemory>
+    ensures found { KeepsFound indexes.old.items indexes.new.items }
+    ensures ok { OnOk result (keys ≤ length indexes.new.items) }
+{
+    while indexes.len() < keys {
+        indexes.push(KeyIndex::new(alloc))?;
+    }
+    Ok(())
+}

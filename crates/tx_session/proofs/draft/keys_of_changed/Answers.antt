@@ -1,7 +1,0 @@
-use Rattle.std.proofs.Common.{refl}
-use Rattle.cdr_codec.proofs.Members.{if_ok}
-use Rattle.tx_session.specs.Seen.{plain_object}
-use Rattle.tx_session.proofs.draft.keys_of_changed.Goals as goal
-
-pub returns : goal.returns
-returns c = if_ok c.keyed_of.result _ _ (λ pairs tells. tells (record { object = plain_object c.args.object.now; fits = c.requires.fits; is = refl })) c.keyed_of.ensures

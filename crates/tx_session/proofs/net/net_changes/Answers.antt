@@ -1,8 +1,0 @@
-use Rattle.tx_session.specs.Overlay.{changes_in}
-use Rattle.tx_session.proofs.Commits.{net_wanted}
-use Rattle.tx_session.proofs.net.net_changes.Goals as goal
-
-pub returns-clause-wanted : goal.returns-clause-wanted
-returns-clause-wanted g c v =
-    let S = c.args.view.now.schema.now in
-    net_wanted S v.catalog v.sound (g.met.C.Committed.fits c.args.view.now.committed.now S v.catalog v.shown) (changes_in c.args.view.now.overlay.now) c.put_net.new.changes v.fits (c.in_ok-put_net.ensures v)

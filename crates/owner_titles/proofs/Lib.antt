@@ -1,0 +1,5 @@
+pub mod Tables
+pub mod Naming
+pub mod Sounds
+pub mod Machine
+pub mod Follow

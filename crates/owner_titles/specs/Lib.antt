@@ -1,0 +1,4 @@
+pub mod Codes
+pub mod Meaning
+pub mod History
+pub mod inner

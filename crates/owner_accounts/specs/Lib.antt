@@ -1,0 +1,7 @@
+pub mod Reached
+pub mod Accounts
+pub mod Steps
+pub mod Coming
+pub mod Commits
+pub mod Weights
+pub mod inner

@@ -1,0 +1,4 @@
+pub mod Told
+pub mod Seats
+pub mod Ruled
+pub mod Stepped

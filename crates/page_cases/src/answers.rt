@@ -6,7 +6,7 @@ ghost use Rattle.pss_disk.specs.Tape.{now_of, state_of};
 use crate::checkpoints::{Changes, make};
 use crate::crashes::{append_crashes, word_of};
 use crate::roots::{append_pages, append_root, station_of};
-use crate::words::{number_of, octets_of, split_word};
+use case_lines::{Cases, number_of, octets_of, split_word};
 use pss_base::{Bytes, NoMemory, Put, Puts};
 use pss_disk::MemStation;
 use std::alloc::Global;
@@ -100,7 +100,7 @@ fn fill(alloc: Global, puts: &mut Puts, rest: &[u8]) -> Result<(), NoMemory> {
 fn tell_checkpoint(
     alloc: Global,
     out: &mut Bytes,
-    state: &mut State,
+    state: &mut Stores,
     rest: &[u8],
 ) -> Result<(), NoMemory> {
     let mut station = station_of(alloc, &state.store, &[])?;
@@ -121,7 +121,7 @@ fn tell_checkpoint(
 fn tell_crashes(
     alloc: Global,
     out: &mut Bytes,
-    state: &State,
+    state: &Stores,
     rest: &[u8],
 ) -> Result<(), NoMemory> {
     let changes = Changes {
@@ -149,40 +149,36 @@ fn tell_sum(alloc: Global, out: &mut Bytes, store: &[u8], rest: &[u8]) -> Result
     out.extend(format!(in alloc; "{sum}\n")?.as_bytes())
 }
 
-// The store, and the changes that were told for the next checkpoint.
+/// A store, and the changes that were told for its next checkpoint.
 #[derive(Drop)]
-struct State {
+pub struct Stores {
     store: Vec<u8>,
     puts: Puts,
 }
 
-fn answer(alloc: Global, out: &mut Bytes, state: &mut State, line: &[u8]) -> Result<(), NoMemory> {
-    let (word, rest) = split_word(line);
-    match word {
-        b"store" => begin(&mut state.store, rest),
-        b"octets" => put(alloc, &mut state.store, rest),
-        b"root" => tell_root(alloc, out, &state.store, rest),
-        b"pages" => tell_pages(alloc, out, &state.store, rest),
-        b"change" => change(alloc, &mut state.puts, rest),
-        b"fill" => fill(alloc, &mut state.puts, rest),
-        b"checkpoint" => tell_checkpoint(alloc, out, state, rest),
-        b"crashes" => tell_crashes(alloc, out, state, rest),
-        b"sum" => tell_sum(alloc, out, &state.store, rest),
-        _ => out.extend(b"no command\n"),
+impl Stores {
+    pub fn new(alloc: Global) -> Stores {
+        Stores {
+            store: Vec::new(alloc),
+            puts: Puts::new(alloc),
+        }
     }
 }
 
-/// The answers to all lines of commands.
-pub fn answers(alloc: Global, input: &[u8]) -> Result<Bytes, NoMemory> {
-    let mut out = Bytes::new(alloc);
-    let mut state = State {
-        store: Vec::new(alloc),
-        puts: Puts::new(alloc),
-    };
-    for line in input.split(|byte| *byte == b'\n') {
-        if !line.is_empty() {
-            answer(alloc, &mut out, &mut state, line)?;
+impl Cases for Stores {
+    fn answer(&mut self, alloc: Global, out: &mut Bytes, line: &[u8]) -> Result<(), NoMemory> {
+        let (word, rest) = split_word(line);
+        match word {
+            b"store" => begin(&mut self.store, rest),
+            b"octets" => put(alloc, &mut self.store, rest),
+            b"root" => tell_root(alloc, out, &self.store, rest),
+            b"pages" => tell_pages(alloc, out, &self.store, rest),
+            b"change" => change(alloc, &mut self.puts, rest),
+            b"fill" => fill(alloc, &mut self.puts, rest),
+            b"checkpoint" => tell_checkpoint(alloc, out, self, rest),
+            b"crashes" => tell_crashes(alloc, out, self, rest),
+            b"sum" => tell_sum(alloc, out, &self.store, rest),
+            _ => out.extend(b"no command\n"),
         }
     }
-    Ok(out)
 }

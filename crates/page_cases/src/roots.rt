@@ -1,10 +1,10 @@
 // The root and the pages of a store in memory.
 ghost use Rattle.std.specs.Prelude.{IfOk, Some};
-ghost use Rattle.page_store.specs.Roots.{IsWithinLimits};
+ghost use Rattle.page_format.specs.Roots.{IsWithinLimits};
 ghost use Rattle.pss_disk.specs.Moments.{IsSettled};
 ghost use Rattle.pss_disk.specs.Tape.{now_of, state_of};
 
-use crate::words::append_octets;
+use case_lines::append_octets;
 use page_store::{PageFault, Pages, Root, RootFault, read_root};
 use pss_base::{Bytes, DamageKind, NoMemory, Put};
 use pss_disk::MemStation;

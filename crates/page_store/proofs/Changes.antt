@@ -8,8 +8,8 @@ use Rattle.std.specs.FinMap as finite
 use Rattle.std.specs.Map.{lookup}
 use Rattle.std.specs.Ordering.{eq_by_cmp, nat_cmp}
 use Rattle.pss_base.specs.declared.put.Put.{Put}
-use Rattle.page_store.specs.Objects.{Objects, over, with_record}
-use Rattle.page_store.specs.declared.objects.Stored.{Stored}
+use Rattle.page_format.specs.Objects.{Objects, over, with_record}
+use Rattle.page_format.specs.declared.objects.Stored.{Stored}
 use Rattle.page_store.specs.inner.Shown.{AreShown}
 use Rattle.page_store.proofs.ByKey.{tie}
 

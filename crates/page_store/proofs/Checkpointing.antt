@@ -3,14 +3,14 @@ use Rattle.std.proofs.Common.{ℕ, ◌≡◌, inl, inr, List, Some, None, IfSome
 use Rattle.std.specs.declared.option.Option.{Option}
 use Rattle.pss_disk.specs.Moments.{Disk, IsImage, IsOnlyImage, IsSettled, IsStill, Moment, Through}
 use Rattle.pss_disk.proofs.Passing.{then_come, weaker}
-use Rattle.page_store.specs.Checkpoints.{IsCheckpointed, IsEitherStore, IsMade, MayCheckpoint}
+use Rattle.page_store.specs.Checkpoints.{ArePackedAnew, IsCheckpointed, IsEitherStore, IsLaid, IsMade, MayCheckpoint, kept_slots}
 use Rattle.page_store.specs.Kept.{Kept}
 use Rattle.page_store.specs.Stores.{AllHave, IsEmptied}
-use Rattle.page_store.specs.Switch.{HasPages, IsEither, IsNextOf, MayFollow, Next, Old}
-use Rattle.page_store.specs.declared.new_page.NewPage.{NewPage}
+use Rattle.page_store.specs.Switch.{HasPages, IsEither, IsNextOf, IsWritten, MayFollow, Next, Old}
+use Rattle.page_format.specs.declared.new_page.NewPage.{NewPage}
 use Rattle.page_store.specs.declared.pages.planning.Plan.{Plan}
-use Rattle.page_store.specs.inner.Planned.{IsPlanned, next_of}
-use Rattle.page_store.proofs.Buffers.{of_some, some_both}
+use Rattle.page_store.specs.inner.Planned.{IsNextRoot, IsPlanned, next_of}
+use Rattle.page_format.proofs.Buffers.{of_some, some_both}
 use Rattle.page_store.proofs.Following.{kept_of}
 
 -- what is told of a value that there is
@@ -89,3 +89,14 @@ module _ (kept : Kept) (next : ℕ) (plan : Plan) (three : Kept) (pages : List N
 pub only_planned : (kept : Kept) (next : ℕ) (content : Option (List ℕ)) (first second : List Moment) (now : Moment) → IsSettled content now → Through first second (IsStill now) → (old : Old) → IfSome content (λ c. MayCheckpoint old kept next c → Through first second (AllHave (IsEitherStore old kept next)))
 only_planned kept next content first second now settled time old =
     told content (λ c. MayCheckpoint old kept next c → Through first second (AllHave (IsEitherStore old kept next))) (λ c is may. while_planned old kept next content c first second now is may settled time)
+
+-- what is written of the root that was planned
+pub all_laid : (kept : Kept) (next : ℕ) (plan : Plan) (pages : List NewPage) (content between after : Option (List ℕ)) → pages ≡ plan.pages.items → between ≡ content → IfSome content (ArePackedAnew kept plan.pages.items) → IsNextRoot kept (kept_slots kept) plan.pages.items next plan.root
+    → IfSome between (λ before. IfSome after (IsWritten plan.root pages before)) → IfSome content (λ c. IfSome after (IsLaid kept next c))
+all_laid kept next plan pages content between after pages_ same packed root written =
+    by content after packed (subst (λ (o : Option (List ℕ)). IfSome o (λ before. IfSome after (IsWritten plan.root plan.pages.items before))) same (subst (λ (ps : List NewPage). IfSome between (λ before. IfSome after (IsWritten plan.root ps before))) pages_ written))
+  where
+    by : (content after : Option (List ℕ)) → IfSome content (ArePackedAnew kept plan.pages.items) → IfSome content (λ before. IfSome after (IsWritten plan.root plan.pages.items before)) → IfSome content (λ c. IfSome after (IsLaid kept next c))
+    by None after p w = tt
+    by (Some c) None p w = tt
+    by (Some c) (Some d) p w = record { root = plan.root; pages = plan.pages.items; packed = p; area_ = root.area_; epoch_ = root.epoch_; next_ = root.next_; shape_ = root.shape_; slots_ = root.slots_; written = w }

@@ -9,14 +9,14 @@ use Rattle.pss_disk.specs.Parts.{octet_at}
 use Rattle.pss_disk.proofs.Parts.{agrees_at}
 use Rattle.pss_disk.proofs.Passing.{weaker}
 use Rattle.redo_journal.specs.Journal.{IsClosed, IsOpen}
-use Rattle.page_store.specs.Laws.{AreSame}
-use Rattle.page_store.specs.Places.{area_start, slot_end, slot_start}
-use Rattle.page_store.specs.Roots.{Follows, HasRoot, IsRoot, root_magic}
+use Rattle.page_format.specs.Laws.{AreSame}
+use Rattle.page_format.specs.Places.{area_start, slot_end, slot_start}
+use Rattle.page_format.specs.Roots.{Follows, HasRoot, IsRoot, root_magic}
 use Rattle.page_store.specs.Stores.{AllHave, HasStore}
-use Rattle.page_store.specs.Pages.{Entry}
-use Rattle.page_store.specs.declared.root.Root.{Root}
+use Rattle.page_format.specs.declared.entry.Entry.{Entry}
+use Rattle.page_format.specs.declared.root.Root.{Root}
 use Rattle.page_store.specs.inner.Gates.{IsAnywhere}
-use Rattle.page_store.proofs.Staying.{eight_same, pages_kept, root_kept, slot_inside, stands_same, store_kept}
+use Rattle.page_format.proofs.Staying.{eight_same, pages_kept, root_kept, slot_inside, stands_same, store_kept}
 
 -- the gate of the root area that is not current
 abbrev pub other_gate : Root → ℕ

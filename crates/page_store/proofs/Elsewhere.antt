@@ -9,11 +9,11 @@ use Rattle.pss_disk.specs.Parts.{octet_at}
 use Rattle.pss_disk.specs.inner.Writing.{length-octets_in}
 use Rattle.pss_disk.proofs.Parts.{in_part, stands_at, written_stands}
 use Rattle.redo_journal.specs.Journal.{journal_start}
-use Rattle.page_store.specs.Places.{area_start, slot_start}
+use Rattle.page_format.specs.Places.{area_start, slot_start}
 use Rattle.page_store.specs.Switch.{IsWritten}
-use Rattle.page_store.specs.Written.{list_octets, root_octets, whole_page, with_pages}
-use Rattle.page_store.specs.declared.new_page.NewPage.{NewPage}
-use Rattle.page_store.specs.declared.root.Root.{Root}
+use Rattle.page_format.specs.Written.{list_octets, root_octets, whole_page, with_pages}
+use Rattle.page_format.specs.declared.new_page.NewPage.{NewPage}
+use Rattle.page_format.specs.declared.root.Root.{Root}
 use Rattle.page_store.specs.inner.Switching.{Becomes}
 use Rattle.page_store.proofs.Laid.{laid}
 

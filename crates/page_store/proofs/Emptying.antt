@@ -9,12 +9,12 @@ use Rattle.pss_disk.specs.Parts.{octet_at}
 use Rattle.pss_disk.proofs.Parts.{agrees_at}
 use Rattle.pss_disk.proofs.Passing.{weaker}
 use Rattle.redo_journal.specs.Journal.{HasEpoch, IsClosed, IsOpen, journal_start}
-use Rattle.page_store.specs.Pages.{Entry}
+use Rattle.page_format.specs.declared.entry.Entry.{Entry}
 use Rattle.page_store.specs.Stores.{AllHave, HasStore, IsEmptied}
-use Rattle.page_store.specs.declared.root.Root.{Root}
+use Rattle.page_format.specs.declared.root.Root.{Root}
 use Rattle.page_store.specs.inner.Gates.{IsAnywhere}
 use Rattle.page_store.proofs.Closing.{last_of, long_of, store_anywhere, untold}
-use Rattle.page_store.proofs.Staying.{stands_same, store_kept}
+use Rattle.page_format.proofs.Staying.{stands_same, store_kept}
 
 module _ (root : Root) (objects : List Entry) (c image : List ℕ) (has : IsEmptied root objects c) (agrees : Agrees (λ i. i ≢ journal_start) c image) (long : length c ≤ length image) where
   same : (i : ℕ) → i ≢ journal_start → i < length c → octet_at image i ≡ octet_at c i

@@ -13,16 +13,16 @@ use Rattle.pss_disk.proofs.Images.{agrees_write, misses_but}
 use Rattle.pss_disk.proofs.Parts.{agrees_at}
 use Rattle.pss_disk.proofs.Passing.{weaker}
 use Rattle.redo_journal.specs.Journal.{Holds, IsClosed, Position, journal_end, journal_start}
-use Rattle.page_store.specs.Laws.{AreSame}
-use Rattle.page_store.specs.Pages.{ArePages, IsPage}
-use Rattle.page_store.specs.Places.{area_start, slot_end, slot_start}
+use Rattle.page_format.specs.Laws.{AreSame}
+use Rattle.page_format.specs.Pages.{ArePages, IsPage}
+use Rattle.page_format.specs.Places.{area_start, slot_end, slot_start}
 use Rattle.page_store.specs.Stores.{AllHave, HasStore, IsEmptied, IsJournal, IsSwitched}
 use Rattle.page_store.specs.Switch.{HasOld, HasPages, IsEither, MayFollow, Next, Old, objects_of, places_of, slots_of}
 use Rattle.page_store.specs.inner.Switching.{IsEntered, IsReady, LaysReady, MakesReady, MayBeLaid}
 use Rattle.page_store.proofs.Emptying.{store_there}
 use Rattle.page_store.proofs.JournalThere.{holds_there}
 use Rattle.page_store.proofs.Opening.{store_while_closed}
-use Rattle.page_store.proofs.Staying.{all_entries, all_places, pages_kept, used_same}
+use Rattle.page_format.proofs.Staying.{all_entries, all_places, pages_kept, used_same}
 use Rattle.page_store.proofs.Switching.{through_both, through_weaker}
 
 -- no record of an epoch stands in the journal

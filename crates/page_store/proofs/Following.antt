@@ -14,16 +14,17 @@ use Rattle.std.specs.declared.option.Option.{Option}
 use Rattle.pss_base.specs.declared.put.Put.{Put}
 use Rattle.redo_journal.specs.Journal.{Ends, HasEpoch, IsClosed, journal_start}
 use Rattle.page_store.specs.Checkpoints.{AreSomeOf, IsSmallAmong, MayCheckpoint, changed_octets, kept_slots, moved, repacked_slots, touched_pages}
-use Rattle.page_store.specs.Kept.{IsKept, IsSmallOne, Kept, rows_in}
-use Rattle.page_store.specs.Objects.{by_serial, over, stored_of}
-use Rattle.page_store.specs.Packing.{OnlyLastIsSmall, entries_on, is_among, used_by}
-use Rattle.page_store.specs.Pages.{AreGiven, Entry, IsPage, IsSmall, entries_in, octets_in_use, places_in, serials_of}
+use Rattle.page_store.specs.Kept.{IsKept, Kept, rows_in}
+use Rattle.page_format.specs.Objects.{by_serial, over, stored_of}
+use Rattle.page_format.specs.Packing.{OnlyLastIsSmall, entries_on, is_among, used_by}
+use Rattle.page_format.specs.Pages.{AreGiven, IsPage, IsSmall, IsSmallOne, entries_in, octets_in_use, places_in, serials_of}
+use Rattle.page_format.specs.declared.entry.Entry.{Entry}
 use Rattle.page_store.specs.Placed.{is_noted, placed}
-use Rattle.page_store.specs.Places.{slot_start}
+use Rattle.page_format.specs.Places.{slot_start}
 use Rattle.page_store.specs.Switch.{HasPages, MayFollow, Next, Old, objects_of, places_of, slots_of, uses_of}
 use Rattle.page_store.specs.Touched.{is_in, is_repacked, is_touched}
-use Rattle.page_store.specs.declared.new_page.NewPage.{NewPage}
-use Rattle.page_store.specs.declared.objects.Stored.{Stored}
+use Rattle.page_format.specs.declared.new_page.NewPage.{NewPage}
+use Rattle.page_format.specs.declared.objects.Stored.{Stored}
 use Rattle.page_store.specs.declared.pages.planning.Plan.{Plan}
 use Rattle.page_store.specs.inner.Located.{Apart, at, located}
 use Rattle.page_store.specs.inner.Planned.{IsPlan, IsPlanned, next_of}
@@ -67,7 +68,7 @@ or_second : (a b : Bool) → b ≡ true → (a || b) ≡ true
 or_second true b e = refl
 or_second false b e = e
 
-objects_packed : (pages : List NewPage) → objects_of pages ≡ entries_on (map (λ p. p.entries) pages)
+pub objects_packed : (pages : List NewPage) → objects_of pages ≡ entries_on (map (λ p. p.entries) pages)
 objects_packed [] = refl
 objects_packed (page ∷ pages) = ap (λ l. page.entries ++ l) (objects_packed pages)
 
@@ -80,7 +81,7 @@ last_alone (page ∷ second ∷ pages) are (suc j) zero less lt small = absurd (
 last_alone (page ∷ second ∷ pages) are (suc j) (suc k) less lt small = last_alone (second ∷ pages) are.1 j k (omega (arith, less)) (omega (arith, lt)) small
 
 module _ (old : Old) (kept : Kept) (next : ℕ) (c : List ℕ) (may : MayCheckpoint old kept next c) where
-  apart : Apart (located c kept.slots)
+  pub apart : Apart (located c kept.slots)
   apart =
       let given : AreGiven old.root.next [] (serials_of (entries_in c kept.slots)) = subst (λ (l : List ℕ). AreGiven old.root.next [] (serials_of (entries_in c l))) (sym may.kept_.slots_) may.store.pages.given in
       apart-unmap (λ (x : ℕ × Stored). x.1) (located c kept.slots) (subst Apart (sym (stored_located c kept.slots)) (apart_from old.root.next [] (entries_in c kept.slots) given))
@@ -88,13 +89,13 @@ module _ (old : Old) (kept : Kept) (next : ℕ) (c : List ℕ) (may : MayCheckpo
   place_is : (q : ℕ) → finite.get kept.places q ≡ at q (places_in c kept.slots)
   place_is q = ap (λ m. finite.get m q) may.kept_.places_ ∙ get_entries (places_in c old.root.slots) q ∙ ap (λ (l : List ℕ). at q (places_in c l)) (sym may.kept_.slots_)
 
-  touches : (q s : ℕ) (x : Stored) → is_noted q kept.noted ≡ true → at q (located c kept.slots) ≡ Some (s, x) → is_repacked kept.places kept.noted kept.small s ≡ true
+  pub touches : (q s : ℕ) (x : Stored) → is_noted q kept.noted ≡ true → at q (located c kept.slots) ≡ Some (s, x) → is_repacked kept.places kept.noted kept.small s ≡ true
   touches q s x noted there =
       let place : finite.get kept.places q ≡ Some s = place_is q ∙ ap (at q) (sym (slots_located c kept.slots)) ∙ at-map (λ (x : ℕ × Stored). x.0) q (located c kept.slots) ∙ ap (option_map (λ (x : ℕ × Stored). x.0)) there in
       or_first (is_touched kept.places kept.noted s) (is_in s kept.small) (touched_by kept.places kept.noted q s place noted)
 
   -- no page that stays has little in use
-  large : (k : ℕ) → k < length (kept_slots kept) → IsSmall c (get_or (kept_slots kept) k 0) → ⊥
+  pub large : (k : ℕ) → k < length (kept_slots kept) → IsSmall c (get_or (kept_slots kept) k 0) → ⊥
   large k lt small =
       let s = get_or (kept_slots kept) k 0 in
       let there = filter_each (λ s. not (is_repacked kept.places kept.noted kept.small s)) kept.slots k lt in
@@ -235,17 +236,29 @@ small_after old next before after (Some slot) may has some =
     let used = ap (λ (s : ℕ). octets_in_use after (slot_start s)) (sym some.2) ∙ has.new_uses k some.1 in
     (length next.kept + k, omega (arith, e, long, many, some.1), here, omega (arith, used, some.3))
 
+-- what a plan is laid out of, by the steps that lead to it
+module _ (kept one two : Kept) (noted : List Put) (noted_ : noted ≡ kept.noted) (one_ : one ≡ record kept { noted = []; room = 0 }) where
+  abbrev bare : Kept
+  bare = record kept { noted = []; room = 0 }
+
+  pub repacked_is : (repacked : List ℕ) → repacked ≡ repacked_slots (record one { noted = noted }) → repacked ≡ repacked_slots kept
+  repacked_is repacked is = is ∙ ap (λ (k : Kept). repacked_slots (record k { noted = noted })) one_ ∙ ap (λ (ns : List Put). repacked_slots (record bare { noted = ns })) noted_
+
+  pub stay_is : (stay : List ℕ) → stay ≡ kept_slots (record one { noted = noted }) → stay ≡ kept_slots kept
+  stay_is stay is = is ∙ ap (λ (k : Kept). kept_slots (record k { noted = noted })) one_ ∙ ap (λ (ns : List Put). kept_slots (record bare { noted = ns })) noted_
+
+  pub anew_is : (c repacked : List ℕ) → repacked ≡ repacked_slots (record one { noted = noted }) → (packed : List (List Entry)) → AreRepacked (over (over finite.empty (rows_in c repacked)) noted) packed → AreRepacked (over (over finite.empty (rows_in c (repacked_slots kept))) kept.noted) packed
+  anew_is c repacked is packed re =
+      subst (λ (l : List ℕ). AreRepacked (over (over finite.empty (rows_in c l)) kept.noted) packed) (repacked_is repacked is) (subst (λ (ns : List Put). AreRepacked (over (over finite.empty (rows_in c repacked)) ns) packed) noted_ re)
+
 -- what was planned, of the steps that planned it
 pub planned_of : (old : Old) (kept : Kept) (next : ℕ) (c : List ℕ) → MayCheckpoint old kept next c → (one two three : Kept) (noted : List Put) → noted ≡ kept.noted → one ≡ record kept { noted = []; room = 0 } → (repacked stay : List ℕ) → repacked ≡ repacked_slots (record one { noted = noted })
     → stay ≡ kept_slots (record one { noted = noted }) → two ≡ record one { places = two.places } → ((q : ℕ) → finite.get two.places q ≡ cond (is_noted q noted) None (finite.get one.places q)) → (packed : List (List Entry))
     → AreRepacked (over (over finite.empty (rows_in c repacked)) noted) packed → (plan : Plan) → IsPlan two stay packed next plan → three ≡ record two { places = three.places } → ((q : ℕ) → finite.get three.places q ≡ placed plan.pages.items q (finite.get two.places q))
     → IsPlanned old kept next plan three c
 planned_of old kept next c may one two three noted noted_ one_ repacked stay repacked_ stay_ two_ parted packed re plan is three_ laid =
-    let bare : Kept = record kept { noted = []; room = 0 } in
-    let repacked_is : repacked ≡ repacked_slots kept = repacked_ ∙ ap (λ (k : Kept). repacked_slots (record k { noted = noted })) one_ ∙ ap (λ (ns : List Put). repacked_slots (record bare { noted = ns })) noted_ in
-    let stay_is : stay ≡ kept_slots kept = stay_ ∙ ap (λ (k : Kept). kept_slots (record k { noted = noted })) one_ ∙ ap (λ (ns : List Put). kept_slots (record bare { noted = ns })) noted_ in
-    let re' = subst (λ (l : List ℕ). AreRepacked (over (over finite.empty (rows_in c l)) kept.noted) packed) repacked_is (subst (λ (ns : List Put). AreRepacked (over (over finite.empty (rows_in c repacked)) ns) packed) noted_ re) in
-    let is' = subst (λ (l : List ℕ). IsPlan two l packed next plan) stay_is is in
+    let re' = anew_is kept one two noted noted_ one_ c repacked repacked_ packed re in
+    let is' = subst (λ (l : List ℕ). IsPlan two l packed next plan) (stay_is kept one two noted noted_ one_ stay stay_) is in
     let area_ : two.area ≡ kept.area = ap (λ (k : Kept). k.area) two_ ∙ ap (λ (k : Kept). k.area) one_ in
     let epoch_ : two.epoch ≡ kept.epoch = ap (λ (k : Kept). k.epoch) two_ ∙ ap (λ (k : Kept). k.epoch) one_ in
     let shape_ : two.shape ≡ kept.shape = ap (λ (k : Kept). k.shape) two_ ∙ ap (λ (k : Kept). k.shape) one_ in

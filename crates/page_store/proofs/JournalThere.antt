@@ -13,7 +13,7 @@ use Rattle.redo_journal.proofs.Chains.{chain_later}
 use Rattle.redo_journal.proofs.Spelling.{length-spelled}
 use Rattle.page_store.specs.Stores.{AllHave, IsJournal}
 use Rattle.page_store.proofs.Closing.{untold}
-use Rattle.page_store.proofs.Staying.{stands_same}
+use Rattle.page_format.proofs.Staying.{stands_same}
 
 -- the same octets from the first gate up to the last one
 chain_within : (epoch : ℕ) (a b : List ℕ) (gate : ℕ) (bodies : List (List ℕ)) (last : ℕ) → Chain epoch a gate bodies last → ((i : ℕ) → gate ≤ i → i < last → octet_at a i ≡ octet_at b i) → Chain epoch b gate bodies last

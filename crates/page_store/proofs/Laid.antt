@@ -5,14 +5,13 @@ use Rattle.std.specs.Option.{option_map}
 use Rattle.pss_disk.specs.Images.{Agrees, Misses}
 use Rattle.pss_disk.specs.Octets.{range_of, write}
 use Rattle.pss_disk.proofs.Images.{agrees_then, agrees_write}
-use Rattle.page_store.specs.Places.{area_start, slot_start}
-use Rattle.page_store.specs.Switch.{AreWritable, IsWritable}
-use Rattle.page_store.specs.Written.{list_octets, root_octets, whole_page, with_pages, with_root}
-use Rattle.page_store.specs.declared.new_page.NewPage.{NewPage}
-use Rattle.page_store.specs.declared.root.Root.{Root}
+use Rattle.page_format.specs.Places.{area_start, slot_start}
+use Rattle.page_format.specs.Written.{AreWritable, IsWritable, list_octets, root_octets, whole_page, with_pages, with_root}
+use Rattle.page_format.specs.declared.new_page.NewPage.{NewPage}
+use Rattle.page_format.specs.declared.root.Root.{Root}
 use Rattle.page_store.specs.inner.Laying.{IsApart, IsLeft}
 use Rattle.page_store.proofs.PageRuns.{both_maps, misses_root, not_within}
-use Rattle.page_store.proofs.Spelled.{length_list, length_root, length_whole}
+use Rattle.page_format.proofs.Spelled.{length_list, length_root, length_whole}
 
 misses_page : (area epoch : ℕ) (all ps : List NewPage) (p : NewPage) → IsWritable p → ((i : ℕ) → IsApart all i → IsApart (p ∷ ps) i) → Misses (IsLeft area all) (range_of (slot_start p.slot) (whole_page epoch p))
 misses_page area epoch all ps p ok fewer i left =

@@ -10,18 +10,18 @@ use Rattle.pss_disk.specs.inner.Writing.{length-write}
 use Rattle.pss_disk.proofs.Images.{agrees_write}
 use Rattle.pss_disk.proofs.Parts.{stands_first, stands_second, stands_still, written_stands}
 use Rattle.redo_journal.specs.Journal.{journal_end}
-use Rattle.page_store.specs.Pages.{IsPage, entries_of, octets_in_use}
-use Rattle.page_store.specs.Places.{area_start, slot_end, slot_start}
-use Rattle.page_store.specs.Roots.{epoch_in, next_in, page_count_in, root_magic, shape_length_in}
-use Rattle.page_store.specs.Switch.{AreWritable, IsWritable, slots_of}
-use Rattle.page_store.specs.Written.{entries_octets, list_octets, page_octets, root_octets, whole_page, with_pages}
-use Rattle.page_store.specs.declared.new_page.NewPage.{NewPage}
-use Rattle.page_store.specs.declared.root.Root.{Root}
+use Rattle.page_format.specs.Pages.{IsPage, entries_of, octets_in_use}
+use Rattle.page_format.specs.Places.{area_start, slot_end, slot_start}
+use Rattle.page_format.specs.Roots.{epoch_in, next_in, page_count_in, root_magic, shape_length_in}
+use Rattle.page_store.specs.Switch.{slots_of}
+use Rattle.page_format.specs.Written.{AreWritable, IsWritable, entries_octets, list_octets, page_octets, root_octets, whole_page, with_pages}
+use Rattle.page_format.specs.declared.new_page.NewPage.{NewPage}
+use Rattle.page_format.specs.declared.root.Root.{Root}
 use Rattle.page_store.specs.inner.Laying.{IsApart, IsLeft}
-use Rattle.page_store.proofs.EntryOctets.{page_entries, page_read, used_read}
+use Rattle.page_format.proofs.EntryOctets.{page_entries, page_read, used_read}
 use Rattle.page_store.proofs.Laid.{pages_agree}
 use Rattle.page_store.proofs.PageRuns.{not_within}
-use Rattle.page_store.proofs.Spelled.{few_entries, length_whole}
+use Rattle.page_format.proofs.Spelled.{few_entries, length_whole}
 
 -- a write makes a content no shorter, and reaches its own end
 pub no_shorter : (at : ℕ) (bytes c : List ℕ) → length c ≤ length (write at bytes c)

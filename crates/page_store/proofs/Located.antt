@@ -11,12 +11,13 @@ use Rattle.std.specs.Cmp.{nat_cmp_total}
 use Rattle.std.specs.FinMap as finite
 use Rattle.std.specs.declared.option.Option.{Option}
 use Rattle.pss_base.specs.declared.put.Put.{Put}
-use Rattle.page_store.specs.Objects.{Objects, over, stored_of, with_record}
-use Rattle.page_store.specs.Pages.{Entry, entries_in, entries_of, places_in, put_of}
+use Rattle.page_format.specs.Objects.{Objects, over, stored_of, with_record}
+use Rattle.page_format.specs.Pages.{entries_in, entries_of, places_in, put_of}
+use Rattle.page_format.specs.declared.entry.Entry.{Entry}
 use Rattle.page_store.specs.Placed.{is_noted}
-use Rattle.page_store.specs.Places.{slot_start}
+use Rattle.page_format.specs.Places.{slot_start}
 use Rattle.page_store.specs.Touched.{is_in, is_touched}
-use Rattle.page_store.specs.declared.objects.Stored.{Stored}
+use Rattle.page_format.specs.declared.objects.Stored.{Stored}
 use Rattle.page_store.specs.inner.Located.{Apart, after, at, left_by, located, located_of}
 use Rattle.page_store.proofs.ByKey.{tie}
 use Rattle.page_store.proofs.Turned.{map-append}

@@ -7,12 +7,13 @@ use Rattle.std.specs.List.{filter}
 use Rattle.std.specs.Option.{option_map, option_or}
 use Rattle.std.specs.declared.option.Option.{Option}
 use Rattle.pss_base.specs.declared.put.Put.{Put}
-use Rattle.page_store.specs.Objects.{by_serial, over, stored_of}
-use Rattle.page_store.specs.Pages.{Entry, entries_in, places_in, put_of}
+use Rattle.page_format.specs.Objects.{by_serial, over, stored_of}
+use Rattle.page_format.specs.Pages.{entries_in, places_in, put_of}
+use Rattle.page_format.specs.declared.entry.Entry.{Entry}
 use Rattle.page_store.specs.Placed.{is_noted, is_object, placed}
 use Rattle.page_store.specs.Switch.{objects_of, places_of}
-use Rattle.page_store.specs.declared.new_page.NewPage.{NewPage}
-use Rattle.page_store.specs.declared.objects.Stored.{Stored}
+use Rattle.page_format.specs.declared.new_page.NewPage.{NewPage}
+use Rattle.page_format.specs.declared.objects.Stored.{Stored}
 use Rattle.page_store.specs.inner.Located.{Apart, after, at, located}
 use Rattle.page_store.proofs.ByKey.{get_entries}
 use Rattle.page_store.proofs.Located.{after_noted, after_other, apart-filter, apart-map, at-append, at-filter, at-map, eqb_turn, get-over, get_rows, located-filter, none_alike, slots_located, stored_located}
@@ -125,7 +126,7 @@ module _ (image slots : List ℕ) (p : ℕ → Bool) (noted : List Put) (apart :
   filtered : (test : ℕ → Bool) (q : ℕ) → at q (located image (filter test slots)) ≡ option_filter (λ (x : ℕ × Stored). test x.0) (at q (located image slots))
   filtered test q = ap (at q) (located-filter test image slots) ∙ at-filter (λ (x : ℕ × Stored). test x.0) q (located image slots) apart
 
-  part_at : (test : ℕ → Bool) (q : ℕ) → at q (map stored_of (entries_in image (filter test slots))) ≡ option_map (λ (x : ℕ × Stored). x.1) (option_filter (λ (x : ℕ × Stored). test x.0) (at q (located image slots)))
+  pub part_at : (test : ℕ → Bool) (q : ℕ) → at q (map stored_of (entries_in image (filter test slots))) ≡ option_map (λ (x : ℕ × Stored). x.1) (option_filter (λ (x : ℕ × Stored). test x.0) (at q (located image slots)))
   part_at test q = ap (at q) (sym (stored_located image (filter test slots))) ∙ at-map (λ (x : ℕ × Stored). x.1) q (located image (filter test slots)) ∙ ap (option_map (λ (x : ℕ × Stored). x.1)) (filtered test q)
 
   part_slot : (test : ℕ → Bool) (q : ℕ) → at q (places_in image (filter test slots)) ≡ option_map (λ (x : ℕ × Stored). x.0) (option_filter (λ (x : ℕ × Stored). test x.0) (at q (located image slots)))

@@ -1,6 +1,6 @@
 -- How many slots a checkpoint moves.
-use Rattle.std.proofs.Common.{ℕ, zero, suc, ◌≡◌, ◌≢◌, inr, ◌+◌, ◌*◌, ◌/◌, ◌<◌, ◌≤◌, ◌==◌, ◌||◌, Bool, true, false, cond, not, List, [], ◌∷◌, ◌++◌, length, get_or, map, Some, None, refl, sym, ap, ◌∙◌, arith}
-use Rattle.std.proofs.lemmas.Bool.{eqb-true}
+use Rattle.std.proofs.Common.{ℕ, suc, ◌≡◌, ◌≢◌, ⊎_elim, inr, ◌+◌, ◌*◌, ◌/◌, ◌<◌, ◌≤◌, ◌==◌, ◌||◌, Bool, true, false, cond, not, List, [], ◌∷◌, ◌++◌, length, get_or, map, Some, None, refl, sym, ap, ◌∙◌, arith}
+use Rattle.std.proofs.lemmas.Bool.{cases_lt, eqb-true}
 use Rattle.std.proofs.lemmas.Bool.Decides.{nat_tests}
 use Rattle.std.specs.FinMap as finite
 use Rattle.std.specs.List.{filter}
@@ -8,23 +8,24 @@ use Rattle.std.specs.Option.{option_or}
 use Rattle.std.specs.Ordering.{nat_cmp}
 use Rattle.std.specs.declared.option.Option.{Option}
 use Rattle.pss_base.specs.declared.put.Put.{Put}
-use Rattle.pss_disk.specs.inner.Writing.{length-octets_in}
-use Rattle.page_store.specs.Checkpoints.{AreSomeOf, changed_octets, moved}
-use Rattle.page_store.specs.Objects.{entries_of, over, stored_of}
-use Rattle.page_store.specs.Packing.{is_among, size_of, used_by}
-use Rattle.page_store.specs.Pages.{Entry, IsPage, behind_entry, entries_from, entries_in, entries_of as entries_on_page, entries_start, entry_at, entry_count, place_of, put_of, record_length}
+use Rattle.page_store.specs.Checkpoints.{AreSomeOf, changed_octets, moved, octets_of}
+use Rattle.page_format.specs.Objects.{Objects, entries_of, over, stored_of}
+use Rattle.page_format.specs.Packing.{is_among, size_of, used_by}
+use Rattle.page_format.specs.Pages.{IsPage, IsSmall, entries_in, entries_of as entries_on_page, octets_in_use, put_of}
+use Rattle.page_format.specs.declared.entry.Entry.{Entry}
 use Rattle.page_store.specs.Placed.{is_noted}
-use Rattle.page_store.specs.Places.{slot_start}
-use Rattle.page_store.specs.Roots.{HasRoot, IsWrongSlot, slot_in}
+use Rattle.page_format.specs.Places.{slot_start}
+use Rattle.page_format.specs.Roots.{HasRoot, IsWrongSlot, slot_in}
 use Rattle.page_store.specs.Touched.{is_in}
-use Rattle.page_store.specs.declared.objects.Stored.{Stored}
-use Rattle.page_store.specs.declared.root.Root.{Root}
+use Rattle.page_format.specs.declared.objects.Stored.{Stored}
+use Rattle.page_format.specs.declared.root.Root.{Root}
 use Rattle.page_store.specs.inner.Located.{Apart, after, at}
 use Rattle.page_store.proofs.ByKey.{found_alike}
-use Rattle.page_store.proofs.Filling.{used_by-append}
+use Rattle.page_format.proofs.Filling.{used_by-append}
 use Rattle.page_store.proofs.Givens.{stored_entries}
 use Rattle.page_store.proofs.Located.{after_noted, after_other, at-append, get-over, get_rows, none_alike}
 use Rattle.page_store.proofs.Plans.{among_there}
+use Rattle.page_format.proofs.Rows.{page_used, used_on_page}
 
 not_some : {X : Type 0} (x : X) → Some x ≢ None
 not_some x e = cc
@@ -86,6 +87,14 @@ sub_weight (x ∷ xs) ys apart all =
         by true same = absurd (not_some y (sym there ∙ none_alike q x.0 xs same apart.0))
         by false other = refl
 
+-- objects that stand once weigh no more than the same ones in a map
+pub objects_weight : (es : List Entry) (m : Objects) → Apart (map stored_of es) → ((q : ℕ) → at q (map stored_of es) ≡ finite.get m q) → used_by es ≤ octets_of m
+objects_weight es m apart same =
+    let h = sub_weight (map stored_of es) (finite.entries m) apart (λ q x there. sym (finite.get-entries m q ∙ found_alike q (finite.entries m)) ∙ sym (same q) ∙ there) in
+    let a = weight_is es in
+    let c : octets_of m ≡ weight (finite.entries m) = weight_is (entries_of (finite.entries m)) ∙ ap weight (stored_entries (finite.entries m)) in
+    omega arith
+
 -- objects that were packed anew weigh no more than those of the pages and the changes together
 pub packed_weight : (es xs : List Entry) (noted : List Put) → Apart (map stored_of es) → Apart (map stored_of xs) → ((q : ℕ) → at q (map stored_of xs) ≡ finite.get (over (over finite.empty (map put_of es)) noted) q) → used_by xs ≤ changed_octets noted + used_by es
 packed_weight es xs noted apart_es apart_xs same =
@@ -111,20 +120,6 @@ packed_weight es xs noted apart_es apart_xs same =
         by false other = ap (λ o. option_or o (at q (map stored_of es))) (after_other noted q None other) ∙ sym (after_other noted q (at q (map stored_of es)) other) ∙ sym (new_at q) ∙ there
 
 -- the octets in use in pages
-used_from : (image : List ℕ) (n start : ℕ) → start + used_by (entries_from n image start) ≡ place_of n image start
-used_from image zero start = omega arith
-used_from image (suc n) start =
-    let h = used_from image n (behind_entry image start) in
-    let l : length (entry_at image start).octets ≡ record_length image start = length-octets_in (record { at = start + 16; count = record_length image start }) image in
-    omega arith
-
-used_on_page : (image : List ℕ) (slot : ℕ) → IsPage image (slot_start slot) slot → used_by (entries_on_page image (slot_start slot)) ≤ 16344
-used_on_page image slot page =
-    let h = used_from image (entry_count image (slot_start slot)) (entries_start (slot_start slot)) in
-    let e = page.end in
-    let u = page.head.used in
-    omega arith
-
 pub used_in : (image slots : List ℕ) → ((k : ℕ) → k < length slots → IsPage image (slot_start (get_or slots k 0)) (get_or slots k 0)) → used_by (entries_in image slots) ≤ 16344 * length slots
 used_in image [] whole = omega arith
 used_in image (slot ∷ slots) whole =
@@ -208,3 +203,13 @@ moved_few old stay fresh all some is =
 
 pub bound : (pages used taken touched changed : ℕ) → pages ≤ used / 8328 + 1 → used ≤ changed + 16344 * taken → taken ≤ touched + 1 → pages ≤ 2 * (touched + 1) + changed / 8328 + 1
 bound pages used taken touched changed few sum most = omega arith
+
+-- pages of which none has little in use take more than half of their room
+pub used_at_least : (image slots : List ℕ) → ((k : ℕ) → k < length slots → IsPage image (slot_start (get_or slots k 0)) (get_or slots k 0)) → ((k : ℕ) → k < length slots → IsSmall image (get_or slots k 0) → ⊥) → 8329 * length slots ≤ used_by (entries_in image slots)
+used_at_least image [] whole large = omega arith
+used_at_least image (slot ∷ slots) whole large =
+    let a = page_used image slot (whole 0 (omega arith)) in
+    let more : 8329 ≤ octets_in_use image (slot_start slot) = ⊎_elim (λ lt. omega (arith, lt)) (λ le. absurd (large 0 (omega arith) le)) (cases_lt 8328 (octets_in_use image (slot_start slot))) in
+    let b = used_at_least image slots (λ k lt. whole (suc k) (omega (arith, lt))) (λ k lt. large (suc k) (omega (arith, lt))) in
+    let u = used_by-append (entries_on_page image (slot_start slot)) (entries_in image slots) in
+    omega arith

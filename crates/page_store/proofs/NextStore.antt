@@ -7,19 +7,19 @@ use Rattle.pss_disk.specs.Parts.{Stands, octet_at}
 use Rattle.pss_disk.proofs.Images.{agrees_write, misses_but}
 use Rattle.pss_disk.proofs.Parts.{agrees_at, written_stands}
 use Rattle.redo_journal.specs.Journal.{journal_end}
-use Rattle.page_store.specs.Laws.{AreSame}
-use Rattle.page_store.specs.Pages.{AreGiven, ArePages, IsPage, IsSmall, entries_in, entries_of, octets_in_use, places_in, serials_of}
-use Rattle.page_store.specs.Places.{area_start, slot_end, slot_start}
-use Rattle.page_store.specs.Roots.{Follows, IsWithinLimits, IsWrongField, IsWrongSlot, epoch_in, slot_in}
+use Rattle.page_format.specs.Laws.{AreSame}
+use Rattle.page_format.specs.Pages.{AreGiven, ArePages, IsPage, IsSmall, entries_in, entries_of, octets_in_use, places_in, serials_of}
+use Rattle.page_format.specs.Places.{area_start, slot_end, slot_start}
+use Rattle.page_format.specs.Roots.{Follows, IsWithinLimits, IsWrongField, IsWrongSlot, epoch_in, slot_in}
 use Rattle.page_store.specs.Stores.{HasStore}
-use Rattle.page_store.specs.Switch.{AreWritable, HasPages, MayFollow, Next, Old, objects_of, places_of, slots_of, uses_of}
-use Rattle.page_store.specs.Written.{list_octets, root_octets, with_pages}
-use Rattle.page_store.specs.declared.new_page.NewPage.{NewPage}
+use Rattle.page_store.specs.Switch.{HasPages, MayFollow, Next, Old, objects_of, places_of, slots_of, uses_of}
+use Rattle.page_format.specs.Written.{AreWritable, list_octets, root_octets, with_pages}
+use Rattle.page_format.specs.declared.new_page.NewPage.{NewPage}
 use Rattle.page_store.specs.inner.Laying.{IsLeft}
 use Rattle.page_store.proofs.Laid.{laid, laid_agrees}
 use Rattle.page_store.proofs.LaidOctets.{IsRead, StandWhole, apart_front, apart_slot, have_own, list_read, no_shorter, pages_longer, pages_stand, reaches, root_read, stand_after, stands_after, whole_read}
-use Rattle.page_store.proofs.Spelled.{length_list, length_root}
-use Rattle.page_store.proofs.Staying.{all_entries, all_places, eight_same, page_same, slot_inside, used_same}
+use Rattle.page_format.proofs.Spelled.{length_list, length_root}
+use Rattle.page_format.proofs.Staying.{all_entries, all_places, eight_same, page_same, slot_inside, used_same}
 
 -- the image has the next root behind its gate, and its new pages, and is as the content elsewhere
 pub record IsLaid (next : Next) (c image : List ℕ) : Type 0 where

@@ -13,14 +13,14 @@ use Rattle.pss_disk.proofs.Images.{agrees_write, misses_but}
 use Rattle.pss_disk.proofs.Parts.{agrees_at}
 use Rattle.pss_disk.proofs.Passing.{weaker}
 use Rattle.redo_journal.specs.Journal.{IsClosed}
-use Rattle.page_store.specs.Laws.{AreSame}
-use Rattle.page_store.specs.Pages.{Entry}
-use Rattle.page_store.specs.Places.{area_start, slot_end, slot_start}
+use Rattle.page_format.specs.Laws.{AreSame}
+use Rattle.page_format.specs.declared.entry.Entry.{Entry}
+use Rattle.page_format.specs.Places.{area_start, slot_end, slot_start}
 use Rattle.page_store.specs.Stores.{AllHave, HasStore, IsPrepared, IsSwitched}
-use Rattle.page_store.specs.declared.root.Root.{Root}
+use Rattle.page_format.specs.declared.root.Root.{Root}
 use Rattle.page_store.specs.inner.Gates.{IsAnywhere}
 use Rattle.page_store.proofs.Closing.{last_of, long_of, store_anywhere, untold}
-use Rattle.page_store.proofs.Staying.{pages_kept, root_kept, slot_inside}
+use Rattle.page_format.proofs.Staying.{pages_kept, root_kept, slot_inside}
 
 module _ (gate : ℕ) (c image : List ℕ) (agrees : Agrees (λ i. i ≢ gate) c image) where
   same_but : (i : ℕ) → i ≢ gate → i < length c → octet_at image i ≡ octet_at c i

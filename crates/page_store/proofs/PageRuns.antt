@@ -9,12 +9,12 @@ use Rattle.pss_disk.specs.Images.{Misses}
 use Rattle.pss_disk.specs.Moments.{Range, is_within}
 use Rattle.pss_disk.specs.Octets.{disk_end, range_of, write}
 use Rattle.redo_journal.proofs.Writes.{write_then}
-use Rattle.page_store.specs.Places.{area_start, slot_end, slot_start}
-use Rattle.page_store.specs.Switch.{AreWritable, slots_of}
-use Rattle.page_store.specs.Written.{pages_octets, whole_page, with_pages}
-use Rattle.page_store.specs.declared.new_page.NewPage.{NewPage}
+use Rattle.page_format.specs.Places.{area_start, slot_end, slot_start}
+use Rattle.page_store.specs.Switch.{slots_of}
+use Rattle.page_format.specs.Written.{AreWritable, pages_octets, whole_page, with_pages}
+use Rattle.page_format.specs.declared.new_page.NewPage.{NewPage}
 use Rattle.page_store.specs.inner.Laying.{IsApart, IsLeft, IsRun}
-use Rattle.page_store.proofs.Spelled.{length_pages, length_whole, writable_taken}
+use Rattle.page_format.proofs.Spelled.{length_pages, length_whole, writable_taken}
 
 -- the slot of a page in a list
 pub slot_at : (ps : List NewPage) (i : ℕ) (p : NewPage) → i < length ps → p ≡ get_or ps i p → get_or (slots_of ps) i 0 ≡ p.slot

@@ -6,15 +6,15 @@ use Rattle.std.proofs.lemmas.List.{take-append-drop}
 use Rattle.std.specs.List.{filter}
 use Rattle.page_store.specs.Checkpoints.{AreSomeOf}
 use Rattle.page_store.specs.Kept.{AreWithinLimits}
-use Rattle.page_store.specs.Packing.{AreLeastFree, entries_on, is_among, size_of, used_by}
-use Rattle.page_store.specs.Pages.{Entry}
-use Rattle.page_store.specs.Roots.{IsWithinLimits}
-use Rattle.page_store.specs.Switch.{AreWritable, IsWritable, slots_of, uses_of}
-use Rattle.page_store.specs.Written.{AreStorable, IsStorable, entries_octets, entry_octets}
-use Rattle.page_store.specs.declared.new_page.NewPage.{NewPage}
+use Rattle.page_format.specs.Packing.{AreLeastFree, entries_on, is_among, size_of, used_by}
+use Rattle.page_format.specs.declared.entry.Entry.{Entry}
+use Rattle.page_format.specs.Roots.{IsWithinLimits}
+use Rattle.page_store.specs.Switch.{slots_of, uses_of}
+use Rattle.page_format.specs.Written.{AreStorable, AreWritable, IsStorable, IsWritable, entries_octets, entry_octets}
+use Rattle.page_format.specs.declared.new_page.NewPage.{NewPage}
 use Rattle.page_store.specs.inner.Repacked.{MayBeWritten}
-use Rattle.page_store.proofs.EntryOctets.{length_entry}
-use Rattle.page_store.proofs.Filling.{used_by-append}
+use Rattle.page_format.proofs.EntryOctets.{length_entry}
+use Rattle.page_format.proofs.Filling.{used_by-append}
 use Rattle.page_store.proofs.Turned.{take_more}
 
 pub storable_at : (es : List Entry) (k : ℕ) (d : Entry) → AreStorable es → k < length es → IsStorable (get_or es k d)

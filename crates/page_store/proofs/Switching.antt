@@ -12,12 +12,13 @@ use Rattle.pss_disk.specs.Parts.{octet_at}
 use Rattle.pss_disk.proofs.Parts.{agrees_at, stands_at, written_stands}
 use Rattle.pss_disk.proofs.Passing.{both_have, weaker}
 use Rattle.redo_journal.specs.Journal.{Ends, HasEpoch, IsClosed, journal_end, journal_start}
-use Rattle.page_store.specs.Places.{area_start}
-use Rattle.page_store.specs.Roots.{IsWithinLimits}
+use Rattle.page_format.specs.Places.{area_start}
+use Rattle.page_format.specs.Roots.{IsWithinLimits}
 use Rattle.page_store.specs.Stores.{AllHave, IsOldPlace}
-use Rattle.page_store.specs.Switch.{AreWritable, HasOld, IsNextOf, MayFollow, Next, Old}
-use Rattle.page_store.specs.declared.new_page.NewPage.{NewPage}
-use Rattle.page_store.specs.declared.root.Root.{Root}
+use Rattle.page_store.specs.Switch.{HasOld, IsNextOf, MayFollow, Next, Old}
+use Rattle.page_format.specs.Written.{AreWritable}
+use Rattle.page_format.specs.declared.new_page.NewPage.{NewPage}
+use Rattle.page_format.specs.declared.root.Root.{Root}
 use Rattle.page_store.specs.inner.Laying.{IsLeft}
 use Rattle.page_store.specs.inner.Switching.{IsReady, LaysReady, MayBeLaid}
 use Rattle.page_store.proofs.Closing.{untold}

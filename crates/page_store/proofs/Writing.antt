@@ -9,13 +9,13 @@ use Rattle.pss_disk.specs.Parts.{octet_at}
 use Rattle.pss_disk.proofs.Parts.{agrees_at}
 use Rattle.pss_disk.proofs.Passing.{weaker}
 use Rattle.redo_journal.specs.Journal.{IsClosed, journal_end}
-use Rattle.page_store.specs.Laws.{AreSame}
-use Rattle.page_store.specs.Pages.{Entry}
-use Rattle.page_store.specs.Places.{area_start, slot_end, slot_start}
+use Rattle.page_format.specs.Laws.{AreSame}
+use Rattle.page_format.specs.declared.entry.Entry.{Entry}
+use Rattle.page_format.specs.Places.{area_start, slot_end, slot_start}
 use Rattle.page_store.specs.Stores.{AllHave, HasStore, IsOldPlace}
-use Rattle.page_store.specs.declared.root.Root.{Root}
+use Rattle.page_format.specs.declared.root.Root.{Root}
 use Rattle.page_store.proofs.Closing.{untold}
-use Rattle.page_store.proofs.Staying.{pages_kept, root_there_within, slot_inside}
+use Rattle.page_format.proofs.Staying.{pages_kept, root_there_within, slot_inside}
 
 module _ (root : Root) (objects : List Entry) (gate : ℕ) (c image : List ℕ) (has : HasStore root objects c) (is_gate : gate ≡ area_start (1 - root.area)) (closed : IsClosed c gate) (agrees : Agrees (IsOldPlace root.slots gate) c image) where
   le : root.area ≤ 1

@@ -1,12 +1,12 @@
 -- What is kept of the current root and its pages.
-use Rattle.std.specs.Prelude.{ℕ, ◌≡◌, ◌<◌, List, length, map, slice_index, MatchOption}
+use Rattle.std.specs.Prelude.{ℕ, ◌≡◌, List, map}
 use Rattle.std.specs.Ordering.{nat_cmp}
 use Rattle.std.specs.declared.option.Option.{Option}
 use Rattle.std.specs.FinMap as finite
 use Rattle.pss_base.specs.declared.put.Put.{Put}
-use Rattle.page_store.specs.Pages.{IsSmall, entries_in, places_in, put_of}
-use Rattle.page_store.specs.Roots.{IsWithinLimits}
-use Rattle.page_store.specs.declared.root.Root.{Root}
+use Rattle.page_format.specs.Pages.{IsSmallOne, entries_in, places_in, put_of}
+use Rattle.page_format.specs.Roots.{IsWithinLimits}
+use Rattle.page_format.specs.declared.root.Root.{Root}
 
 -- the current root but for its next serial; which page holds each object; the page with little in use, where there is
 -- one; the changes noted for the next checkpoint; and for how many more there is room
@@ -23,10 +23,6 @@ pub record Kept : Type 0 where
 -- what the limits of a store make of a root but for its next serial
 abbrev pub AreWithinLimits : ℕ → List ℕ → List ℕ → Type 0
 AreWithinLimits area shape slots = IsWithinLimits (record { area = area; epoch = 0; next = 1; shape = shape; slots = slots })
-
--- a page that has little in use, or none where no page has
-abbrev pub IsSmallOne : List ℕ → List ℕ → Option ℕ → Type 0
-IsSmallOne image slots small = MatchOption small ((j : ℕ) → j < length slots → IsSmall image (slice_index slots j) → ⊥) (λ slot. (j : ℕ) × (j < length slots) × (slice_index slots j ≡ slot) × IsSmall image slot)
 
 -- this is kept of a root and its pages
 pub record IsKept (root : Root) (kept : Kept) (image : List ℕ) : Type 0 where

@@ -1,17 +1,7 @@
 pub mod Checkpoints
-pub mod Faults
-pub mod Places
 pub mod Kept
-pub mod Laws
-pub mod PageDamage
-pub mod Packing
-pub mod Objects
-pub mod Pages
 pub mod Placed
-pub mod Roots
-pub mod Refusals
 pub mod Stores
 pub mod Switch
 pub mod Touched
-pub mod Written
 pub mod inner

@@ -2,11 +2,12 @@
 use Rattle.std.specs.Prelude.{ℕ, ◌≡◌, ◌⊎◌, ◌+◌, ◌<◌, ◌≤◌, List, [], ◌∷◌, length, slice_index, IfSome}
 use Rattle.pss_disk.specs.Moments.{IsImage, Moment}
 use Rattle.pss_disk.specs.Octets.{write}
-use Rattle.page_store.specs.Pages.{ArePages, Entry, entries_in}
-use Rattle.page_store.specs.Roots.{HasRoot}
+use Rattle.page_format.specs.Pages.{ArePages, entries_in}
+use Rattle.page_format.specs.declared.entry.Entry.{Entry}
+use Rattle.page_format.specs.Roots.{HasRoot}
 use Rattle.redo_journal.specs.Journal.{Ends, Holds, Position, journal_end, journal_start}
-use Rattle.page_store.specs.Places.{slot_end, slot_start}
-use Rattle.page_store.specs.declared.root.Root.{Root}
+use Rattle.page_format.specs.Places.{slot_end, slot_start}
+use Rattle.page_format.specs.declared.root.Root.{Root}
 
 -- the image has this current root, its pages are right, and these are the objects in them
 pub record HasStore (root : Root) (objects : List Entry) (image : List ℕ) : Type 0 where

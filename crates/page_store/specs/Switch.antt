@@ -1,12 +1,13 @@
 -- How the root of a store is followed by the next one.
-use Rattle.std.specs.Prelude.{ℕ, ◌≡◌, ◌≢◌, ◌⊎◌, ◌+◌, ◌%◌, ◌^◌, ◌<◌, ◌≤◌, List, [], ◌∷◌, ◌++◌, flat_map, length, map, slice_index, ⊤}
+use Rattle.std.specs.Prelude.{ℕ, ◌≡◌, ◌≢◌, ◌⊎◌, ◌+◌, ◌%◌, ◌^◌, ◌<◌, ◌≤◌, List, [], ◌++◌, flat_map, length, map, slice_index}
 use Rattle.pss_disk.specs.Parts.{octet_at}
-use Rattle.page_store.specs.Pages.{AreGiven, Entry, IsSmall, entries_in, octets_in_use, places_in, serials_of}
-use Rattle.page_store.specs.Places.{area_start, slot_start}
+use Rattle.page_format.specs.Pages.{AreGiven, IsSmall, entries_in, octets_in_use, places_in, serials_of}
+use Rattle.page_format.specs.declared.entry.Entry.{Entry}
+use Rattle.page_format.specs.Places.{area_start, slot_start}
 use Rattle.page_store.specs.Stores.{HasStore, IsEmptied, IsJournal}
-use Rattle.page_store.specs.Written.{AreStorable, entries_octets, with_pages, with_root}
-use Rattle.page_store.specs.declared.new_page.NewPage.{NewPage}
-use Rattle.page_store.specs.declared.root.Root.{Root}
+use Rattle.page_format.specs.Written.{entries_octets, with_pages, with_root}
+use Rattle.page_format.specs.declared.new_page.NewPage.{NewPage}
+use Rattle.page_format.specs.declared.root.Root.{Root}
 use Rattle.redo_journal.specs.Journal.{Ends, Holds, Position, journal_start}
 
 -- what a content has before its roots are switched: a store, and the bodies in its journal
@@ -35,16 +36,6 @@ places_of pages = flat_map (λ page. map (λ e. (e.serial, page.slot)) page.entr
 
 abbrev pub uses_of : List NewPage → List ℕ
 uses_of pages = map (λ page. length (entries_octets page.entries)) pages
-
--- a page that may be written
-pub record IsWritable (page : NewPage) : Type 0 where
-  pub slot_ : page.slot < 16384
-  pub storable : AreStorable page.entries
-  pub short : length (entries_octets page.entries) ≤ 16344
-
-abbrev pub AreWritable : List NewPage → Type 0
-AreWritable [] = ⊤
-AreWritable (page ∷ pages) = IsWritable page × AreWritable pages
 
 -- the next one has this root and these pages, and the root stands in the other area
 pub record IsNextOf (old : Old) (next : Next) (root : Root) (pages : List NewPage) : Type 0 where

@@ -1,10 +1,10 @@
 // Changes are made to objects.
 ghost use Rattle.std.specs.Prelude.{IfOk, OnOk};
 ghost use Rattle.std.specs.FinMap.{empty, insert, remove};
-ghost use Rattle.page_store.specs.Objects.{Objects as Map, over, with_record};
+ghost use Rattle.page_format.specs.Objects.{Objects as Map, over, with_record};
 ghost use Rattle.page_store.specs.inner.Shown.{AreShown};
 
-use crate::objects::{Objects, Stored};
+use page_format::{Objects, Stored};
 use pss_base::{NoMemory, Put, Puts};
 use std::alloc::Global;
 use std::collections::BTreeMap;

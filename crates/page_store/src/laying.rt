@@ -5,16 +5,13 @@ ghost use Rattle.std.specs.Option.{option_map};
 ghost use Rattle.pss_base.specs.Causes.{HasCause};
 ghost use Rattle.pss_disk.specs.Images.{IsQuiet, Keeps, Stretch};
 ghost use Rattle.pss_disk.specs.Moments.{IsSettled, Moment, Through};
-ghost use Rattle.page_store.specs.Switch.{AreWritable, slots_of};
-ghost use Rattle.page_store.specs.Written.{with_pages, with_root};
-ghost use Rattle.page_store.specs.declared.new_page.NewPage.{NewPage as Page};
+ghost use Rattle.page_store.specs.Switch.{slots_of};
+ghost use Rattle.page_format.specs.Written.{AreWritable, with_pages, with_root};
+ghost use Rattle.page_format.specs.declared.new_page.NewPage.{NewPage as Page};
 ghost use Rattle.page_store.specs.inner.Laying.{IsApart, IsLeft, IsRun};
 
-use crate::buffer::Buffer;
-use crate::layout::{AREA, FIRST_SLOT, PAGE, SLOT_LIST};
-use crate::new_page::NewPage;
-use crate::root::Root;
-use crate::spelling::{put_pages, put_root, put_slots};
+use page_format::layout::{AREA, FIRST_SLOT, PAGE, SLOT_LIST};
+use page_format::{Buffer, NewPage, Root, put_pages, put_root, put_slots};
 use pss_base::Failed;
 use pss_disk::Station;
 

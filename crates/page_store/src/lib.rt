@@ -1,45 +1,21 @@
-//! The pages of a store: two root areas, of which one is current, and the pages that it names, each with entries of
-//! objects.
+//! The pages of a store: the current root with the pages that it names, read and tested, and checkpoints, which let the
+//! next root follow it, with the changes that were noted.
 #![tactic(auto)]
 
-mod buffer;
 mod changing;
-mod current;
-mod entry;
-mod fault;
-mod free;
 mod gates;
-mod gathered;
-mod gathering;
-mod head;
-mod laws;
 mod laying;
-mod layout;
-mod marks;
-mod new_page;
-mod number;
-mod objects;
-mod packing;
-mod page;
 mod pages;
 mod parting;
-mod places;
 mod placing;
-mod reading;
 mod repacking;
 mod rereading;
-mod root;
-mod roots;
-mod slot_list;
-mod slots;
 mod small;
-mod spelling;
 mod stop;
 mod switch;
 
-pub use fault::{PageFault, RootFault};
-pub use laws::{a_store_stays, pages_are_one_thing, roots_are_one_thing};
+pub use page_format::{
+    PageFault, Root, RootFault, Slots, a_store_stays, pages_are_one_thing, read_root,
+    roots_are_one_thing,
+};
 pub use pages::{Fetched, Pages};
-pub use root::Root;
-pub use roots::read_root;
-pub use slots::Slots;

@@ -3,19 +3,15 @@ ghost use Rattle.std.specs.Prelude.{ℕ, ◌≡◌, ◌++◌, ◌∷◌, [], ◌
 ghost use Rattle.std.specs.FinMap as finite;
 ghost use Rattle.pss_base.specs.Causes.{HasCauseIf};
 ghost use Rattle.pss_disk.specs.Reading.{OnlyReads};
-ghost use Rattle.page_store.specs.Faults.{is_page_disk_fault};
+ghost use Rattle.page_format.specs.Faults.{is_page_disk_fault};
 ghost use Rattle.page_store.specs.Kept.{IsKept, rows_in};
-ghost use Rattle.page_store.specs.Objects.{IsRightPut};
-ghost use Rattle.page_store.specs.Pages.{ArePages};
-ghost use Rattle.page_store.specs.Refusals.{IsPageRefusal};
-ghost use Rattle.page_store.specs.Roots.{IsWithinLimits};
+ghost use Rattle.page_format.specs.Objects.{IsRightPut};
+ghost use Rattle.page_format.specs.Pages.{ArePages};
+ghost use Rattle.page_format.specs.Refusals.{IsPageRefusal};
+ghost use Rattle.page_format.specs.Roots.{IsWithinLimits};
+ghost use Rattle.page_format.specs.Rows.{AreRows};
 
-use crate::fault::PageFault;
-use crate::gathered::Gathered;
-use crate::gathering::gather;
-use crate::places::Places;
-use crate::root::Root;
-use crate::slots::Slots;
+use page_format::{Gathered, PageFault, Places, Root, Slots, gather};
 use pss_base::{Bytes, NoMemory, Put, Puts};
 use pss_disk::Station;
 use std::alloc::Global;
@@ -45,7 +41,7 @@ impl Model for Pages {
     ghost use Rattle.std.specs.FinMap as finite;
     ghost use Rattle.std.specs.Prelude.{All};
     ghost use Rattle.page_store.specs.Kept.{AreWithinLimits, Kept};
-    ghost use Rattle.page_store.specs.Objects.{IsRightPut};
+    ghost use Rattle.page_format.specs.Objects.{IsRightPut};
 
     ghost Value = { Kept };
 
@@ -95,10 +91,12 @@ fn pages_of(alloc: Global, root: &Root, gathered: Gathered) -> Result<Fetched, N
 }
 
 impl Pages {
-    /// Reads the pages of a root, and tests them. The objects are answered beside them: they are not kept.
+    /// Reads the pages of a root, and tests them. The objects are answered beside them: they are not kept. What `alone` says
+    /// of them rests on what was read, and holds of a station that tells nothing of its content, too.
     pub fn fetch<W: Station>(alloc: Global, w: &mut W, root: &Root) -> Result<Fetched, PageFault>
         requires { IsWithinLimits root.now }
         ensures right { IfOk result (λ fetched. IfSome (W.content w.old) (ArePages root.now.next root.now.slots)) }
+        ensures alone { IfOk result (λ fetched. AreRows root.now.next (length root.now.slots) fetched.rows) }
         ensures rows { IfOk result (λ fetched. IfSome (W.content w.old) (λ c. fetched.rows ≡ rows_in c root.now.slots)) }
         ensures kept { IfOk result (λ fetched. IfSome (W.content w.old) (IsKept root.now fetched.pages)) }
         ensures noted { IfOk result (λ fetched. fetched.pages.noted ≡ []) }

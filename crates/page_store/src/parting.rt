@@ -3,10 +3,8 @@ ghost use Rattle.std.specs.Prelude.{ℕ, ◌≡◌, ◌<◌, ◌≤◌, ◌||◌
 ghost use Rattle.std.specs.List.{filter};
 ghost use Rattle.page_store.specs.Touched.{is_in, is_repacked, is_touched, place_at, under_serials};
 
-use crate::layout::SLOTS;
-use crate::marks::{flags, mark};
-use crate::places::{Places, place_of};
-use crate::slots::Slots;
+use page_format::layout::SLOTS;
+use page_format::{Places, Slots, flags, mark};
 use pss_base::{NoMemory, Put};
 use std::alloc::Global;
 
@@ -101,4 +99,11 @@ fn add_parted(parted: &mut Parted, slot: u32, marked: bool) -> Result<(), NoMemo
     } else {
         parted.kept.push(slot)
     }
+}
+
+// The slot of the page that holds an object, where there is one.
+fn place_of(places: &Places, serial: u64) -> Option<u32>
+    ensures { result ≡ place_at (under_serials places.now.entries) serial }
+{
+    places.get(&serial).copied()
 }

@@ -3,9 +3,7 @@ ghost use Rattle.std.specs.Prelude.{ℕ, ◌≡◌, ◌≤◌, cond, None, Some,
 ghost use Rattle.page_store.specs.Placed.{is_noted, is_object, placed, slot_under};
 ghost use Rattle.page_store.specs.Switch.{slots_of};
 
-use crate::entry::{Entries, Entry};
-use crate::new_page::NewPage;
-use crate::places::Places;
+use page_format::{Entries, Entry, NewPage, Places};
 use pss_base::{NoMemory, Put};
 use std::alloc::Global;
 

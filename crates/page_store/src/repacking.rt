@@ -1,18 +1,20 @@
 // The objects in pages are packed anew, with changes over them.
-ghost use Rattle.std.specs.Prelude.{ℕ, ◌<◌, length, slice_index, All, IfOk, IfSome};
+ghost use Rattle.std.specs.Prelude.{ℕ, ◌≡◌, ◌^◌, ◌<◌, length, slice_index, All, Err, IfOk, IfSome};
 ghost use Rattle.std.specs.FinMap.{empty};
 ghost use Rattle.pss_base.specs.Causes.{HasCauseIf};
 ghost use Rattle.pss_disk.specs.Reading.{OnlyReads};
-ghost use Rattle.page_store.specs.Faults.{is_disk_stop};
 ghost use Rattle.page_store.specs.Kept.{rows_in};
-ghost use Rattle.page_store.specs.Objects.{IsRightPut, over};
+ghost use Rattle.page_format.specs.Objects.{IsRightPut, over};
+ghost use Rattle.page_format.specs.Pages.{ArePages};
+ghost use Rattle.page_store.specs.declared.stop.PlanStop.TheVariants.{Lost as AreLost};
+ghost use Rattle.page_store.specs.inner.Lost.{is_plan_disk_fault};
 ghost use Rattle.page_store.specs.inner.Repacked.{AreRepacked, MayBeWritten};
 
 use crate::changing::changed;
-use crate::entry::Entries;
-use crate::packing::pack;
 use crate::rereading::reread;
-use pss_base::{NoMemory, Put, Puts, StoreStop};
+use crate::stop::PlanStop;
+use page_format::{Entries, pack};
+use pss_base::{NoMemory, Put, Puts};
 use pss_disk::Station;
 use std::alloc::Global;
 
@@ -23,13 +25,14 @@ pub fn repack<W: Station>(
     w: &mut W,
     slots: &[u32],
     noted: Vec<Put>,
-) -> Result<Vec<Entries>, StoreStop>
+) -> Result<Vec<Entries>, PlanStop>
     requires below { (k : ℕ) → k < length slots.now → slice_index slots.now k < 16384 }
     requires noted { All IsRightPut noted.items }
     ensures written { IfOk result (λ pages. MayBeWritten pages.items) }
     ensures packed { IfOk result (λ pages. IfSome (W.content w.old) (λ c. AreRepacked (over (over empty (rows_in c slots.now)) noted.items) pages.items)) }
+    ensures lost { result ≡ Err AreLost → IfSome (W.content w.old) (λ c. (next : ℕ) → next < 2 ^ 64 → ArePages next slots.now c → ⊥) }
     ensures reads { OnlyReads W.now W.content W.history W.speak_faults w.old w.new }
-    ensures cause { HasCauseIf (W.disk_faults w.old) (W.disk_faults w.new) (is_disk_stop result) }
+    ensures cause { HasCauseIf (W.disk_faults w.old) (W.disk_faults w.new) (is_plan_disk_fault result) }
 {
     let rows = match reread(alloc, w, slots) {
         Ok(rows) => rows,
@@ -37,7 +40,7 @@ pub fn repack<W: Station>(
     };
     match packed(alloc, rows, noted) {
         Ok(pages) => Ok(pages),
-        Err(_) => Err(StoreStop::NoMemory),
+        Err(_) => Err(PlanStop::NoMemory),
     }
 }
 

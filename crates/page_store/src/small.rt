@@ -1,14 +1,11 @@
 // The new page that has little in use.
 ghost use Rattle.std.specs.Prelude.{◌≡◌, ◌≤◌};
 ghost use Rattle.page_store.specs.Checkpoints.{IsSmallAmong};
-ghost use Rattle.page_store.specs.Packing.{used_by};
-ghost use Rattle.page_store.specs.Switch.{AreWritable};
-ghost use Rattle.page_store.specs.Written.{AreStorable};
+ghost use Rattle.page_format.specs.Packing.{used_by};
+ghost use Rattle.page_format.specs.Written.{AreStorable, AreWritable};
 
-use crate::entry::Entry;
-use crate::layout::LITTLE;
-use crate::new_page::NewPage;
-use crate::packing::size_of;
+use page_format::layout::LITTLE;
+use page_format::{Entry, NewPage, size_of};
 
 /// The slot of the first page with little in use.
 pub fn small_of(pages: &[NewPage]) -> Option<u32>

@@ -10,8 +10,8 @@ use Rattle.type_layout.specs.declared.schema.Schema.{Schema}
 use Rattle.type_layout.specs.ShapeText.{shape_text}
 use Rattle.pss_catalog.specs.Catalog.{Object, total, weight}
 use Rattle.redo_journal.specs.Journal.{journal_end, journal_start}
-use Rattle.page_store.specs.declared.root.Root.{Root}
-use Rattle.page_store.specs.Roots.{HasFields, HasRoot, IsWrongField, root_magic}
+use Rattle.page_format.specs.declared.root.Root.{Root}
+use Rattle.page_format.specs.Roots.{HasFields, HasRoot, IsWrongField, root_magic}
 use Rattle.pss_recovery.specs.Stands.{Stands}
 use Rattle.pss_recovery.specs.inner.Blanks.{IsMade, first_root, root_head}
 

@@ -3,6 +3,7 @@ use Rattle.std.proofs.Common.{ℕ, ◌≡◌, List, refl, ap, ◌∙◌}
 use Rattle.std.specs.declared.option.Option.{Option}
 use Rattle.pss_disk.specs.Images.{IsQuiet}
 use Rattle.pss_disk.specs.Moments.{DuringSync, DuringWrite, IsStill, Moment, Range, Through}
+use Rattle.pss_disk.specs.Reading.{OnlyReads}
 use Rattle.pss_disk.proofs.Images.{quiet_sync, quiet_write}
 use Rattle.pss_disk.proofs.Passing.{none_came, then_come, weaker}
 use Rattle.pss_recovery.specs.Silence.{IsSilent}
@@ -29,3 +30,6 @@ module _ {S : Type 0} (now : S → Moment) (history : S → List Moment) (speak_
   pub silent_still : (a b : S) → Through (history a) (history b) (IsStill (now a)) → now b ≡ now a → speak_faults b ≡ speak_faults a → IsSilent now history speak_faults a b
   silent_still a b time same other =
       record { moments = weaker (history a) (history b) (IsStill (now a)) (IsQuiet (now a)) (λ m e. ap (λ (n : Moment). n.spoken) e) time; said = ap (λ (n : Moment). n.spoken) same; speech = other }
+
+  pub silent_reads : (content : S → Option (List ℕ)) (a b : S) → OnlyReads now content history speak_faults a b → IsSilent now history speak_faults a b
+  silent_reads content a b reads = silent_still a b reads.time reads.still reads.speech

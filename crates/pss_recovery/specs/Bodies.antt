@@ -26,6 +26,10 @@ pub record IsSpellable (put : Put) : Type 0 where
   pub some : IfSome put.bytes (λ octets. 1 ≤ length octets)
   pub len : length (record_octets put.bytes) < 2 ^ 32
 
+-- a change whose record, where there is one, has some octets, but no more than its length may tell
+abbrev pub HasLength : Put → Type 0
+HasLength put = IfSome put.bytes (λ octets. (1 ≤ length octets) × (length octets < 2 ^ 32))
+
 -- the next serial, the number of the changes, and these
 abbrev pub body_octets : Body → List ℕ
 body_octets body = to_be_bytes w64 body.next ++ to_be_bytes w32 (length body.puts) ++ flat_map change_octets body.puts

@@ -2,7 +2,11 @@ pub mod Bodies
 pub mod Shapes
 pub mod Loading
 pub mod Replaying
+pub mod Noted
 pub mod Stands
+pub mod Area
+pub mod Mounted
+pub mod Mounts
 pub mod Faults
 pub mod Laws
 pub mod Silence

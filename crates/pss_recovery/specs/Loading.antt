@@ -11,8 +11,8 @@ use Rattle.type_layout.specs.Schemas.{home_at}
 use Rattle.pss_catalog.specs.Catalog.{Object, Catalog, AreGiven, holds, references, total}
 use Rattle.storage_home.specs.Applied.{IsState}
 use Rattle.redo_journal.specs.Journal.{journal_end}
-use Rattle.page_store.specs.Pages.{behind_entry, entries_start, entry_count}
-use Rattle.page_store.specs.Places.{slot_start}
+use Rattle.page_format.specs.Pages.{behind_entry, entries_start, entry_count}
+use Rattle.page_format.specs.Places.{slot_start}
 
 -- the greatest sum over the objects of 16 and the length of the record
 abbrev pub most_octets : ℕ

@@ -8,11 +8,11 @@ use Rattle.type_layout.specs.declared.schema.Schema.{Schema}
 use Rattle.type_layout.specs.ShapeText.{shape_text}
 use Rattle.pss_catalog.specs.Catalog.{Catalog, total}
 use Rattle.redo_journal.specs.Journal.{Holds, IsDamaged}
-use Rattle.page_store.specs.declared.root.Root.{Root}
+use Rattle.page_format.specs.declared.root.Root.{Root}
 use Rattle.page_store.specs.Kept.{rows_in}
-use Rattle.page_store.specs.PageDamage.{IsPageDamage}
-use Rattle.page_store.specs.Pages.{ArePages}
-use Rattle.page_store.specs.Roots.{HasRoot, IsNoStore, IsRootDamage}
+use Rattle.page_format.specs.PageDamage.{IsPageDamage}
+use Rattle.page_format.specs.Pages.{ArePages}
+use Rattle.page_format.specs.Roots.{HasRoot, IsNoStore, IsRootDamage}
 use Rattle.pss_recovery.specs.declared.fault.MountFault.{MountFault}
 use Rattle.pss_recovery.specs.declared.fault.MountFault.TheVariants.{NotAStore, ShapeDiffers, Damaged, DiskFault, NoMemory}
 use Rattle.pss_recovery.specs.Shapes.{DifferAt}

@@ -1,2 +1,13 @@
+pub mod Adding
+pub mod Altering
+pub mod Below
 pub mod Blanks
 pub mod Changes
+pub mod Checks
+pub mod Claims
+pub mod Held
+pub mod Lines
+pub mod Remaking
+pub mod Rowwise
+pub mod Mounting
+pub mod Sums

@@ -1,7 +1,7 @@
 // A body as octets.
-ghost use Rattle.std.specs.Prelude.{ℕ, ◌≡◌, ◌+◌, ◌^◌, ◌<◌, ◌≤◌, ◌++◌, List, length, IfOk, OnOk};
+ghost use Rattle.std.specs.Prelude.{◌≡◌, ◌^◌, ◌<◌, ◌++◌, length, IfOk, OnOk};
 ghost use Rattle.std.specs.List.{AllByRecursion, flat_map};
-ghost use Rattle.pss_recovery.specs.Bodies.{IsSpellable, body_octets, change_head, change_octets, record_octets};
+ghost use Rattle.pss_recovery.specs.Bodies.{HasLength, IsSpellable, Spells, change_head, change_octets, record_octets};
 
 use crate::body::Body;
 use crate::layout::{LENGTH, RECORD, SERIAL};
@@ -32,8 +32,9 @@ fn head_octets(home: u32, serial: u64, len: u32) -> [u8; RECORD]
 
 // Adds a change.
 fn put_change(octets: &mut Bytes, put: &Put) -> Result<(), NoMemory>
-    requires { length (record_octets put.now.bytes) < 2 ^ 32 }
-    ensures { OnOk result (octets.new ≡ octets.old ++ change_octets put.now) }
+    requires { HasLength put.now }
+    ensures added { OnOk result (octets.new ≡ octets.old ++ change_octets put.now) }
+    ensures spellable { OnOk result (IsSpellable put.now) }
 {
     let record = record_of(put);
     octets.extend(&head_octets(put.home, put.serial, record.len() as u32))?;
@@ -42,8 +43,9 @@ fn put_change(octets: &mut Bytes, put: &Put) -> Result<(), NoMemory>
 
 // Adds changes.
 fn put_changes(octets: &mut Bytes, puts: &[Put]) -> Result<(), NoMemory>
-    requires { AllByRecursion IsSpellable puts.now }
-    ensures { OnOk result (octets.new ≡ octets.old ++ flat_map change_octets puts.now) }
+    requires { AllByRecursion HasLength puts.now }
+    ensures added { OnOk result (octets.new ≡ octets.old ++ flat_map change_octets puts.now) }
+    ensures spellable { OnOk result (AllByRecursion IsSpellable puts.now) }
 {
     for put in puts {
         put_change(octets, put)?;
@@ -54,8 +56,8 @@ fn put_changes(octets: &mut Bytes, puts: &[Put]) -> Result<(), NoMemory>
 /// The octets of a body.
 pub fn encode_body(alloc: Global, body: &Body) -> Result<Bytes, NoMemory>
     requires few { length body.now.puts < 2 ^ 32 }
-    requires each { AllByRecursion IsSpellable body.now.puts }
-    ensures { IfOk result (λ octets. octets ≡ body_octets body.now) }
+    requires each { AllByRecursion HasLength body.now.puts }
+    ensures { IfOk result (λ octets. Spells octets body.now) }
 {
     let mut octets = Bytes::new(alloc);
     let puts = body.puts.as_slice();

@@ -1,8 +1,21 @@
 // What the definitions come to.
-ghost use Rattle.pss_recovery.specs.Laws.{SpellsOneBody};
+ghost use Rattle.pss_recovery.specs.Laws.{IsImageOneThing, SpellsOneBody, StoresAreGood};
 
 /// Octets spell one body, or none. So what `decode_body` answers is the only answer. The function does nothing: its
 /// contract is the law.
 pub fn a_body_is_one_thing()
     ensures { SpellsOneBody }
+{}
+
+/// Under a schema an image stands for one catalog and one next serial, or it is refused with one fault, and never both. So
+/// what a mount answers is the only answer. The function does nothing: its contract is the law.
+pub fn an_image_is_one_thing()
+    ensures { IsImageOneThing }
+{}
+
+/// What an image of a store stands for is a good catalog: each object is of a home of the schema, with a record of the home's
+/// layout of at most 8,000 octets; all serials and references are given; keys are unique; and the sum is within its limit.
+/// The function does nothing: its contract is the law.
+pub fn a_store_is_good()
+    ensures { StoresAreGood }
 {}

@@ -31,6 +31,9 @@ pub const LENGTH: usize = 12;
 /// Where the record begins in a change.
 pub const RECORD: usize = 16;
 
+/// Where the body begins behind the gate of its record.
+pub const BODY: u64 = 13;
+
 //
 // | Offset behind the gate of a root area | What |
 // |---|---|
@@ -65,8 +68,46 @@ pub const FIRST_SERIAL: u64 = 1;
 /// An open gate.
 pub const OPEN: u8 = 0xA5;
 
+/// A gate that was closed.
+pub const CLOSED: u8 = 0;
+
 /// How many octets are written at once where a store is cleared.
 pub const PIECE: usize = 131072;
 
 /// How many such pieces stand in front of the slots.
 pub const PIECES: u32 = 34;
+
+/// The greatest sum over the objects of 16 and the length of the record.
+pub const MOST_OCTETS: u64 = 67108864;
+
+/// The greatest length of a record.
+pub const LONGEST_RECORD: usize = 8000;
+
+//
+// | Offset in a page | What |
+// |---|---|
+// | 20 | the number of its entries, 4 octets |
+// | 40 | the entries, one behind the other |
+//
+// | Offset in an entry | What |
+// |---|---|
+// | 4 | the length of the record, 4 octets |
+// | 16 | the record |
+
+/// The first slot for a page.
+pub const FIRST_SLOT: u64 = 4456448;
+
+/// The length of a slot.
+pub const SLOT: u64 = 16384;
+
+/// Where the number of entries stands in a page.
+pub const ENTRY_COUNT: u64 = 20;
+
+/// Where the entries begin in a page.
+pub const ENTRIES: u64 = 40;
+
+/// Where the length of the record stands in an entry.
+pub const RECORD_LENGTH: u64 = 4;
+
+/// Where the record begins in an entry.
+pub const ENTRY: u64 = 16;

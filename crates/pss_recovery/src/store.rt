@@ -1,5 +1,5 @@
 // A store as a whole.
-ghost use Rattle.std.specs.Prelude.{ℕ, ◌≡◌, ◌<◌, ◌≤◌, Err, IfSome, OnErr, OnOk, length};
+ghost use Rattle.std.specs.Prelude.{◌≡◌, ◌<◌, ◌≤◌, Err, IfSome, OnOk, length};
 ghost use Rattle.std.specs.FinMap.{empty};
 ghost use Rattle.pss_base.specs.Causes.{HasCauseIf};
 ghost use Rattle.pss_disk.specs.Moments.{IsSettled};
@@ -12,18 +12,39 @@ ghost use Rattle.pss_recovery.specs.Stands.{Stands};
 
 use crate::clearing::write_new;
 use crate::fault::InitFault;
-use page_store::Pages;
+use crate::parts::Parts;
 use pss_base::Bytes;
 use pss_disk::Station;
-use redo_journal::Journal;
 use std::alloc::Global;
+use std::marker::Model;
+
+mod checkpoint;
+mod commit;
+mod mount;
+mod prepare;
 
 /// A store that is mounted.
+///
+/// Contracts see what is known of it in memory. What it stands for is said of the content of its station (`IsMounted`).
 #[derive(Drop)]
 pub struct Store {
-    pages: Pages,
-    journal: Journal,
-    next: u64,
+    pub(crate) parts: Parts,
+}
+
+impl Model for Store {
+    ghost use Rattle.pss_recovery.specs.declared.parts.Parts.{Parts};
+
+    ghost Value = { Parts };
+
+    ghost use Rattle.pss_recovery.specs.contracts.parts.Parts as parts_code;
+
+    ghost coded = { parts_code.the_row.coded };
+
+    ghost use Rattle.pss_recovery.specs.Mounted.{IsWhole};
+
+    ghost view = { λ s. s.parts };
+
+    ghost invariant = { λ s. IsWhole s.parts };
 }
 
 impl Store {

@@ -1,7 +1,7 @@
 -- Places that are left while pages and the next root are laid.
 use Rattle.std.specs.Prelude.{ℕ, ◌≡◌, ◌⊎◌, ◌+◌, ◌<◌, ◌≤◌, List, [], ◌∷◌, ⊤}
-use Rattle.page_store.specs.Places.{area_start, slot_end, slot_start}
-use Rattle.page_store.specs.declared.new_page.NewPage.{NewPage}
+use Rattle.page_format.specs.Places.{area_start, slot_end, slot_start}
+use Rattle.page_format.specs.declared.new_page.NewPage.{NewPage}
 
 -- a place is in none of the slots of these pages
 abbrev pub IsApart : List NewPage → ℕ → Type 0

@@ -3,10 +3,11 @@ use Rattle.std.specs.Prelude.{ℕ, ◌≡◌, ◌==◌, cond, List, [], ◌∷�
 use Rattle.std.specs.Map.{lookup}
 use Rattle.std.specs.declared.option.Option.{Option}
 use Rattle.pss_base.specs.declared.put.Put.{Put}
-use Rattle.page_store.specs.Objects.{stored_of}
-use Rattle.page_store.specs.Pages.{Entry, entries_of}
-use Rattle.page_store.specs.Places.{slot_start}
-use Rattle.page_store.specs.declared.objects.Stored.{Stored}
+use Rattle.page_format.specs.Objects.{stored_of}
+use Rattle.page_format.specs.Pages.{entries_of}
+use Rattle.page_format.specs.declared.entry.Entry.{Entry}
+use Rattle.page_format.specs.Places.{slot_start}
+use Rattle.page_format.specs.declared.objects.Stored.{Stored}
 
 module _ {X : Type 0} where
   -- what stands first under a key

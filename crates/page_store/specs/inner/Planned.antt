@@ -3,12 +3,13 @@ use Rattle.std.specs.Prelude.{ℕ, ◌≡◌, ◌+◌, ◌-◌, ◌%◌, ◌^◌
 use Rattle.std.specs.FinMap.{from_entries}
 use Rattle.page_store.specs.Checkpoints.{IsCheckpointed, IsSmallAmong, kept_slots}
 use Rattle.page_store.specs.Kept.{Kept}
-use Rattle.page_store.specs.Packing.{AreLeastFree}
-use Rattle.page_store.specs.Pages.{Entry, entries_in, places_in}
+use Rattle.page_format.specs.Packing.{AreLeastFree}
+use Rattle.page_format.specs.Pages.{entries_in, places_in}
+use Rattle.page_format.specs.declared.entry.Entry.{Entry}
 use Rattle.page_store.specs.Switch.{MayFollow, Next, Old, objects_of, places_of, slots_of}
-use Rattle.page_store.specs.declared.new_page.NewPage.{NewPage}
+use Rattle.page_format.specs.declared.new_page.NewPage.{NewPage}
 use Rattle.page_store.specs.declared.pages.planning.Plan.{Plan}
-use Rattle.page_store.specs.declared.root.Root.{Root}
+use Rattle.page_format.specs.declared.root.Root.{Root}
 
 -- the root follows the one that is kept, with the slots of these pages behind those that stay
 pub record IsNextRoot (kept : Kept) (stay : List ℕ) (pages : List NewPage) (next : ℕ) (root : Root) : Type 0 where

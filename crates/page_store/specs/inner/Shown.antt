@@ -4,8 +4,8 @@ use Rattle.std.specs.BTreeMap as tree
 use Rattle.std.specs.BTreeMap.{BTreeMap}
 use Rattle.std.specs.FinMap as finite
 use Rattle.std.specs.Ordering.{nat_cmp}
-use Rattle.page_store.specs.Objects.{Objects}
-use Rattle.page_store.specs.declared.objects.Stored.{Stored}
+use Rattle.page_format.specs.Objects.{Objects}
+use Rattle.page_format.specs.declared.objects.Stored.{Stored}
 
 -- the table holds these objects, by rising serial
 pub record AreShown (table : BTreeMap ℕ Stored) (m : Objects) : Type 0 where

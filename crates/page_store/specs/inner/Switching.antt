@@ -2,7 +2,7 @@
 use Rattle.std.specs.Prelude.{ℕ, ◌≡◌, ◌+◌, List, [], None, Some, IfSome}
 use Rattle.std.specs.declared.option.Option.{Option}
 use Rattle.pss_disk.specs.Parts.{octet_at}
-use Rattle.page_store.specs.Places.{area_start}
+use Rattle.page_format.specs.Places.{area_start}
 use Rattle.page_store.specs.Stores.{IsEmptied, IsJournal, IsPrepared}
 use Rattle.page_store.specs.Switch.{HasPages, MayFollow, Next, Old}
 use Rattle.redo_journal.specs.Journal.{IsClosed, journal_start}

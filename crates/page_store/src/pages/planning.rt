@@ -1,30 +1,29 @@
 // What a checkpoint writes is laid out.
-ghost use Rattle.std.specs.Prelude.{ℕ, ◌≡◌, ◌+◌, ◌-◌, ◌%◌, ◌^◌, ◌<◌, ◌≤◌, ◌++◌, [], cond, not, None, List, length, map, slice_index, All, IfOk, IfSome, OnOk, MatchOption};
+ghost use Rattle.std.specs.Prelude.{ℕ, ◌≡◌, ◌+◌, ◌-◌, ◌%◌, ◌^◌, ◌<◌, ◌≤◌, ◌++◌, [], cond, false, not, None, List, length, map, slice_index, All, Err, IfOk, IfSome, OnOk, MatchOption};
 ghost use Rattle.std.specs.FinMap as finite;
 ghost use Rattle.pss_base.specs.Causes.{HasCauseIf};
 ghost use Rattle.pss_disk.specs.Reading.{OnlyReads};
-ghost use Rattle.page_store.specs.Checkpoints.{AreSomeOf, MayCheckpoint, kept_slots, repacked_slots};
-ghost use Rattle.page_store.specs.Faults.{is_disk_stop};
-ghost use Rattle.page_store.specs.Objects.{IsRightPut};
-ghost use Rattle.page_store.specs.Packing.{AreLeastFree};
+ghost use Rattle.page_store.specs.Checkpoints.{ArePackedAnew, AreSomeOf, MayCheckpoint, kept_slots, repacked_slots};
+ghost use Rattle.page_format.specs.Objects.{IsRightPut};
+ghost use Rattle.page_format.specs.Packing.{AreLeastFree};
 ghost use Rattle.page_store.specs.Placed.{is_noted, placed};
-ghost use Rattle.page_store.specs.Roots.{IsWithinLimits};
-ghost use Rattle.page_store.specs.Switch.{AreWritable, Old, slots_of};
+ghost use Rattle.page_format.specs.Roots.{IsWithinLimits};
+ghost use Rattle.page_store.specs.Switch.{Old, slots_of};
+ghost use Rattle.page_format.specs.Written.{AreWritable};
+ghost use Rattle.page_store.specs.declared.stop.PlanStop.TheVariants.{Lost as AreLost};
+ghost use Rattle.page_store.specs.inner.Lost.{is_plan_disk_fault};
 ghost use Rattle.page_store.specs.inner.Planned.{IsNextRoot, IsPlan, IsPlanned};
 ghost use Rattle.page_store.specs.inner.Repacked.{MayBeWritten};
 
-use crate::entry::Entries;
-use crate::free::free_slots;
-use crate::layout::MOST_PAGES;
-use crate::new_page::NewPage;
 use crate::pages::Pages;
 use crate::parting::{Parted, part_slots};
 use crate::placing::{forget, new_pages, place_pages};
 use crate::repacking::repack;
-use crate::root::Root;
-use crate::slots::Slots;
 use crate::small::small_of;
-use pss_base::{NoMemory, Put, StoreStop};
+use crate::stop::PlanStop;
+use page_format::layout::MOST_PAGES;
+use page_format::{Entries, NewPage, Root, Slots, free_slots};
+use pss_base::{NoMemory, Put};
 use pss_disk::Station;
 use std::mem;
 
@@ -106,14 +105,10 @@ impl Pages {
         })
     }
 
-    /// Lays out what a checkpoint writes, where these slots stay and these pages are new.
-    pub fn lay_out(
-        &mut self,
-        stay: Slots,
-        packed: Vec<Entries>,
-        next: u64,
-    ) -> Result<Plan, NoMemory>
+    // The next root with these pages, for which there are slots.
+    fn plan_pages(&mut self, stay: Slots, packed: Vec<Entries>, next: u64) -> Result<Plan, NoMemory>
         requires next { 1 ≤ next }
+        requires few { length stay + length packed.items ≤ 8058 }
         requires some { AreSomeOf self.old.slots stay }
         requires written { MayBeWritten packed.items }
         ensures plan { IfOk result (λ plan. IsPlan self.old stay packed.items next plan) }
@@ -122,33 +117,61 @@ impl Pages {
         ensures places { IfOk result (λ plan. (q : ℕ) → finite.get self.new.places q ≡ placed plan.pages.items q (finite.get self.old.places q)) }
         ensures pages { self.new ≡ record self.old { places = self.new.places } }
     {
-        if stay.as_slice().len() + packed.len() > MOST_PAGES as usize {
-            return Err(NoMemory);
-        }
         let pages = self.place(packed)?;
         let small = small_of(&pages);
         let root = self.next_root(stay, &pages, next)?;
         Ok(Plan { root, pages, small })
     }
 
+    /// Lays out what a checkpoint writes, where these slots stay and these pages are new. `Lost`: together they are more than a
+    /// root may name.
+    pub fn lay_out(
+        &mut self,
+        stay: Slots,
+        packed: Vec<Entries>,
+        next: u64,
+    ) -> Result<Plan, PlanStop>
+        requires next { 1 ≤ next }
+        requires some { AreSomeOf self.old.slots stay }
+        requires written { MayBeWritten packed.items }
+        ensures plan { IfOk result (λ plan. IsPlan self.old stay packed.items next plan) }
+        ensures limits { IfOk result (λ plan. IsWithinLimits plan.root) }
+        ensures writable { IfOk result (λ plan. AreWritable plan.pages.items) }
+        ensures lost { result ≡ Err AreLost → 8058 < length stay + length packed.items }
+        ensures memory { is_plan_disk_fault result ≡ false }
+        ensures places { IfOk result (λ plan. (q : ℕ) → finite.get self.new.places q ≡ placed plan.pages.items q (finite.get self.old.places q)) }
+        ensures pages { self.new ≡ record self.old { places = self.new.places } }
+    {
+        if stay.as_slice().len() + packed.len() > MOST_PAGES as usize {
+            return Err(PlanStop::Lost);
+        }
+        match self.plan_pages(stay, packed, next) {
+            Ok(plan) => Ok(plan),
+            Err(_) => Err(PlanStop::NoMemory),
+        }
+    }
+
     /// Lays out the next root and its pages. Those pages that hold an object of which a change is noted, and the one with
     /// little in use, are read again, and their objects are packed anew with the changes over them. After an error the
     /// pages are of no more use.
-    pub fn plan<W: Station>(&mut self, w: &mut W, next: u64) -> Result<Plan, StoreStop>
+    pub fn plan<W: Station>(&mut self, w: &mut W, next: u64) -> Result<Plan, PlanStop>
         requires { 1 ≤ next }
         ensures planned { IfOk result (λ plan. (old : Old) → IfSome (W.content w.old) (λ c. MayCheckpoint old self.old next c → IsPlanned old self.old next plan self.new c)) }
         ensures limits { IfOk result (λ plan. IsWithinLimits plan.root) }
         ensures writable { IfOk result (λ plan. AreWritable plan.pages.items) }
+        ensures packed { IfOk result (λ plan. IfSome (W.content w.old) (ArePackedAnew self.old plan.pages.items)) }
+        ensures next_root { IfOk result (λ plan. IsNextRoot self.old (kept_slots self.old) plan.pages.items next plan.root) }
+        ensures lost { result ≡ Err AreLost → IfSome (W.content w.old) (λ c. (old : Old) → MayCheckpoint old self.old next c → old.root.next < 2 ^ 64 → ⊥) }
         ensures noted { OnOk result (self.new.noted ≡ []) }
         ensures room { OnOk result (self.new.room ≡ 0) }
         ensures reads { OnlyReads W.now W.content W.history W.speak_faults w.old w.new }
-        ensures cause { HasCauseIf (W.disk_faults w.old) (W.disk_faults w.new) (is_disk_stop result) }
+        ensures cause { HasCauseIf (W.disk_faults w.old) (W.disk_faults w.new) (is_plan_disk_fault result) }
     {
         let alloc = *self.noted.allocator();
         let noted = self.take_noted();
         let parted = match self.part(&noted) {
             Ok(parted) => parted,
-            Err(_) => return Err(StoreStop::NoMemory),
+            Err(_) => return Err(PlanStop::NoMemory),
         };
         let packed = match repack(alloc, w, parted.repacked.as_slice(), noted) {
             Ok(packed) => packed,
@@ -156,7 +179,7 @@ impl Pages {
         };
         match self.lay_out(parted.kept, packed, next) {
             Ok(plan) => Ok(plan),
-            Err(_) => Err(StoreStop::NoMemory),
+            Err(stop) => Err(stop),
         }
     }
 

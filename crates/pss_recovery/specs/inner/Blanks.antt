@@ -2,7 +2,7 @@
 use Rattle.std.specs.Prelude.{ℕ, ◌≡◌, ◌+◌, ◌≤◌, List, ◌++◌, length}
 use Rattle.std.specs.Int.{to_be_bytes, w32, w64}
 use Rattle.pss_disk.specs.Parts.{Stands, octet_at}
-use Rattle.page_store.specs.Roots.{root_magic}
+use Rattle.page_format.specs.Roots.{root_magic}
 
 -- an image of so many octets, all of them zero
 pub record IsBlank (count : ℕ) (image : List ℕ) : Type 0 where

@@ -1,8 +1,8 @@
 use Rattle.std.proofs.Common.{List, ℕ, sym, subst}
 use Rattle.std.specs.declared.option.Option.{Option}
-use Rattle.page_store.specs.Objects.{with_record}
+use Rattle.page_format.specs.Objects.{with_record}
 use Rattle.page_store.specs.inner.Shown.{AreShown}
-use Rattle.page_store.proofs.Answered.{after_one}
+use Rattle.page_format.proofs.Answered.{after_one}
 use Rattle.page_store.proofs.changing.change.Goals as goal
 
 pub returns-in-Some : goal.returns-in-Some

@@ -2,7 +2,7 @@ use Rattle.std.proofs.Common.{◌≡◌, ◌∙◌, ◌++◌, ◌∷◌, [], Lis
 use Rattle.std.specs.Vec.Iter.{into_iter_items}
 use Rattle.page_store.proofs.Turned.{nothing_left}
 use Rattle.pss_base.specs.declared.put.Put.{Put}
-use Rattle.page_store.specs.Objects.{Objects, over}
+use Rattle.page_format.specs.Objects.{Objects, over}
 use Rattle.page_store.specs.inner.Shown.{AreShown}
 use Rattle.page_store.proofs.Changes.{over_more}
 use Rattle.page_store.proofs.changing.change_all.Goals as goal

@@ -1,6 +1,6 @@
 use Rattle.std.proofs.Common.{◌≡◌, ◌++◌}
 use Rattle.std.specs.Vec.Iter.{into_iter_items}
-use Rattle.page_store.specs.Objects.{Objects, over}
+use Rattle.page_format.specs.Objects.{Objects, over}
 use Rattle.page_store.specs.inner.Shown.{AreShown}
 use Rattle.page_store.proofs.changing.change_all.Given as goal
 

@@ -1,7 +1,7 @@
 use Rattle.std.proofs.Common.{List, subst}
 use Rattle.std.specs.FinMap.{empty}
 use Rattle.pss_base.specs.declared.put.Put.{Put}
-use Rattle.page_store.specs.Objects.{over}
+use Rattle.page_format.specs.Objects.{over}
 use Rattle.page_store.specs.inner.Shown.{AreShown}
 use Rattle.page_store.proofs.Changes.{shown_none}
 use Rattle.page_store.proofs.changing.changed.Goals as goal

@@ -2,7 +2,7 @@ use Rattle.std.proofs.Common.{ℕ, ◌≡◌, ◌≢◌, ◌-◌, ap, arith, sub
 use Rattle.pss_disk.specs.Images.{Keeps}
 use Rattle.pss_disk.specs.Moments.{Through}
 use Rattle.redo_journal.specs.Journal.{IsClosed}
-use Rattle.page_store.specs.Places.{area_start}
+use Rattle.page_format.specs.Places.{area_start}
 use Rattle.page_store.specs.inner.Gates.{IsAnywhere}
 use Rattle.page_store.proofs.Closing.{while_closing}
 use Rattle.page_store.proofs.JournalThere.{while_gate}

@@ -1,6 +1,6 @@
 use Rattle.std.proofs.Common.{◌≡◌, ◌-◌, ap, arith}
 use Rattle.std.proofs.lemmas.Result.{on_ok_weaker}
-use Rattle.page_store.specs.Places.{area_start}
+use Rattle.page_format.specs.Places.{area_start}
 use Rattle.page_store.proofs.Opening.{then_open, while_opening}
 use Rattle.page_store.proofs.JournalThere.{while_gate}
 use Rattle.page_store.proofs.gates.open_other.Goals as goal

@@ -1,7 +1,7 @@
 use Rattle.std.proofs.Common.{◌-◌, List, ap, arith, drop, length, length-drop, subst, sym, take, ◌∙◌}
-use Rattle.page_store.specs.Switch.{AreWritable}
+use Rattle.page_format.specs.Written.{AreWritable}
 use Rattle.page_store.specs.inner.Laying.{IsApart}
-use Rattle.page_store.specs.declared.new_page.NewPage.{NewPage}
+use Rattle.page_format.specs.declared.new_page.NewPage.{NewPage}
 use Rattle.page_store.proofs.PageRuns.{apart_dropped, next_content, rest_is, writable_dropped}
 use Rattle.page_store.proofs.laying.write_pages.Goals as goal
 

@@ -3,7 +3,7 @@ use Rattle.std.specs.declared.option.Option.{Option}
 use Rattle.std.specs.Option.{option_map}
 use Rattle.pss_disk.specs.Images.{Stretch}
 use Rattle.pss_disk.specs.Moments.{Moment}
-use Rattle.page_store.specs.Written.{with_pages}
+use Rattle.page_format.specs.Written.{with_pages}
 use Rattle.page_store.specs.inner.Laying.{IsLeft}
 use Rattle.page_store.proofs.laying.write_pages.Given as goal
 

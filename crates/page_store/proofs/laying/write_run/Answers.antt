@@ -1,10 +1,10 @@
 use Rattle.std.proofs.Common.{◌+◌, ◌*◌, ◌++◌, ◌∙◌, ap, inr, slice_index_or, sym, take}
-use Rattle.page_store.specs.Places.{slot_start}
-use Rattle.page_store.specs.Written.{pages_octets}
+use Rattle.page_format.specs.Places.{slot_start}
+use Rattle.page_format.specs.Written.{pages_octets}
 use Rattle.page_store.specs.inner.Laying.{IsLeft}
-use Rattle.page_store.specs.declared.new_page.NewPage.{NewPage}
+use Rattle.page_format.specs.declared.new_page.NewPage.{NewPage}
 use Rattle.page_store.proofs.PageRuns.{first_start, run_content, run_fits, run_misses}
-use Rattle.page_store.proofs.Spelled.{writable_taken}
+use Rattle.page_format.proofs.Spelled.{writable_taken}
 use Rattle.pss_disk.specs.Octets.{range_of}
 use Rattle.pss_disk.proofs.Stretches.{stretch_write}
 use Rattle.page_store.proofs.laying.write_run.Goals as goal

@@ -2,7 +2,7 @@ use Rattle.std.proofs.Common.{◌≡◌, ◌∙◌, ℕ, ◌<◌, arith, ap, len
 use Rattle.std.proofs.lemmas.Result.{IfOk-weaker}
 use Rattle.page_store.specs.Touched.{is_repacked, under_serials}
 use Rattle.page_store.proofs.ByKey.{filter_alike}
-use Rattle.page_store.proofs.Marking.{given_back, marked_as}
+use Rattle.page_format.proofs.Marking.{given_back, marked_as}
 use Rattle.page_store.proofs.parting.part_slots.Goals as goal
 
 module _ (c : goal.After-drop-marks) where

@@ -1,5 +1,5 @@
 use Rattle.page_store.proofs.Anew.{repacked_of, right_entries}
-use Rattle.page_store.proofs.Answered.{told_four}
+use Rattle.page_format.proofs.Answered.{told_four}
 use Rattle.page_store.proofs.repacking.packed.Goals as goal
 
 pub pack-requires : goal.pack-requires

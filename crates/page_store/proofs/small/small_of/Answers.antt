@@ -1,8 +1,8 @@
 use Rattle.std.proofs.Common.{◌∙◌, ◌≡◌, arith, ap, subst, sym, below_more, get_or}
-use Rattle.page_store.specs.Packing.{used_by}
-use Rattle.page_store.specs.Switch.{IsWritable, uses_of}
-use Rattle.page_store.specs.Written.{AreStorable}
-use Rattle.page_store.specs.declared.new_page.NewPage.{NewPage}
+use Rattle.page_format.specs.Packing.{used_by}
+use Rattle.page_store.specs.Switch.{uses_of}
+use Rattle.page_format.specs.Written.{AreStorable, IsWritable}
+use Rattle.page_format.specs.declared.new_page.NewPage.{NewPage}
 use Rattle.page_store.proofs.Plans.{at_mapped, length_entries, use_at, writable_at}
 use Rattle.page_store.proofs.small.small_of.Goals as goal
 

@@ -1,5 +1,5 @@
 use Rattle.std.proofs.Common.{◌+◌, arith, ap}
-use Rattle.page_store.specs.Packing.{size_of}
+use Rattle.page_format.specs.Packing.{size_of}
 use Rattle.page_store.proofs.Plans.{storable_at, used_more, used_take}
 use Rattle.page_store.proofs.small.used_by.Goals as goal
 

@@ -1,9 +1,9 @@
 use Rattle.std.proofs.Common.{[], subst}
-use Rattle.page_store.specs.Places.{area_start}
+use Rattle.page_format.specs.Places.{area_start}
 use Rattle.page_store.specs.Stores.{AllHave, IsEmptied, IsJournal, IsPrepared}
 use Rattle.page_store.specs.Switch.{IsEither}
 use Rattle.page_store.specs.inner.Switching.{IsEntered, IsReady}
-use Rattle.page_store.proofs.Buffers.{some_weaker}
+use Rattle.page_format.proofs.Buffers.{some_weaker}
 use Rattle.page_store.proofs.Entering.{either_while, entered_while, quiet_on, then_closed, then_entered}
 use Rattle.pss_disk.specs.Images.{IsQuiet}
 use Rattle.pss_disk.proofs.Passing.{then_come}

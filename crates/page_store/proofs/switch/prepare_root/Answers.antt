@@ -1,8 +1,8 @@
 use Rattle.std.proofs.Common.{ap}
 use Rattle.page_store.specs.Stores.{AllHave, HasStore, IsJournal}
 use Rattle.page_store.specs.Switch.{HasOld, MayFollow}
-use Rattle.page_store.specs.declared.root.Root.{Root}
-use Rattle.page_store.proofs.Buffers.{some_weaker}
+use Rattle.page_format.specs.declared.root.Root.{Root}
+use Rattle.page_format.proofs.Buffers.{some_weaker}
 use Rattle.page_store.proofs.Entering.{old_while, quiet_on, then_laid, then_prepared}
 use Rattle.pss_disk.specs.Images.{IsQuiet}
 use Rattle.pss_disk.proofs.Passing.{then_come}

@@ -2,7 +2,7 @@ use Rattle.std.proofs.Common.{IfSome}
 use Rattle.page_store.specs.Stores.{IsEmptied}
 use Rattle.page_store.specs.Switch.{HasPages, MayFollow}
 use Rattle.page_store.specs.inner.Switching.{IsEntered}
-use Rattle.page_store.proofs.Buffers.{some_weaker}
+use Rattle.page_format.proofs.Buffers.{some_weaker}
 use Rattle.page_store.proofs.switch.switch_roots.Goals as goal
 
 pub returns-in-Ok-switch_with-clause-switched : goal.returns-in-Ok-switch_with-clause-switched

@@ -1,7 +1,7 @@
 use Rattle.std.proofs.Common.{ap}
 use Rattle.page_store.specs.Stores.{AllHave}
 use Rattle.page_store.specs.Switch.{IsEither}
-use Rattle.page_store.specs.declared.root.Root.{Root}
+use Rattle.page_format.specs.declared.root.Root.{Root}
 use Rattle.page_store.proofs.Entering.{entered_from, old_is_either, quiet_on, ready_now}
 use Rattle.pss_disk.specs.Images.{IsQuiet}
 use Rattle.pss_disk.proofs.Passing.{then_come}

@@ -1,9 +1,9 @@
 use Rattle.std.proofs.Common.{◌∙◌, ◌+◌, ◌-◌, ◌%◌, ◌^◌, ◌<◌, refl, ap, arith, subst, sym, List, ℕ}
 use Rattle.page_store.specs.Kept.{Kept}
 use Rattle.page_store.specs.Checkpoints.{AreSomeOf}
-use Rattle.page_store.specs.Packing.{AreLeastFree}
+use Rattle.page_format.specs.Packing.{AreLeastFree}
 use Rattle.page_store.specs.Switch.{slots_of}
-use Rattle.page_store.specs.declared.new_page.NewPage.{NewPage}
+use Rattle.page_format.specs.declared.new_page.NewPage.{NewPage}
 use Rattle.page_store.proofs.Plans.{length_mapped, limits_next}
 use Rattle.page_store.proofs.pages.Pages.next_root.Goals as goal
 

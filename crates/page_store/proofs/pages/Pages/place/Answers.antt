@@ -3,7 +3,7 @@ use Rattle.std.specs.FinMap as finite
 use Rattle.std.specs.declared.option.Option.{Option}
 use Rattle.page_store.specs.Kept.{Kept}
 use Rattle.page_store.specs.Placed.{placed, slot_under}
-use Rattle.page_store.specs.declared.new_page.NewPage.{NewPage}
+use Rattle.page_format.specs.declared.new_page.NewPage.{NewPage}
 use Rattle.page_store.proofs.ByKey.{get_entries}
 use Rattle.page_store.proofs.Plans.{writable_from}
 use Rattle.page_store.proofs.pages.Pages.place.Goals as goal

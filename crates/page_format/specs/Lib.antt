@@ -1,0 +1,12 @@
+pub mod Faults
+pub mod Laws
+pub mod Objects
+pub mod Packing
+pub mod PageDamage
+pub mod Pages
+pub mod Places
+pub mod Refusals
+pub mod Roots
+pub mod Rows
+pub mod Written
+pub mod inner

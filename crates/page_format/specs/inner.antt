@@ -1,0 +1,10 @@
+pub mod Buffers
+pub mod Copies
+pub mod Current
+pub mod Freeing
+pub mod Gathering
+pub mod Heads
+pub mod Marks
+pub mod Packing
+pub mod Stops
+pub mod Tested

@@ -1,0 +1,103 @@
+// Pages and roots as octets.
+ghost use Rattle.std.specs.Prelude.{◌≡◌, ◌++◌, ◌+◌, ◌*◌, ◌<◌, ◌≤◌, ◌^◌, length};
+ghost use Rattle.page_format.specs.Written.{AreStorable, AreWritable, IsStorable, IsWritable, entries_octets, entry_octets, list_octets, pages_octets, root_octets, whole_page};
+
+use crate::buffer::Buffer;
+use crate::entry::Entry;
+use crate::layout::{MOST_USED, PAGE_MAGIC, PAGE_ZEROS, RECORD, ROOT_MAGIC};
+use crate::new_page::NewPage;
+use crate::root::Root;
+
+// Puts an entry behind what a buffer has.
+fn put_entry(buffer: &mut Buffer, entry: &Entry)
+    requires storable { IsStorable entry.now }
+    requires room { length buffer.old.octets + 16 + length entry.now.octets ≤ buffer.old.size }
+    ensures { buffer.new ≡ record { size = buffer.old.size; octets = buffer.old.octets ++ entry_octets entry.now } }
+{
+    let octets = entry.octets.as_slice();
+    buffer.put(&entry.home.to_be_bytes());
+    buffer.put(&(octets.len() as u32).to_be_bytes());
+    buffer.put(&entry.serial.to_be_bytes());
+    buffer.put(octets);
+}
+
+// Puts entries behind what a buffer has.
+fn put_entries(buffer: &mut Buffer, entries: &[Entry])
+    requires storable { AreStorable entries.now }
+    requires room { length buffer.old.octets + length (entries_octets entries.now) ≤ buffer.old.size }
+    ensures { buffer.new ≡ record { size = buffer.old.size; octets = buffer.old.octets ++ entries_octets entries.now } }
+{
+    for entry in entries {
+        put_entry(buffer, entry);
+    }
+}
+
+// How many octets entries take.
+fn used_by(entries: &[Entry]) -> u32
+    requires storable { AreStorable entries.now }
+    requires short { length (entries_octets entries.now) ≤ 16344 }
+    ensures { result ≡ length (entries_octets entries.now) }
+{
+    let mut used = 0;
+    for entry in entries {
+        used += (RECORD + entry.octets.as_slice().len()) as u32;
+    }
+    used
+}
+
+// Puts a whole page behind what a buffer has.
+fn put_page(buffer: &mut Buffer, epoch: u64, page: &NewPage)
+    requires writable { IsWritable page.now }
+    requires room { length buffer.old.octets + 16384 ≤ buffer.old.size }
+    ensures { buffer.new ≡ record { size = buffer.old.size; octets = buffer.old.octets ++ whole_page epoch page.now } }
+{
+    let entries = page.entries.as_slice();
+    let used = used_by(entries);
+    buffer.put(&PAGE_MAGIC);
+    buffer.put(&epoch.to_be_bytes());
+    buffer.put(&page.slot.to_be_bytes());
+    buffer.put(&(entries.len() as u32).to_be_bytes());
+    buffer.put(&used.to_be_bytes());
+    buffer.put(&PAGE_ZEROS);
+    put_entries(buffer, entries);
+    buffer.put_zeros((MOST_USED - used) as usize);
+}
+
+/// Puts whole pages behind what a buffer has, one after another.
+pub fn put_pages(buffer: &mut Buffer, epoch: u64, pages: &[NewPage])
+    requires writable { AreWritable pages.now }
+    requires room { length buffer.old.octets + length pages.now * 16384 ≤ buffer.old.size }
+    ensures { buffer.new ≡ record { size = buffer.old.size; octets = buffer.old.octets ++ pages_octets epoch pages.now } }
+{
+    for page in pages {
+        put_page(buffer, epoch, page);
+    }
+}
+
+/// Puts what stands in a root area between its gate and its slots behind what a buffer has.
+pub fn put_root(buffer: &mut Buffer, root: &Root)
+    requires shape { length root.now.shape ≤ 65536 }
+    requires slots { length root.now.slots ≤ 8058 }
+    requires room { length buffer.old.octets + 31 + length root.now.shape ≤ buffer.old.size }
+    ensures put { buffer.new ≡ record { size = buffer.old.size; octets = buffer.old.octets ++ root_octets root.now } }
+    ensures next { root.now.next < 2 ^ 64 }
+{
+    let shape = root.shape.as_slice();
+    let slots = root.slots.as_slice();
+    buffer.put(&ROOT_MAGIC);
+    buffer.put(&root.epoch.to_be_bytes());
+    buffer.put(&root.next.to_be_bytes());
+    buffer.put(&(shape.len() as u32).to_be_bytes());
+    buffer.put(&(slots.len() as u32).to_be_bytes());
+    buffer.put(shape);
+}
+
+/// Puts slots behind what a buffer has.
+pub fn put_slots(buffer: &mut Buffer, slots: &[u32])
+    requires { length buffer.old.octets + length slots.now * 4 ≤ buffer.old.size }
+    ensures { buffer.new ≡ record { size = buffer.old.size; octets = buffer.old.octets ++ list_octets slots.now } }
+{
+    for slot in slots {
+        buffer.put(&slot.to_be_bytes());
+    }
+}

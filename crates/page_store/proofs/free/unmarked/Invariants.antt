@@ -1,9 +1,0 @@
-use Rattle.std.proofs.Common.{◌≤◌, length}
-use Rattle.page_store.specs.inner.Freeing.{AreUnmarkedBelow}
-use Rattle.page_store.proofs.free.unmarked.Given as goal
-
-abbrev pub invariant-loop-slot : goal.invariant-loop-slot
-invariant-loop-slot l = record {
-  so_far : AreUnmarkedBelow l.marks l.slot l.free;
-  few : length l.free ≤ l.count;
-}

@@ -1,6 +1,0 @@
-use Rattle.std.proofs.Common.{◌≡◌, ◌++◌, take}
-use Rattle.page_store.specs.Written.{entries_octets}
-use Rattle.page_store.proofs.spelling.put_entries.Given as goal
-
-abbrev pub invariant-loop-entry : goal.invariant-loop-entry
-invariant-loop-entry l = l.buffer ≡ record { size = l.fn.buffer.size; octets = l.fn.buffer.octets ++ entries_octets (take l.entry-index l.entries) }

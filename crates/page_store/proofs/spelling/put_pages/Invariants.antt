@@ -1,6 +1,0 @@
-use Rattle.std.proofs.Common.{◌≡◌, ◌++◌, take}
-use Rattle.page_store.specs.Written.{pages_octets}
-use Rattle.page_store.proofs.spelling.put_pages.Given as goal
-
-abbrev pub invariant-loop-page : goal.invariant-loop-page
-invariant-loop-page l = l.buffer ≡ record { size = l.fn.buffer.size; octets = l.fn.buffer.octets ++ pages_octets l.epoch (take l.page-index l.pages) }

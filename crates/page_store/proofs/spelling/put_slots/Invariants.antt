@@ -1,6 +1,0 @@
-use Rattle.std.proofs.Common.{◌≡◌, ◌++◌, take}
-use Rattle.page_store.specs.Written.{list_octets}
-use Rattle.page_store.proofs.spelling.put_slots.Given as goal
-
-abbrev pub invariant-loop-slot : goal.invariant-loop-slot
-invariant-loop-slot l = l.buffer ≡ record { size = l.fn.buffer.size; octets = l.fn.buffer.octets ++ list_octets (take l.slot-index l.slots) }

@@ -1,0 +1,141 @@
+// The shape of a store and a row of its pages, each by itself.
+ghost use Rattle.std.specs.Prelude.{◌≡◌, ◌≤◌, Err, IfErr, IfOk, IsSome, OnOk, Some, length};
+ghost use Rattle.pss_base.specs.declared.damage.DamageKind.{DamageKind as Kind};
+ghost use Rattle.pss_base.specs.declared.damage.DamageKind.TheVariants as kind;
+ghost use Rattle.type_layout.specs.ShapeText.{shape_text};
+ghost use Rattle.type_layout.specs.Sound.{IsSoundLayout, IsSoundSchema};
+ghost use Rattle.type_layout.specs.Spelling.{record_spelling};
+ghost use Rattle.type_layout.specs.Values.{IsRecord};
+ghost use Rattle.storage_home.specs.Applied.{AreKeysOf};
+ghost use Rattle.storage_home.specs.Kept.{IsSound};
+ghost use Rattle.storage_home.specs.inner.Steps.{keys_in};
+ghost use Rattle.pss_recovery.specs.declared.checking.RowStop.TheVariants.{Wrong};
+ghost use Rattle.pss_recovery.specs.Loading.{IsStored, RefersBelow};
+ghost use Rattle.pss_recovery.specs.inner.Checks.{AreNoRecord, IsShapeRefusal, IsWrongAlone, object_of};
+
+use crate::fault::MountFault;
+use crate::references::record_refers_below;
+use crate::shapes::first_difference;
+use cdr_codec::{RecordFault, decode};
+use pss_base::{DamageKind, NoMemory, Put};
+use pss_catalog::home_at;
+use std::alloc::Global;
+use storage_home::KeyValues;
+use type_layout::{Home, HomeNo, KeyNo, Record, Schema, key_of, shape_of};
+
+/// Tests that the shape of a store is that of the schema.
+pub fn test_shape(alloc: Global, schema: &Schema, shape: &[u8]) -> Result<(), MountFault>
+    requires { IsSoundSchema schema.now }
+    ensures same { OnOk result (shape.now ≡ shape_text schema.now) }
+    ensures refused { IfErr result (IsShapeRefusal schema.now shape.now) }
+{
+    let Ok(own) = shape_of(alloc, schema) else {
+        return Err(MountFault::NoMemory);
+    };
+    match first_difference(own.as_slice(), shape) {
+        None => Ok(()),
+        Some(home) => Err(MountFault::ShapeDiffers(HomeNo(home))),
+    }
+}
+
+/// A row that is right by itself.
+#[derive(Drop)]
+pub struct Checked {
+    pub values: Record,
+    /// The keys that it holds, each with its bytes.
+    pub keys: KeyValues,
+}
+
+/// Why a row is not right.
+#[derive(Clone, Copy, Debug, PartialEq, Eq, Drop)]
+pub enum RowStop {
+    /// This is wrong with it.
+    Wrong(DamageKind),
+    /// There was no memory. It may come in place of any other answer.
+    NoMemory,
+}
+
+// The record that octets spell.
+fn record_in(alloc: Global, home: &Home, bytes: &[u8]) -> Result<Record, RowStop>
+    requires { IsSoundLayout home.now.layout.members }
+    ensures found { IfOk result (λ values. IsRecord home.now.layout.members values × (bytes.now ≡ record_spelling home.now.layout.members values)) }
+    ensures refused { (k : Kind) → result ≡ Err (Wrong k) → (k ≡ kind.Record) × AreNoRecord home.now.layout.members bytes.now }
+{
+    match decode(alloc, &home.layout, bytes) {
+        Ok(values) => Ok(values),
+        Err(RecordFault::NoMemory) => Err(RowStop::NoMemory),
+        Err(_) => Err(RowStop::Wrong(DamageKind::Record)),
+    }
+}
+
+// The record of a row.
+fn values_of(alloc: Global, schema: &Schema, row: &Put, next: u64) -> Result<Record, RowStop>
+    requires sound { IsSoundSchema schema.now }
+    requires some { IsSome row.now.bytes }
+    ensures stored { IfOk result (λ values. IsStored schema.now row.now (object_of row.now values)) }
+    ensures refers { IfOk result (λ values. RefersBelow next (object_of row.now values)) }
+    ensures refused { (k : Kind) → result ≡ Err (Wrong k) → IsWrongAlone schema.now next row.now k }
+{
+    let Some(home) = home_at(schema, HomeNo(row.home)) else {
+        return Err(RowStop::Wrong(DamageKind::Entry));
+    };
+    let Some(bytes) = &row.bytes else {
+        unreachable!()
+    };
+    let values = match record_in(alloc, home, bytes.as_slice()) {
+        Ok(values) => values,
+        Err(stop) => return Err(stop),
+    };
+    if record_refers_below(&values, next) {
+        Ok(values)
+    } else {
+        Err(RowStop::Wrong(DamageKind::Ref))
+    }
+}
+
+// The keys that the record of an object of a home holds.
+fn keys_of(
+    alloc: Global,
+    schema: &Schema,
+    home: HomeNo,
+    values: &Record,
+) -> Result<KeyValues, NoMemory>
+    requires sound { IsSoundSchema schema.now }
+    requires object { IsSound schema.now (record { home = home; values = values.now }) }
+    ensures { IfOk result (λ keys. AreKeysOf schema.now (Some (record { home = home; values = values.now })) keys) }
+{
+    let mut keys = KeyValues::new(alloc);
+    for key in keys_at(schema, home) {
+        keys.push((*key, key_of(alloc, schema, *key, values)?))?;
+    }
+    Ok(keys)
+}
+
+/// The keys of a home, none where it is not there.
+pub fn keys_at(schema: &Schema, home: HomeNo) -> &[KeyNo]
+    ensures { result.now ≡ keys_in schema.now home }
+{
+    match home_at(schema, home) {
+        Some(found) => found.keys.as_slice(),
+        None => &[],
+    }
+}
+
+/// Tests a row by itself, in this order: its home, its record, what the record refers to.
+pub fn check_row(alloc: Global, schema: &Schema, row: &Put, next: u64) -> Result<Checked, RowStop>
+    requires sound { IsSoundSchema schema.now }
+    requires some { IsSome row.now.bytes }
+    ensures stored { IfOk result (λ checked. IsStored schema.now row.now (object_of row.now checked.values)) }
+    ensures refers { IfOk result (λ checked. RefersBelow next (object_of row.now checked.values)) }
+    ensures keys { IfOk result (λ checked. AreKeysOf schema.now (Some (object_of row.now checked.values)) checked.keys) }
+    ensures refused { (k : Kind) → result ≡ Err (Wrong k) → IsWrongAlone schema.now next row.now k }
+{
+    let values = match values_of(alloc, schema, row, next) {
+        Ok(values) => values,
+        Err(stop) => return Err(stop),
+    };
+    match keys_of(alloc, schema, HomeNo(row.home), &values) {
+        Ok(keys) => Ok(Checked { values, keys }),
+        Err(_) => Err(RowStop::NoMemory),
+    }
+}

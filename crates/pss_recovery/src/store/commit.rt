@@ -1,0 +1,44 @@
+// A body that was prepared is appended to the journal.
+ghost use Rattle.std.specs.Prelude.{ℕ, ◌≡◌, IfSome, OnOk};
+ghost use Rattle.pss_base.specs.Causes.{HasCause};
+ghost use Rattle.pss_catalog.specs.Catalog.{Catalog};
+ghost use Rattle.pss_disk.specs.Images.{Keeps};
+ghost use Rattle.pss_disk.specs.Moments.{IsSettled, Through};
+ghost use Rattle.pss_disk.specs.Octets.{StaysOutside};
+ghost use Rattle.page_store.specs.Stores.{AllHave};
+ghost use Rattle.type_layout.specs.declared.schema.Schema.{Schema};
+ghost use Rattle.pss_recovery.specs.Area.{IsOutsideJournal, journal_area};
+ghost use Rattle.pss_recovery.specs.Mounted.{HasRoom, IsMounted, IsPrepared, StandsEither};
+ghost use Rattle.pss_recovery.specs.Silence.{IsSilent};
+
+use crate::noting::note_all;
+use crate::prepared::Prepared;
+use crate::store::Store;
+use pss_base::DiskFault;
+use pss_disk::Station;
+
+impl Store {
+    /// Appends a body that was prepared to the journal, and makes sure of it. It takes no memory, and changes no octet outside the
+    /// journal.
+    ///
+    /// At each moment each image stands for the catalog before with its next serial, or for the catalog that the body makes with the
+    /// body's next serial. After `Ok` the content stands for the latter, and nothing is pending. `DiskFault`: a call of the disk failed;
+    /// the store is not called again, but mounted anew.
+    pub fn commit<W: Station>(&mut self, w: &mut W, prepared: Prepared) -> Result<(), DiskFault>
+        requires room { HasRoom self.old prepared }
+        requires settled { IsSettled (W.content w.old) (W.now w.old) }
+        ensures made { OnOk result ((S : Schema) (M N : Catalog) (next : ℕ) → IfSome (W.content w.old) (λ before. IsPrepared S M next self.old prepared.body N before → IfSome (W.content w.new) (IsMounted S N prepared.body.next self.new))) }
+        ensures images { (S : Schema) (M N : Catalog) (next : ℕ) → IfSome (W.content w.old) (λ before. IsPrepared S M next self.old prepared.body N before → Through (W.history w.old) (W.history w.new) (AllHave (StandsEither S M next N prepared.body.next))) }
+        ensures others { Through (W.history w.old) (W.history w.new) (Keeps IsOutsideJournal (W.content w.old)) }
+        ensures content { StaysOutside journal_area (W.content w.old) (W.content w.new) }
+        ensures settled { OnOk result (IsSettled (W.content w.new) (W.now w.new)) }
+        ensures next { OnOk result (self.new.next ≡ prepared.body.next) }
+        ensures silent { IsSilent W.now W.history W.speak_faults w.old w.new }
+        ensures cause { HasCause (W.disk_faults w.old) (W.disk_faults w.new) result }
+    {
+        self.parts.journal.append(w, prepared.octets.as_slice())?;
+        note_all(&mut self.parts.pages, prepared.body.puts);
+        self.parts.next = prepared.body.next;
+        Ok(())
+    }
+}

@@ -24,9 +24,9 @@ impl Model for KeyIndex {
 
     ghost coded = { index_code };
 
-    ghost use Rattle.key_index.specs.Slots.{held_of, reserved_of};
+    ghost use Rattle.key_index.specs.Slots.{slots_of, held_of, reserved_of};
 
-    ghost view = { λ k. record { held = held_of k.slots.entries; reserved = reserved_of k.slots.entries } };
+    ghost view = { λ k. record { held = held_of (slots_of k.slots); reserved = reserved_of (slots_of k.slots) } };
 }
 
 impl KeyIndex {

@@ -1,7 +1,8 @@
-// The table behind an index: a slot for each key that is held, reserved or both.
+// The tables behind an index: a slot for each key that is held, reserved or both.
 ghost use Rattle.std.specs.Prelude.{◌≡◌, [], Some, None, true, OnOk, OnErr, IsSome};
-ghost use Rattle.key_index.specs.Slots.{slot_at, Turns};
+ghost use Rattle.key_index.specs.Slots.{slot_at, long_slot, slots_of, bytes_of, Turns};
 
+use crate::short::{ShortKey, short_of};
 use indexmap::IndexMap;
 use pss_base::NoMemory;
 use std::alloc::Global;
@@ -54,44 +55,106 @@ impl Slot {
     }
 }
 
-pub type Slots = IndexMap<Vec<u8>, Slot, BuildHasherDefault<DefaultHasher>>;
+type Table<K> = IndexMap<K, Slot, BuildHasherDefault<DefaultHasher>>;
+
+/// A table for short keys, which lie in it, and one for longer ones, which lie on the heap: a look-up of a short key reads one place less.
+#[derive(Drop)]
+pub struct Slots {
+    short: Table<ShortKey>,
+    long: Table<Vec<u8>>,
+}
 
 pub fn empty(alloc: Global) -> Slots
-    ensures { result.entries ≡ [] }
+    ensures { slots_of result ≡ [] }
 {
-    IndexMap::with_hasher(alloc, BuildHasherDefault::new())
+    Slots {
+        short: IndexMap::with_hasher(alloc, BuildHasherDefault::new()),
+        long: IndexMap::with_hasher(alloc, BuildHasherDefault::new()),
+    }
 }
 
 /// The slot of a key, where it has one.
 pub fn read(slots: &Slots, key: &[u8]) -> Option<Slot>
-    ensures { result ≡ slot_at key.now slots.now.entries }
+    ensures { result ≡ slot_at key.now (slots_of slots.now) }
 {
-    slots.get(key).copied()
+    match short_of(key) {
+        Some(short) => slots.short.get(&short).copied(),
+        None => slots.long.get(key).copied(),
+    }
 }
 
 /// Writes into the slot that a key has.
 pub fn write(slots: &mut Slots, key: &[u8], slot: Slot)
-    requires { IsSome (slot_at key.now slots.old.entries) }
-    ensures { Turns slots.old.entries slots.new.entries key.now (Some slot) }
+    requires { IsSome (slot_at key.now (slots_of slots.old)) }
+    ensures { Turns (slots_of slots.old) (slots_of slots.new) key.now (Some slot) }
 {
-    if let Some(place) = slots.get_mut(key) {
+    match short_of(key) {
+        Some(short) => write_short(&mut slots.short, &short, slot),
+        None => write_long(&mut slots.long, key, slot),
+    }
+}
+
+fn write_short(table: &mut Table<ShortKey>, key: &ShortKey, slot: Slot)
+    requires { IsSome (slot_at key.now table.old.entries) }
+    ensures { Turns table.old.entries table.new.entries key.now (Some slot) }
+{
+    if let Some(place) = table.get_mut(key) {
+        *place = slot;
+    }
+}
+
+fn write_long(table: &mut Table<Vec<u8>>, key: &[u8], slot: Slot)
+    requires { IsSome (long_slot key.now table.old.entries) }
+    ensures { Turns (bytes_of table.old.entries) (bytes_of table.new.entries) key.now (Some slot) }
+{
+    if let Some(place) = table.get_mut(key) {
         *place = slot;
     }
 }
 
 /// Takes the slot of a key away, where it has one.
 pub fn remove(slots: &mut Slots, key: &[u8])
-    ensures { Turns slots.old.entries slots.new.entries key.now None }
+    ensures { Turns (slots_of slots.old) (slots_of slots.new) key.now None }
 {
-    let _ = slots.swap_remove(key);
+    match short_of(key) {
+        Some(short) => {
+            let _ = slots.short.swap_remove(&short);
+        }
+        None => {
+            let _ = slots.long.swap_remove(key);
+        }
+    }
 }
 
 /// Makes a slot for a key.
 pub fn add(alloc: Global, slots: &mut Slots, key: &[u8], slot: Slot) -> Result<(), NoMemory>
-    ensures ok { OnOk result (Turns slots.old.entries slots.new.entries key.now (Some slot)) }
-    ensures err { OnErr result (slots.new.entries ≡ slots.old.entries) }
+    ensures ok { OnOk result (Turns (slots_of slots.old) (slots_of slots.new) key.now (Some slot)) }
+    ensures err { OnErr result (slots_of slots.new ≡ slots_of slots.old) }
+{
+    match short_of(key) {
+        Some(short) => add_short(&mut slots.short, short, slot),
+        None => add_long(alloc, &mut slots.long, key, slot),
+    }
+}
+
+fn add_short(table: &mut Table<ShortKey>, key: ShortKey, slot: Slot) -> Result<(), NoMemory>
+    ensures ok { OnOk result (Turns table.old.entries table.new.entries key (Some slot)) }
+    ensures err { OnErr result (table.new.entries ≡ table.old.entries) }
+{
+    table.insert(key, slot)?;
+    Ok(())
+}
+
+fn add_long(
+    alloc: Global,
+    table: &mut Table<Vec<u8>>,
+    key: &[u8],
+    slot: Slot,
+) -> Result<(), NoMemory>
+    ensures ok { OnOk result (Turns (bytes_of table.old.entries) (bytes_of table.new.entries) key.now (Some slot)) }
+    ensures err { OnErr result (table.new.entries ≡ table.old.entries) }
 {
     let owned = key.to_vec(alloc)?;
-    slots.insert(owned, slot)?;
+    table.insert(owned, slot)?;
     Ok(())
 }

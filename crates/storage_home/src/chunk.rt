@@ -131,6 +131,7 @@ fn rows_below(present: u64, place: u64) -> usize
 }
 
 // Gives room back once most of it is empty, so that what a chunk takes stays in proportion to its rows.
+// Where a smaller block is not to be had, it keeps the one it has.
 fn trim(rows: &mut Vec<Row>)
     ensures { rows.new.items ≡ rows.old.items }
 {

@@ -1,9 +1,14 @@
-use Rattle.std.proofs.Common.{◌≡◌, Some, List, ℕ, subst, rules}
-use Rattle.key_index.specs.Slots.{Turns}
-use Rattle.key_index.proofs.Turning.{turned}
+use Rattle.std.proofs.Common.{List, ℕ, Some, subst}
+use Rattle.key_index.specs.Slots.{bytes_of, Turns}
+use Rattle.key_index.proofs.Turning.{on_ok, turned_short, turned_long}
 use Rattle.key_index.proofs.slots.add.Goals as goal
 
-pub returns-clause-ok : goal.returns-clause-ok
-returns-clause-ok c =
-    let same : c.in_ok-owned.owned.items ≡ c.args.key.now = search rules in
-    subst (λ (l : List ℕ). Turns c.args.slots.now.entries c.insert.new.self.entries l (Some c.args.slot)) same (turned c.in_ok-owned.owned.items _ _ _ c.in_ok-insert.ensures.updates.1 c.in_ok-insert.ensures.updates.3)
+pub returns-in-Some-clause-ok : goal.returns-in-Some-clause-ok
+returns-in-Some-clause-ok c =
+    on_ok c.add_short.result
+    (λ turns. turned_short c.args.key.now c.args.slots.now.short.entries c.add_short.new.table.entries (bytes_of c.args.slots.now.long.entries) (Some c.args.slot) c.in-Some.ensures.some
+    (subst (λ (key : List ℕ). Turns c.args.slots.now.short.entries c.add_short.new.table.entries key (Some c.args.slot)) c.in-Some.ensures.bytes turns))
+    c.add_short.ensures.ok
+
+pub returns-in-None-clause-ok : goal.returns-in-None-clause-ok
+returns-in-None-clause-ok c = on_ok c.add_long.result (λ turns. turned_long c.args.key.now c.args.slots.now.short.entries (bytes_of c.args.slots.now.long.entries) (bytes_of c.add_long.new.table.entries) (Some c.args.slot) c.in-None.ensures.none turns) c.add_long.ensures.ok

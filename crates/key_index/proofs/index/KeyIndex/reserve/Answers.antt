@@ -1,7 +1,7 @@
 use Rattle.std.proofs.Common.{ap, ◌∙◌}
 use Rattle.std.specs.FinSet as set
 use Rattle.key_index.specs.Index.{Index}
-use Rattle.key_index.specs.Slots.{serial_at, with_reserved, reserved_of}
+use Rattle.key_index.specs.Slots.{slots_of, serial_at, with_reserved, reserved_of}
 use Rattle.key_index.proofs.Turning.{reserved_turned, held_kept}
 use Rattle.key_index.proofs.index.KeyIndex.reserve.Goals as goal
 
@@ -10,7 +10,7 @@ returns-in-Some-clause-held c = held_kept _ _ _ _ c.write.ensures (c.and_reserve
 
 pub returns-in-Some-clause-ok : goal.returns-in-Some-clause-ok
 returns-in-Some-clause-ok c =
-    reserved_turned _ _ _ _ c.write.ensures ∙ ap (λ b. with_reserved b c.args.key.now (reserved_of c.self.inside.slots.entries)) c.and_reserved.ensures.reserved
+    reserved_turned _ _ _ _ c.write.ensures ∙ ap (λ b. with_reserved b c.args.key.now (reserved_of (slots_of c.self.inside.slots))) c.and_reserved.ensures.reserved
     ∙ ap (λ (v : Index). set.insert v.reserved c.args.key.now) c.self.view_is
 
 pub returns-in_ok-add-in-None-clause-held : goal.returns-in_ok-add-in-None-clause-held

@@ -17,3 +17,7 @@ after_three (Err e) a b c f = tt
 pub told_four : {T E : Type 0} {A B C F D : T → Type 0} (r : Result T E) → IfOk r A → IfOk r B → IfOk r C → IfOk r F → ((t : T) → A t → B t → C t → F t → D t) → IfOk r D
 told_four (Ok t) a b c d f = f t a b c d
 told_four (Err e) a b c d f = tt
+
+pub told_both : {T E B : Type 0} {A D : T → Type 0} (r : Result T E) → IfOk r A → OnOk r B → ((t : T) → A t → B → D t) → IfOk r D
+told_both (Ok t) a b f = f t a b
+told_both (Err e) a b f = tt

@@ -10,12 +10,14 @@ pub mod Fields
 pub mod Filling
 pub mod Growing
 pub mod Heads
+pub mod Leaving
 pub mod Marking
 pub mod Moved
 pub mod Packed
 pub mod Rows
 pub mod Runs
 pub mod Serials
+pub mod Settled
 pub mod SlotLists
 pub mod Spelled
 pub mod Staying

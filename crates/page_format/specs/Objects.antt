@@ -1,5 +1,5 @@
 -- Objects under their serials, and changes over them.
-use Rattle.std.specs.Prelude.{ℕ, ◌≤◌, List, [], ◌∷◌, length, map, None, Some, IfSome}
+use Rattle.std.specs.Prelude.{ℕ, ◌==◌, ◌≤◌, cond, List, [], ◌∷◌, length, map, None, Some, IfSome}
 use Rattle.std.specs.Ordering.{nat_cmp}
 use Rattle.std.specs.FinMap.{FinMap, from_entries, insert, remove}
 use Rattle.std.specs.declared.option.Option.{Option}
@@ -42,3 +42,13 @@ with_record m serial home (Some octets) = insert m serial (record { home = home;
 abbrev pub over : Objects → List Put → Objects
 over m [] = m
 over m (put ∷ puts) = over (with_record m put.serial put.home put.bytes) puts
+
+-- what a change leaves of its object
+abbrev pub left_by : ℕ → Option (List ℕ) → Option Stored
+left_by home None = None
+left_by home (Some octets) = Some (record { home = home; octets = octets })
+
+-- what changes leave of an object
+abbrev pub after : List Put → ℕ → Option Stored → Option Stored
+after [] q o = o
+after (put ∷ puts) q o = after puts q (cond (q == put.serial) (left_by put.home put.bytes) o)

@@ -6,5 +6,6 @@ pub mod Gathering
 pub mod Heads
 pub mod Marks
 pub mod Packing
+pub mod Settling
 pub mod Stops
 pub mod Tested

@@ -1,6 +1,5 @@
 // Objects by their serials.
 use pss_base::Bytes;
-use std::collections::BTreeMap;
 
 /// What is stored of an object under its serial: the number of its home, and the octets of its record.
 #[derive(Drop)]
@@ -8,6 +7,3 @@ pub struct Stored {
     pub home: u32,
     pub octets: Bytes,
 }
-
-/// The objects under their serials.
-pub type Objects = BTreeMap<u64, Stored>;

@@ -8,7 +8,6 @@ ghost use Rattle.page_format.specs.inner.Packing.{ArePackedSoFar};
 
 use crate::entry::{Entries, Entry};
 use crate::layout::{MOST_USED, RECORD};
-use crate::objects::{Objects, Stored};
 use pss_base::NoMemory;
 use std::alloc::Global;
 use std::mem;
@@ -111,35 +110,4 @@ impl Packer {
             Err(stop) => Err(stop),
         }
     }
-}
-
-// An object with its serial.
-fn entry_of(serial: u64, stored: Stored) -> Entry
-    requires { HasRecord stored.octets }
-    ensures entry { result ≡ entry_of (serial, stored) }
-    ensures storable { IsStorable result }
-{
-    Entry {
-        home: stored.home,
-        serial,
-        octets: stored.octets,
-    }
-}
-
-/// Packs objects into pages by rising serial.
-pub fn pack(alloc: Global, objects: Objects) -> Result<Vec<Entries>, NoMemory>
-    requires { All (λ o. HasRecord o.1.octets) objects.entries }
-    ensures packed { IfOk result (λ pages. IsPacking (entries_of objects.entries) pages.items) }
-    ensures storable { OnOk result (AreStorable (entries_of objects.entries)) }
-    ensures large { IfOk result (λ pages. OnlyLastIsSmall pages.items) }
-    ensures few { IfOk result (λ pages. length pages.items ≤ used_by (entries_of objects.entries) / 8328 + 1) }
-{
-    let mut packer = no_pages(alloc);
-    'objects: for (serial, stored) in objects {
-        match packer.add(entry_of(serial, stored)) {
-            Ok(()) => {}
-            Err(stop) => return Err(stop),
-        }
-    }
-    packer.finish()
 }

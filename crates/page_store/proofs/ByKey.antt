@@ -1,24 +1,16 @@
 -- Finite maps of numbers, and lists of entries that are looked up.
 use Rattle.std.proofs.Common.{ℕ, ◌≡◌, ◌==◌, Bool, cond, List, [], ◌∷◌, get_or, length, ◌<◌, suc, Some, refl, ap, ◌∙◌, arith}
-use Rattle.std.proofs.lemmas.Bool.Decides.{nat_tests}
 use Rattle.std.specs.List.{filter}
-use Rattle.std.specs.Ordering.{nat_cmp, eq_by_cmp}
-use Rattle.std.specs.BTreeMap.{is_at}
+use Rattle.std.specs.Ordering.{nat_cmp}
 use Rattle.std.specs.FinMap.{find, from_entries, get, get-from_entries}
 use Rattle.std.specs.Map.{lookup}
 use Rattle.std.specs.Cmp.{nat_cmp_total}
+use Rattle.page_format.proofs.Leaving.{tie}
 
-pub tie : (a b : ℕ) → eq_by_cmp nat_cmp a b ≡ (a == b)
-tie a b = grind (arith, nat_tests)
-
--- the first entry of a key, by each of the tests that are used
+-- the first entry of a key
 pub found_alike : {X : Type 0} (q : ℕ) (es : List (ℕ × X)) → find nat_cmp q es ≡ lookup (λ k. q == k) es
 found_alike q [] = refl
 found_alike {X} q (e ∷ es) = ap (λ b. cond b (Some e.1) (find nat_cmp q es)) (tie q e.0) ∙ ap (cond (q == e.0) (Some e.1)) (found_alike q es)
-
-pub ordered_alike : {X : Type 0} (q : ℕ) (es : List (ℕ × X)) → lookup (is_at (nat_cmp q)) es ≡ lookup (λ k. q == k) es
-ordered_alike q [] = refl
-ordered_alike {X} q (e ∷ es) = ap (λ b. cond b (Some e.1) (lookup (is_at (nat_cmp q)) es)) (tie q e.0) ∙ ap (cond (q == e.0) (Some e.1)) (ordered_alike q es)
 
 pub get_entries : {X : Type 0} (es : List (ℕ × X)) (q : ℕ) → get (from_entries {R = nat_cmp} es) q ≡ lookup (λ k. q == k) es
 get_entries es q = get-from_entries nat_cmp_total es q ∙ found_alike q es

@@ -1,5 +1,6 @@
 pub mod ByKey
 pub mod Turned
+pub mod Touching
 pub mod Located
 pub mod Givens
 pub mod Anew
@@ -8,7 +9,6 @@ pub mod Merged
 pub mod MovedSlots
 pub mod Following
 pub mod Checkpointing
-pub mod Changes
 pub mod GateOctets
 pub mod Closing
 pub mod Opening

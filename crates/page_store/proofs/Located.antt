@@ -7,11 +7,10 @@ use Rattle.std.proofs.lemmas.Map.Made.{lookup-map_values}
 use Rattle.std.specs.List.{filter}
 use Rattle.std.specs.Option.{option_map, option_or}
 use Rattle.std.specs.Ordering.{nat_cmp}
-use Rattle.std.specs.Cmp.{nat_cmp_total}
 use Rattle.std.specs.FinMap as finite
 use Rattle.std.specs.declared.option.Option.{Option}
 use Rattle.pss_base.specs.declared.put.Put.{Put}
-use Rattle.page_format.specs.Objects.{Objects, over, stored_of, with_record}
+use Rattle.page_format.specs.Objects.{over, stored_of}
 use Rattle.page_format.specs.Pages.{entries_in, entries_of, places_in, put_of}
 use Rattle.page_format.specs.declared.entry.Entry.{Entry}
 use Rattle.page_store.specs.Placed.{is_noted}
@@ -19,7 +18,7 @@ use Rattle.page_format.specs.Places.{slot_start}
 use Rattle.page_store.specs.Touched.{is_in, is_touched}
 use Rattle.page_format.specs.declared.objects.Stored.{Stored}
 use Rattle.page_store.specs.inner.Located.{Apart, after, at, left_by, located, located_of}
-use Rattle.page_store.proofs.ByKey.{tie}
+pub use Rattle.page_format.proofs.Leaving.{get-over}
 use Rattle.page_store.proofs.Turned.{map-append}
 
 pub eqb_turn : (a b : ℕ) → (a == b) ≡ (b == a)
@@ -121,14 +120,6 @@ located-filter p image (slot ∷ slots) = by (p slot) refl (located-filter p ima
     by false e ih = ih ∙ sym (filter_page p slot (entries_of image (slot_start slot)) (located image slots) false e)
 
 -- what changes leave
-get-with : (m : Objects) (serial home : ℕ) (bytes : Option (List ℕ)) (q : ℕ) → finite.get (with_record m serial home bytes) q ≡ cond (q == serial) (left_by home bytes) (finite.get m q)
-get-with m serial home None q = finite.get-remove nat_cmp_total m serial q ∙ ap (λ b. cond b None (finite.get m q)) (tie q serial)
-get-with m serial home (Some octets) q = finite.get-insert nat_cmp_total m serial (record { home = home; octets = octets }) q ∙ ap (λ b. cond b (Some (record { home = home; octets = octets })) (finite.get m q)) (tie q serial)
-
-pub get-over : (m : Objects) (puts : List Put) (q : ℕ) → finite.get (over m puts) q ≡ after puts q (finite.get m q)
-get-over m [] q = refl
-get-over m (put ∷ puts) q = get-over (with_record m put.serial put.home put.bytes) puts q ∙ ap (after puts q) (get-with m put.serial put.home put.bytes q)
-
 pub after_noted : (puts : List Put) (q : ℕ) (o p : Option Stored) → is_noted q puts ≡ true → after puts q o ≡ after puts q p
 after_noted [] q o p noted = absurd (false≢true noted)
 after_noted (put ∷ puts) q o p noted = by (q == put.serial) (ap (λ b. b || is_noted q puts) (eqb_turn q put.serial) ∙ noted) (λ o p more. after_noted puts q o p more)

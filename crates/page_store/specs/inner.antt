@@ -1,4 +1,3 @@
-pub mod Shown
 pub mod Located
 pub mod Repacked
 pub mod Planned

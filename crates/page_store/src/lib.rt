@@ -2,7 +2,6 @@
 //! next root follow it, with the changes that were noted.
 #![tactic(auto)]
 
-mod changing;
 mod gates;
 mod laying;
 mod pages;

@@ -1,7 +1,8 @@
 // Which pages of a root are packed anew.
-ghost use Rattle.std.specs.Prelude.{ℕ, ◌≡◌, ◌<◌, ◌≤◌, ◌||◌, ◌++◌, ◌∷◌, [], not, if◌then◌else◌, false, length, slice_index, slice_index_or, IfOk, OnOk};
+ghost use Rattle.std.specs.Prelude.{ℕ, ◌≡◌, ◌==◌, ◌<◌, ◌≤◌, ◌||◌, ◌++◌, ◌∷◌, [], cond, not, if◌then◌else◌, false, None, length, slice_index, slice_index_or, IfOk, OnOk};
 ghost use Rattle.std.specs.List.{filter};
-ghost use Rattle.page_store.specs.Touched.{is_in, is_repacked, is_touched, place_at, under_serials};
+ghost use Rattle.page_store.specs.Placed.{is_noted, slot_under};
+ghost use Rattle.page_store.specs.Touched.{is_in, is_repacked, is_touched, under_serials};
 
 use page_format::layout::SLOTS;
 use page_format::{Places, Slots, flags, mark};
@@ -15,29 +16,31 @@ pub struct Parted {
     pub kept: Slots,
 }
 
-/// Parts the slots of a root. A page is packed anew where a change is noted of an object in it, or where it is the one with
-/// little in use.
+/// Parts the slots of a root, and takes the objects away of which changes are noted. A page is packed anew where a change is
+/// noted of an object in it, or where it is the one with little in use.
 pub fn part_slots(
     alloc: Global,
     slots: &[u32],
-    places: &Places,
+    places: &mut Places,
     noted: &[Put],
     small: Option<u32>,
 ) -> Result<Parted, NoMemory>
     requires { (k : ℕ) → k < length slots.now → slice_index slots.now k < 16384 }
-    ensures repacked { IfOk result (λ parted. parted.repacked ≡ filter (is_repacked (under_serials places.now.entries) noted.now small) slots.now) }
-    ensures kept { IfOk result (λ parted. parted.kept ≡ filter (λ s. not (is_repacked (under_serials places.now.entries) noted.now small s)) slots.now) }
+    ensures repacked { IfOk result (λ parted. parted.repacked ≡ filter (is_repacked (under_serials places.old.entries) noted.now small) slots.now) }
+    ensures kept { IfOk result (λ parted. parted.kept ≡ filter (λ s. not (is_repacked (under_serials places.old.entries) noted.now small s)) slots.now) }
+    ensures places { OnOk result ((q : ℕ) → slot_under q places.new.entries ≡ cond (is_noted q noted.now) None (slot_under q places.old.entries)) }
 {
     let mut marks = flags(alloc, SLOTS as usize)?;
     mark_repacked(&mut marks, places, noted, small);
     part_marked(alloc, slots, &marks)
 }
 
-// Sets the flag of each page that is packed anew.
-fn mark_repacked(marks: &mut [bool], places: &Places, noted: &[Put], small: Option<u32>)
+// Sets the flag of each page that is packed anew, and takes the objects away of which changes are noted.
+fn mark_repacked(marks: &mut [bool], places: &mut Places, noted: &[Put], small: Option<u32>)
     requires { length marks.old ≡ 16384 }
-    ensures marked { (s : ℕ) → s < 16384 → slice_index_or marks.new s false ≡ (is_repacked (under_serials places.now.entries) noted.now small s || slice_index_or marks.old s false) }
+    ensures marked { (s : ℕ) → s < 16384 → slice_index_or marks.new s false ≡ (is_repacked (under_serials places.old.entries) noted.now small s || slice_index_or marks.old s false) }
     ensures len { length marks.new ≡ 16384 }
+    ensures places { (q : ℕ) → slot_under q places.new.entries ≡ cond (is_noted q noted.now) None (slot_under q places.old.entries) }
 {
     mark_small(marks, small);
     mark_touched(marks, places, noted);
@@ -53,22 +56,24 @@ fn mark_small(marks: &mut [bool], small: Option<u32>)
     }
 }
 
-// Sets the flag of each page that holds an object of which a change is noted.
-fn mark_touched(marks: &mut [bool], places: &Places, noted: &[Put])
+// Sets the flag of each page that holds an object of which a change is noted, and takes these objects away.
+fn mark_touched(marks: &mut [bool], places: &mut Places, noted: &[Put])
     requires { length marks.old ≡ 16384 }
-    ensures { (s : ℕ) → s < 16384 → slice_index_or marks.new s false ≡ (is_touched (under_serials places.now.entries) noted.now s || slice_index_or marks.old s false) }
+    ensures marked { (s : ℕ) → s < 16384 → slice_index_or marks.new s false ≡ (is_touched (under_serials places.old.entries) noted.now s || slice_index_or marks.old s false) }
+    ensures places { (q : ℕ) → slot_under q places.new.entries ≡ cond (is_noted q noted.now) None (slot_under q places.old.entries) }
 {
     for put in noted {
         mark_place(marks, places, put.serial);
     }
 }
 
-// Sets the flag of the page that holds an object, where there is one.
-fn mark_place(marks: &mut [bool], places: &Places, serial: u64)
+// Sets the flag of the page that holds an object, where there is one, and takes the object away.
+fn mark_place(marks: &mut [bool], places: &mut Places, serial: u64)
     requires { length marks.old ≡ 16384 }
-    ensures { (s : ℕ) → s < 16384 → slice_index_or marks.new s false ≡ (is_in s (place_at (under_serials places.now.entries) serial) || slice_index_or marks.old s false) }
+    ensures marked { (s : ℕ) → s < 16384 → slice_index_or marks.new s false ≡ (is_in s (slot_under serial places.old.entries) || slice_index_or marks.old s false) }
+    ensures places { (q : ℕ) → slot_under q places.new.entries ≡ cond (serial == q) None (slot_under q places.old.entries) }
 {
-    mark_small(marks, place_of(places, serial));
+    mark_small(marks, places.swap_remove(&serial));
 }
 
 // Parts slots by their flags.
@@ -99,11 +104,4 @@ fn add_parted(parted: &mut Parted, slot: u32, marked: bool) -> Result<(), NoMemo
     } else {
         parted.kept.push(slot)
     }
-}
-
-// The slot of the page that holds an object, where there is one.
-fn place_of(places: &Places, serial: u64) -> Option<u32>
-    ensures { result ≡ place_at (under_serials places.now.entries) serial }
-{
-    places.get(&serial).copied()
 }

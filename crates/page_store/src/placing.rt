@@ -1,25 +1,17 @@
 // New pages get their slots, and objects their places.
-ghost use Rattle.std.specs.Prelude.{ℕ, ◌≡◌, ◌≤◌, cond, None, Some, length, map, IfOk, OnOk};
-ghost use Rattle.page_store.specs.Placed.{is_noted, is_object, placed, slot_under};
+ghost use Rattle.std.specs.Prelude.{ℕ, ◌≡◌, ◌≤◌, cond, Some, length, map, IfOk, OnOk};
+ghost use Rattle.page_store.specs.Placed.{is_object, placed, slot_under};
 ghost use Rattle.page_store.specs.Switch.{slots_of};
 
 use page_format::{Entries, Entry, NewPage, Places};
-use pss_base::{NoMemory, Put};
+use pss_base::NoMemory;
 use std::alloc::Global;
-
-/// Takes the objects away of which changes are noted.
-pub fn forget(places: &mut Places, noted: &[Put])
-    ensures { (q : ℕ) → slot_under q places.new.entries ≡ cond (is_noted q noted.now) None (slot_under q places.old.entries) }
-{
-    for put in noted {
-        let _ = places.swap_remove(&put.serial);
-    }
-}
 
 /// Puts the objects of new pages where these are.
 pub fn place_pages(places: &mut Places, pages: &[NewPage]) -> Result<(), NoMemory>
     ensures { OnOk result ((q : ℕ) → slot_under q places.new.entries ≡ placed pages.now q (slot_under q places.old.entries)) }
 {
+    places.reserve(count_of(pages))?;
     for page in pages {
         match place_entries(places, page.slot, page.entries.as_slice()) {
             Ok(()) => {}
@@ -27,6 +19,15 @@ pub fn place_pages(places: &mut Places, pages: &[NewPage]) -> Result<(), NoMemor
         }
     }
     Ok(())
+}
+
+// How many objects pages have.
+fn count_of(pages: &[NewPage]) -> usize {
+    let mut count = 0usize;
+    for page in pages {
+        count = count.saturating_add(page.entries.as_slice().len());
+    }
+    count
 }
 
 // Puts objects into the page of a slot.

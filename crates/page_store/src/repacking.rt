@@ -1,5 +1,5 @@
 // The objects in pages are packed anew, with changes over them.
-ghost use Rattle.std.specs.Prelude.{ℕ, ◌≡◌, ◌^◌, ◌<◌, length, slice_index, All, Err, IfOk, IfSome};
+ghost use Rattle.std.specs.Prelude.{ℕ, ◌≡◌, ◌++◌, ◌^◌, ◌<◌, length, slice_index, All, Err, IfOk, IfSome};
 ghost use Rattle.std.specs.FinMap.{empty};
 ghost use Rattle.pss_base.specs.Causes.{HasCauseIf};
 ghost use Rattle.pss_disk.specs.Reading.{OnlyReads};
@@ -10,7 +10,6 @@ ghost use Rattle.page_store.specs.declared.stop.PlanStop.TheVariants.{Lost as Ar
 ghost use Rattle.page_store.specs.inner.Lost.{is_plan_disk_fault};
 ghost use Rattle.page_store.specs.inner.Repacked.{AreRepacked, MayBeWritten};
 
-use crate::changing::changed;
 use crate::rereading::reread;
 use crate::stop::PlanStop;
 use page_format::{Entries, pack};
@@ -50,8 +49,19 @@ fn packed(alloc: Global, rows: Puts, noted: Vec<Put>) -> Result<Vec<Entries>, No
     requires noted { All IsRightPut noted.items }
     ensures { IfOk result (λ pages. AreRepacked (over (over empty rows) noted.items) pages.items) }
 {
-    match changed(alloc, rows, noted) {
-        Ok(objects) => pack(alloc, objects),
+    match behind(rows.into_vec(), noted) {
+        Ok(changes) => pack(alloc, changes),
         Err(stop) => Err(stop),
     }
+}
+
+// Puts changes behind rows.
+fn behind(mut rows: Vec<Put>, mut noted: Vec<Put>) -> Result<Vec<Put>, NoMemory>
+    ensures { IfOk result (λ all. all.items ≡ rows.items ++ noted.items) }
+{
+    if rows.is_empty() {
+        return Ok(noted);
+    }
+    rows.append(&mut noted)?;
+    Ok(rows)
 }

@@ -1,8 +1,8 @@
 -- Objects with the slots of their pages.
-use Rattle.std.specs.Prelude.{ℕ, ◌≡◌, ◌==◌, cond, List, [], ◌∷◌, ◌++◌, map, None, Some, ⊤}
+use Rattle.std.specs.Prelude.{ℕ, ◌≡◌, ◌==◌, List, [], ◌∷◌, ◌++◌, map, None, ⊤}
 use Rattle.std.specs.Map.{lookup}
 use Rattle.std.specs.declared.option.Option.{Option}
-use Rattle.pss_base.specs.declared.put.Put.{Put}
+pub use Rattle.page_format.specs.Objects.{after, left_by}
 use Rattle.page_format.specs.Objects.{stored_of}
 use Rattle.page_format.specs.Pages.{entries_of}
 use Rattle.page_format.specs.declared.entry.Entry.{Entry}
@@ -26,13 +26,3 @@ located_of slot es = map (λ e. (e.serial, (slot, (stored_of e).1))) es
 abbrev pub located : List ℕ → List ℕ → List (ℕ × (ℕ × Stored))
 located image [] = []
 located image (slot ∷ slots) = located_of slot (entries_of image (slot_start slot)) ++ located image slots
-
--- what a change leaves
-abbrev pub left_by : ℕ → Option (List ℕ) → Option Stored
-left_by home None = None
-left_by home (Some octets) = Some (record { home = home; octets = octets })
-
--- what changes leave of an object
-abbrev pub after : List Put → ℕ → Option Stored → Option Stored
-after [] q o = o
-after (put ∷ puts) q o = after puts q (cond (q == put.serial) (left_by put.home put.bytes) o)

@@ -17,7 +17,7 @@ ghost use Rattle.page_store.specs.inner.Repacked.{MayBeWritten};
 
 use crate::pages::Pages;
 use crate::parting::{Parted, part_slots};
-use crate::placing::{forget, new_pages, place_pages};
+use crate::placing::{new_pages, place_pages};
 use crate::repacking::repack;
 use crate::small::small_of;
 use crate::stop::PlanStop;
@@ -60,11 +60,10 @@ impl Pages {
         let parted = part_slots(
             alloc,
             self.slots.as_slice(),
-            &self.places,
+            &mut self.places,
             noted,
             self.small,
         )?;
-        forget(&mut self.places, noted);
         Ok(parted)
     }
 

@@ -17,3 +17,6 @@ returns-clause-repacked c = IfOk-weaker c.part_marked.result _ _ (λ parted is. 
 
 pub returns-clause-kept : goal.returns-clause-kept
 returns-clause-kept c = IfOk-weaker c.part_marked.result _ _ (λ parted is. is ∙ filter_alike _ _ c.args.slots.now (λ k lt. ap not (marked c (get_or c.args.slots.now k 0) (c.requires k lt)))) c.part_marked.ensures.kept
+
+pub returns-clause-places : goal.returns-clause-places
+returns-clause-places c = IfOk-weaker c.part_marked.result _ _ (λ parted is. c.mark_repacked.ensures.places) c.part_marked.ensures.kept

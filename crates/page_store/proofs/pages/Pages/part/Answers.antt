@@ -29,4 +29,4 @@ returns-clause-some c =
 pub returns-clause-places : goal.returns-clause-places
 returns-clause-places c q =
     let old = c.self.inside.places.entries in
-    get_entries c.forget.new.places.entries q ∙ c.forget.ensures q ∙ ap (λ (s : Option ℕ). cond (is_noted q c.args.noted.now) None s) (sym (get_entries old q) ∙ ap (λ (k : Kept). finite.get k.places q) c.self.view_is)
+    get_entries c.part_slots.new.places.entries q ∙ c.in_ok-parted.ensures.places q ∙ ap (λ (s : Option ℕ). cond (is_noted q c.args.noted.now) None s) (sym (get_entries old q) ∙ ap (λ (k : Kept). finite.get k.places q) c.self.view_is)

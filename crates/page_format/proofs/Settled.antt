@@ -1,0 +1,183 @@
+-- What changes leave of objects, while it is packed by rising serial.
+use Rattle.std.proofs.Common.{ℕ, suc, ◌≡◌, ◌==◌, ◌+◌, ◌<◌, ◌≤◌, ◌&&◌, All, Bool, true, false, cond, T, List, [], ◌∷◌, length, ◌++◌, map, Some, None, IfSome, refl, sym, ap, ◌∙◌, subst, arith}
+use Rattle.std.proofs.lemmas.Bool.{true≢false}
+use Rattle.std.proofs.lemmas.Bool.Decides.{nat_tests}
+use Rattle.std.specs.Cmp.{nat_cmp_total}
+use Rattle.std.specs.FinMap as finite
+use Rattle.std.specs.FinMap.Entries.{below_all, find, is_sorted, same_entries}
+use Rattle.std.specs.Ordering.{is_lt, nat_cmp}
+use Rattle.std.specs.declared.option.Option.{Option}
+use Rattle.pss_base.specs.declared.put.Put.{Put}
+use Rattle.page_format.specs.Objects.{HasRecord, IsRightPut, entries_of, entry_of, left_by, over, stored_of}
+use Rattle.page_format.specs.Pages.{Entry}
+use Rattle.page_format.specs.Written.{IsStorable}
+use Rattle.page_format.specs.declared.objects.Stored.{Stored}
+use Rattle.page_format.specs.declared.packing.Packer.{Packer}
+use Rattle.page_format.specs.declared.settling.Settling.{Settling}
+use Rattle.page_format.specs.inner.Packing.{ArePackedSoFar}
+use Rattle.page_format.specs.inner.Settling.{AreAbove, AreBelow, AreEmitted, AreOthersPacked, ArePacked, AreRising, IsSettling, object_at}
+use Rattle.page_format.proofs.Filling.{storable-append}
+use Rattle.page_format.proofs.Leaving.{get-more, tie}
+
+below_more : (s t : ℕ) (es : List Entry) → s ≤ t → AreBelow s es → AreBelow t es
+below_more s t [] le are = tt
+below_more s t (e ∷ es) le are = (omega (arith, are.0, le), below_more s t es le are.1)
+
+below_one : (s : ℕ) (es : List Entry) (e : Entry) → AreBelow s es → e.serial < s → AreBelow s (es ++ e ∷ [])
+below_one s [] e are is = (is, tt)
+below_one s (x ∷ es) e are is = (are.0, below_one s es e are.1 is)
+
+above_one : (s : ℕ) (es : List Entry) (e : Entry) → AreAbove s es → s < e.serial → AreAbove s (es ++ e ∷ [])
+above_one s [] e are is = (is, tt)
+above_one s (x ∷ es) e are is = (are.0, above_one s es e are.1 is)
+
+rising_one : (es : List Entry) (e : Entry) → AreRising es → AreBelow e.serial es → AreRising (es ++ e ∷ [])
+rising_one [] e are below = (tt, tt)
+rising_one (x ∷ es) e are below = (above_one x.serial es e are.0 below.0, rising_one es e are.1 below.1)
+
+-- one more object behind those below it
+same_false : (a b : ℕ) → a < b → (b == a) ≡ false
+same_false a b lt = grind (arith, nat_tests)
+
+not_both : (q a b : ℕ) → a < b → (q == a) ≡ true → (q == b) ≡ false
+not_both q a b lt is = grind (arith, nat_tests)
+
+object_more : (q : ℕ) (es : List Entry) (e : Entry) → AreBelow e.serial es → object_at q (es ++ e ∷ []) ≡ cond (q == e.serial) (Some (stored_of e).1) (object_at q es)
+object_more q [] e below = refl
+object_more q (x ∷ es) e below = by (q == x.serial) refl (q == e.serial) refl (object_more q es e below.1)
+  where
+    by : (b : Bool) → (q == x.serial) ≡ b → (c : Bool) → (q == e.serial) ≡ c → object_at q (es ++ e ∷ []) ≡ cond (q == e.serial) (Some (stored_of e).1) (object_at q es)
+        → cond b (Some (stored_of x).1) (object_at q (es ++ e ∷ [])) ≡ cond c (Some (stored_of e).1) (cond b (Some (stored_of x).1) (object_at q es))
+    by true is true also ih = absurd (true≢false (sym also ∙ not_both q x.serial e.serial below.0 is))
+    by true is false other ih = refl
+    by false apart true is ih = ih ∙ ap (λ c. cond c (Some (stored_of e).1) (object_at q es)) is
+    by false apart false other ih = ih ∙ ap (λ c. cond c (Some (stored_of e).1) (object_at q es)) other
+
+-- the packer after an object, or without one
+emitted_one : (es : List Entry) (e : Entry) (next : ℕ) (packer new : Packer) → AreEmitted es e.serial packer → e.serial < next → IsStorable e → ArePackedSoFar (es ++ e ∷ []) new.closed.items new.last new.used → AreEmitted (es ++ e ∷ []) next new
+emitted_one es e next packer new are lt storable packed = record {
+  packed = packed;
+  storable = storable-append es e are.storable storable;
+  rising = rising_one es e are.rising are.below;
+  below = below_one next es e (below_more e.serial next es (omega (arith, lt)) are.below) lt;
+}
+
+emitted_later : (es : List Entry) (s next : ℕ) (packer : Packer) → AreEmitted es s packer → s ≤ next → AreEmitted es next packer
+emitted_later es s next packer are le = record { packed = are.packed; storable = are.storable; rising = are.rising; below = below_more s next es le are.below }
+
+pub settling_nothing : (s : Settling) → s.serial ≡ 0 → s.left ≡ None → ArePackedSoFar [] s.packer.closed.items s.packer.last s.packer.used → IsSettling [] s
+settling_nothing s first none packed = record {
+  es = [];
+  emitted = record { packed = packed; storable = tt; rising = tt; below = tt };
+  all = λ q. finite.get-empty nat_cmp q ∙ by (q == s.serial) ∙ ap (λ (o : Option Stored). cond (q == s.serial) o None) (sym none);
+  right = subst (λ (o : Option Stored). IfSome o (λ left. HasRecord left.octets)) (sym none) tt;
+}
+  where
+    by : (b : Bool) → ◌≡◌ {A = Option Stored} None (cond b None None)
+    by true = refl
+    by false = refl
+
+-- what is left of the object that comes next is packed
+pub packed_left : (puts : List Put) (s : Settling) (stored : Stored) (new : Packer) (next : ℕ) → s.left ≡ Some stored → IsStorable (entry_of (s.serial, stored)) → s.serial < next → IsSettling puts s
+    → ((es : List Entry) → ArePackedSoFar es s.packer.closed.items s.packer.last s.packer.used → ArePackedSoFar (es ++ entry_of (s.serial, stored) ∷ []) new.closed.items new.last new.used) → ArePacked puts next new
+packed_left puts s stored new next is storable lt so_far packed =
+    let e = entry_of (s.serial, stored) in
+    record {
+      es = so_far.es ++ e ∷ [];
+      emitted = emitted_one so_far.es e next s.packer new so_far.emitted lt storable (packed so_far.es so_far.emitted.packed);
+      all = λ q. so_far.all q ∙ ap (λ (o : Option Stored). cond (q == s.serial) o (object_at q so_far.es)) is ∙ sym (object_more q so_far.es e so_far.emitted.below);
+    }
+
+-- nothing is left of it
+no_object : (s : ℕ) (es : List Entry) → AreBelow s es → object_at s es ≡ None
+no_object s [] below = refl
+no_object s (e ∷ es) below = ap (λ b. cond b (Some (stored_of e).1) (object_at s es)) (same_false e.serial s below.0) ∙ no_object s es below.1
+
+pub packed_gone : (puts : List Put) (s : Settling) (next : ℕ) → s.left ≡ None → s.serial < next → IsSettling puts s → ArePacked puts next s.packer
+packed_gone puts s next none lt so_far = record {
+  es = so_far.es;
+  emitted = emitted_later so_far.es s.serial next s.packer so_far.emitted (omega (arith, lt));
+  all = λ q. so_far.all q ∙ ap (λ (o : Option Stored). cond (q == s.serial) o (object_at q so_far.es)) none ∙ by q (q == s.serial) refl;
+}
+  where
+    alike : (q : ℕ) → (q == s.serial) ≡ true → None ≡ object_at q so_far.es
+    alike q is = sym (no_object s.serial so_far.es so_far.emitted.below) ∙ ap (λ (k : ℕ). object_at k so_far.es) (equal q s.serial is)
+      where
+        equal : (a b : ℕ) → (a == b) ≡ true → b ≡ a
+        equal a b e = grind (arith, nat_tests)
+
+    by : (q : ℕ) (b : Bool) → (q == s.serial) ≡ b → cond b None (object_at q so_far.es) ≡ object_at q so_far.es
+    by q true is = alike q is
+    by q false other = refl
+
+-- another object comes next
+pub others_after : (puts : List Put) (serial : ℕ) (packer : Packer) → ArePacked puts serial packer → AreOthersPacked puts serial packer
+others_after puts serial packer are = record { es = are.es; emitted = are.emitted; others = λ q other. are.all q }
+
+-- the same object comes next
+pub others_still : (puts : List Put) (s : Settling) (serial : ℕ) → serial ≡ s.serial → IsSettling puts s → AreOthersPacked puts serial s.packer
+others_still puts s serial same so_far = record {
+  es = so_far.es;
+  emitted = emitted_later so_far.es s.serial serial s.packer so_far.emitted (omega (arith, same));
+  others = λ q other. so_far.all q ∙ ap (λ b. cond b s.left (object_at q so_far.es)) (ap (λ (n : ℕ). q == n) (sym same) ∙ other);
+}
+
+-- a change was taken
+right_left : (home : ℕ) (bytes : Option (List ℕ)) → IfSome bytes HasRecord → IfSome (left_by home bytes) (λ left. HasRecord left.octets)
+right_left home None is = tt
+right_left home (Some octets) is = is
+
+pub settling_more : (puts : List Put) (put : Put) (new : Settling) → new.serial ≡ put.serial → new.left ≡ left_by put.home put.bytes → IsRightPut put → AreOthersPacked puts put.serial new.packer → IsSettling (puts ++ put ∷ []) new
+settling_more puts put new same left right are = record {
+  es = are.es;
+  emitted = emitted_later are.es put.serial new.serial new.packer are.emitted (omega (arith, same));
+  all = λ q.
+      get-more puts put q ∙ by q (q == put.serial) refl ∙ ap (λ (n : ℕ). cond (q == n) (left_by put.home put.bytes) (object_at q are.es)) (sym same) ∙ ap (λ (o : Option Stored). cond (q == new.serial) o (object_at q are.es)) (sym left);
+  right = subst (λ (o : Option Stored). IfSome o (λ left. HasRecord left.octets)) (sym left) (right_left put.home put.bytes right);
+}
+  where
+    by : (q : ℕ) (b : Bool) → (q == put.serial) ≡ b → cond b (left_by put.home put.bytes) (finite.get (over finite.empty puts) q) ≡ cond b (left_by put.home put.bytes) (object_at q are.es)
+    by q true is = refl
+    by q false other = are.others q other
+
+-- the objects that changes leave are those that were packed
+both : (a b : Bool) → T a → T b → T (a && b)
+both true b p q = q
+both false b p q = p
+
+less : (a b : ℕ) → a < b → T (is_lt (nat_cmp a b))
+less a b lt = subst T (sym (is a b lt)) tt
+  where
+    is : (a b : ℕ) → a < b → is_lt (nat_cmp a b) ≡ true
+    is a b lt = grind (arith, nat_tests)
+
+below_all_of : (s : ℕ) (es : List Entry) → AreAbove s es → T (below_all nat_cmp s (map stored_of es))
+below_all_of s [] are = tt
+below_all_of s (e ∷ es) are = both (is_lt (nat_cmp s e.serial)) (below_all nat_cmp s (map stored_of es)) (less s e.serial are.0) (below_all_of s es are.1)
+
+sorted_of : (es : List Entry) → AreRising es → T (is_sorted nat_cmp (map stored_of es))
+sorted_of [] are = tt
+sorted_of (e ∷ es) are = both (below_all nat_cmp e.serial (map stored_of es)) (is_sorted nat_cmp (map stored_of es)) (below_all_of e.serial es are.0) (sorted_of es are.1)
+
+found_alike : (q : ℕ) (es : List Entry) → find nat_cmp q (map stored_of es) ≡ object_at q es
+found_alike q [] = refl
+found_alike q (e ∷ es) = ap (λ b. cond b (Some (stored_of e).1) (find nat_cmp q (map stored_of es))) (tie q e.serial) ∙ ap (cond (q == e.serial) (Some (stored_of e).1)) (found_alike q es)
+
+entries_stored : (es : List Entry) → entries_of (map stored_of es) ≡ es
+entries_stored [] = refl
+entries_stored (e ∷ es) = ap (λ l. e ∷ l) (entries_stored es)
+
+pub objects_are : (puts : List Put) (serial : ℕ) (packer : Packer) (are : ArePacked puts serial packer) → are.es ≡ entries_of (finite.entries (over finite.empty puts))
+objects_are puts serial packer are =
+    let m = over finite.empty puts in
+    sym (entries_stored are.es) ∙ ap entries_of
+    (sym (same_entries nat_cmp nat_cmp_total finite.nat_cmp-IsAntisymmetric (finite.entries m) (map stored_of are.es) (finite.entries_sorted m) (sorted_of are.es are.emitted.rising) (λ q. sym (finite.get-entries m q) ∙ are.all q ∙ sym (found_alike q are.es))))
+
+pub right_rest : (put : Put) (puts all : List Put) → all ≡ put ∷ puts → All IsRightPut all → IsRightPut put × All IsRightPut puts
+right_rest put puts all e right =
+    let h : All IsRightPut (put ∷ puts) = subst (All IsRightPut) e right in
+    (h 0 put (omega arith), λ k d lt. h (suc k) d (omega (arith, lt)))
+
+pub nothing_left : {X : Type 0} (xs : List X) → length xs ≡ 0 → xs ≡ []
+nothing_left [] none = refl
+nothing_left (x ∷ xs) none = absurd (omega (arith, none))

@@ -10,6 +10,7 @@ use Rattle.pss_machine.specs.Kept.{Kept}
 use Rattle.pss_machine.specs.Moving.{joins, commit_text, title_of}
 use Rattle.storage_home.specs.Kept.{most}
 use Rattle.storage_home.specs.Applied.{AreChanges, AreReserved}
+use Rattle.owner_view.specs.Net.{AreNet}
 use Rattle.owner_accounts.specs.declared.accounts.Accounts.{Accounts}
 use Rattle.owner_accounts.specs.declared.commits.Commit.{Commit}
 use Rattle.owner_accounts.specs.Accounts.{AreAccounts}
@@ -29,6 +30,8 @@ pub record IsPrepared (S : Schema) (a : Accounts) (k : Kept) (n : OwnerNo) (comm
   pub owner : Owner
   pub there : get k.owners n.0 ≡ Some owner
   pub changes : AreChanges S k.catalog commit.changes (net k.catalog owner)
+  -- each names the home of its object, also where that goes
+  pub homes : AreNet S k.catalog (net k.catalog owner) commit.changes
   pub reserved : AreReserved a.homes commit.changes
   pub unique : IsUnique S (over k.catalog (net k.catalog owner))
   pub bounded : total S (over k.catalog (net k.catalog owner)) ≤ most

@@ -24,6 +24,13 @@ pub record IsOwner (S : Schema) (a : Accounts) (n : OwnerNo) : Type 0 where
   pub owner : Owner
   pub there : get kept.owners n.0 ≡ Some owner
 
+-- an owner that is there, of accounts that some machine keeps
+pub record IsThere (S : Schema) (a : Accounts) (n : OwnerNo) : Type 0 where
+  pub kept : Kept
+  pub are : AreAccounts S a kept
+  pub owner : Owner
+  pub there : get kept.owners n.0 ≡ Some owner
+
 -- one command more of the owner can be counted
 abbrev pub HasCommands : Kept → OwnerNo → Type 0
 HasCommands k n = (title : Title) → get k.titles n.0 ≡ Some title → title.commands < 2 ^ 32 - 1

@@ -4,7 +4,7 @@ ghost use Rattle.type_layout.specs.declared.schema.Schema.{Schema};
 ghost use Rattle.pss_machine.specs.Kept.{Kept};
 ghost use Rattle.pss_machine.specs.Moving.{without_owner, emptied, ended};
 ghost use Rattle.owner_accounts.specs.Accounts.{AreAccounts};
-ghost use Rattle.owner_accounts.specs.Steps.{IsOwner};
+ghost use Rattle.owner_accounts.specs.Steps.{IsOwner, IsThere};
 
 use crate::accounts::Accounts;
 use pss_base::{OwnerNo, Steps};
@@ -30,7 +30,7 @@ impl Accounts {
 
     /// An owner has locked, changed and done nothing again. It takes no memory, and a step for each lock and one.
     pub fn empty<L: Ledger>(&mut self, owner: OwnerNo, steps: &mut Steps<L>)
-        requires { (S : Schema) × IsOwner S self.old owner }
+        requires { (S : Schema) × IsThere S self.old owner }
         ensures { (S : Schema) (k : Kept) → AreAccounts S self.old k → AreAccounts S self.new (emptied k owner) }
     {
         self.owners.finish(owner, steps);

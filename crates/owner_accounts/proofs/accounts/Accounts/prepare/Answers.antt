@@ -47,6 +47,7 @@ returns-clause-prepared c m = record {
   owner = m.by.owner;
   there = m.by.there;
   changes = wanted c m;
+  homes = c.in_ok-changes.ensures.net (may_see m.by);
   reserved = c.in_ok-reserve_for.ensures.ok;
   unique = unique_after m;
   bounded = bounded_after m (within c m);

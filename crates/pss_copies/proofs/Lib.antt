@@ -18,3 +18,8 @@ pub mod Removed
 pub mod Quiet
 pub mod Fresh
 pub mod Staying
+pub mod Settled
+pub mod Commits
+pub mod Listed
+pub mod Rising
+pub mod Counts

@@ -2,3 +2,4 @@ pub mod Told
 pub mod Seats
 pub mod Ruled
 pub mod Stepped
+pub mod Settling

@@ -12,6 +12,7 @@ use Rattle.pss_machine.specs.Owners.{Owner, Owners, view, is_basic}
 use Rattle.pss_machine.specs.Sessions.{Session, Sessions, owner_of, is_basic as is_basic_session}
 use Rattle.pss_machine.specs.Copies.{Copies, Entry, Copied, entry_numbered}
 use Rattle.pss_machine.specs.Kept.{Kept}
+use Rattle.pss_machine.specs.Entries.{AreOrderly}
 use Rattle.pss_machine.specs.Run.{Said, first, run}
 use Rattle.pss_laws.specs.Sound.{NoneFrom}
 
@@ -39,6 +40,10 @@ pub record HomesAgree (k : Kept) : Type 0 where
   pub views : (n : ℕ) (owner : Owner) (s : ℕ) (x : Object) → get k.owners n ≡ Some owner → get (view k.catalog owner) s ≡ Some x → x.home.0 ≡ home s
   pub own : (t n : ℕ) (copies : Copies) (e : Entry) (values : List PlainValue) → get k.copies t ≡ Some copies → entry_numbered copies n ≡ Some e → e.stand ≡ Copied values
       → (e.pid.home ≡ home e.pid.serial) × (e.pid.serial < k.next)
+
+-- the entries of each session are in order
+abbrev pub AreInOrder : Kept → Type 0
+AreInOrder k = (s : ℕ) (copies : Copies) → get k.copies s ≡ Some copies → AreOrderly copies
 
 -- in every run
 abbrev pub SessionsAreOwned : Type 0

@@ -1,5 +1,5 @@
 // Sessions and their entries, as callers see them.
-ghost use Rattle.std.specs.Prelude.{◌≡◌, ◌+◌, ◌-◌, ◌*◌, ◌^◌, ◌<◌, ◌≤◌, ℕ, Bool, true, None, IsSome, IsSomeAnd, IfSome, MatchOption, IfOk, OnOk, OnErr, IsTrue, List, Option, Some, [], ◌∷◌};
+ghost use Rattle.std.specs.Prelude.{◌≡◌, ◌+◌, ◌-◌, ◌*◌, ◌^◌, ◌<◌, ◌≤◌, ℕ, Bool, true, None, IsSome, IsSomeAnd, IfSome, MatchOption, IfOk, OnOk, OnErr, IsTrue, List, length, Option, Some, [], ◌∷◌};
 ghost use Rattle.std.specs.FinMap.{get};
 ghost use Rattle.std.specs.Option.{option_map};
 ghost use Rattle.pss_catalog.specs.Catalog.{Object, Catalog};
@@ -8,24 +8,26 @@ ghost use Rattle.type_layout.specs.declared.schema.Schema.{Schema};
 ghost use Rattle.pss_laws.specs.Sound.{IsSound};
 ghost use Rattle.pss_machine.specs.declared.session.Association.TheVariants as association;
 ghost use Rattle.pss_machine.specs.Sessions.{Session, active_in, open_in, is_basic};
-ghost use Rattle.pss_machine.specs.Copies.{Entry as PlainEntry, entry_numbered, is_attached, view_in};
+ghost use Rattle.pss_machine.specs.Copies.{Copies, Entry as PlainEntry, bodies, entry_numbered, is_attached, view_in};
 ghost use Rattle.pss_machine.specs.Attaching.{is_open};
-ghost use Rattle.pss_machine.specs.Deciding.{counting, refreshed};
+ghost use Rattle.pss_machine.specs.Deciding.{counting, refreshed, entry_count, all_names};
 ghost use Rattle.pss_machine.specs.Kept.{Kept, first_kept, is_transaction, copies_of};
-ghost use Rattle.pss_machine.specs.Effects.{Associates, Holds};
+ghost use Rattle.pss_machine.specs.Effects.{Associates, Holds, Commits, Flushes};
 ghost use Rattle.pss_machine.specs.Moving.{moved, with_owner, without_owner, with_session, without_session, ended, without_transaction_of};
 ghost use Rattle.pss_session.specs.Meaning.{session_at, number_named, MayStart};
 ghost use Rattle.incarnations.specs.Meaning.{length_of, entry_at, body, HasNoEntry};
 ghost use Rattle.incarnations.specs.declared.names.Entry.{Entry};
 ghost use Rattle.pss_copies.specs.Seats.{Attends, IsShared, IsRecordIn, seated_at, IsObtainedIn};
 ghost use Rattle.pss_machine.specs.Entries.{AreOrderly};
-ghost use Rattle.pss_copies.specs.Ruled.{AreOwned, HomesAgree};
+ghost use Rattle.pss_copies.specs.Ruled.{AreOwned, HomesAgree, AreInOrder};
 ghost use Rattle.pss_machine.specs.Owners.{Step};
 ghost use Rattle.pss_copies.specs.Stepped.{left_by, SetsAt, DestroysAt, OutdatesNone, OwnsNone};
+ghost use Rattle.pss_copies.specs.Settling.{MayCommit, MayFlush};
 ghost use Rattle.pss_base.specs.declared.owner.OwnerNo.{OwnerNo as OwnerNumber};
 ghost use Rattle.pss_base.specs.declared.session.SessionNo.{SessionNo as SessionNumber};
 
 use crate::parts::Parts;
+use crate::settling::detach_committed;
 use incarnations::Incarnations;
 use pss_base::{Bytes, NoMemory, OwnerNo, Pid, SessionNo, Steps};
 use pss_machine::{Access, Kind, View};
@@ -82,6 +84,37 @@ impl Attended {
         ensures { result.now ≡ self.now.copies }
     {
         &self.parts.copies
+    }
+
+    /// How many entries all sessions have together.
+    pub fn entries(&self) -> u64
+        ensures { (k : Kept) → AreInOrder k → Attends k self.now → result ≡ entry_count k }
+    {
+        self.parts.copies.copies_hold();
+        self.parts.copies.entries()
+    }
+
+    /// How many entries a session has.
+    pub fn entries_of(&self, session: SessionNo) -> u32
+        ensures { (k : Kept) (copies : Copies) → get k.copies session.0 ≡ Some copies → AreOrderly copies → Attends k self.now → result ≡ length copies.entries }
+    {
+        self.parts.copies.entries_of(session)
+    }
+
+    /// How many entries stand on bodies.
+    pub fn attached(&self) -> u64
+        ensures { (k : Kept) → AreInOrder k → Attends k self.now → result ≡ length (all_names k) }
+    {
+        self.parts.copies.copies_hold();
+        self.parts.copies.attached()
+    }
+
+    /// How many bodies there are.
+    pub fn bodies(&self) -> u64
+        ensures { (k : Kept) → AreInOrder k → Attends k self.now → result ≡ length (bodies (all_names k)) }
+    {
+        self.parts.copies.copies_hold();
+        self.parts.copies.bodies()
     }
 
     /// Opens a session, in no transaction and with no entry, under a name that no session has. The answer is its number,
@@ -275,6 +308,38 @@ impl Attended {
             .detach_pid(&mut parts.copies, owner, pid, steps);
         parts.copies.detach_body(pid, View::Own(owner), steps);
         parts.copies.copies_hold();
+    }
+
+    /// A transaction commits what it changed of these objects: no entry stands on the committed body of one of them, and the
+    /// transaction is gone, so that each session that was associated with it is in none, and its entries stand on no body. It
+    /// looks at each session, and takes no memory.
+    pub fn commit<L: Ledger>(&mut self, owner: OwnerNo, pids: &[Pid], steps: &mut Steps<L>)
+        ensures { (k : Kept) → MayCommit k owner pids.now → Attends k self.old → Attends (moved k (Commits owner)) self.new }
+    {
+        let kept = &mut self.parts;
+        kept.copies.copies_hold();
+        detach_committed(&mut kept.copies, pids, steps);
+        kept.copies.copies_hold();
+        kept.sessions.finish(&mut kept.copies, owner, steps);
+        kept.copies.copies_hold();
+    }
+
+    /// A basic session commits what it changed of these objects, and goes on: no entry stands on the committed body of one of
+    /// them, nor on a body that is the session's own for a change. It takes no memory, and looks at each entry of the session.
+    pub fn flush<L: Ledger>(
+        &mut self,
+        session: SessionNo,
+        owner: OwnerNo,
+        pids: &[Pid],
+        steps: &mut Steps<L>,
+    )
+        ensures { (k : Kept) → MayFlush k session owner pids.now → Attends k self.old → Attends (moved k (Flushes owner)) self.new }
+    {
+        let copies = &mut self.parts.copies;
+        copies.copies_hold();
+        detach_committed(copies, pids, steps);
+        copies.detach_view(session, View::Own(owner), steps);
+        copies.copies_hold();
     }
 
     /// What changes of owners is nothing to sessions and their entries where no object of an entry that stands on a body is

@@ -4,6 +4,7 @@
 mod attended;
 mod laws;
 mod parts;
+mod settling;
 
 pub use attended::Attended;
 pub use laws::{homes_agree, sessions_are_owned};

@@ -1,0 +1,43 @@
+-- What is known of a session that was found by its name.
+use Rattle.std.proofs.Common.{ℕ, ◌≡◌, List, Option, Some, None, IsSome, refl, sym, ap, ◌∙◌, subst}
+use Rattle.std.specs.Prelude.{IsSomeAnd}
+use Rattle.std.specs.Option.{option_map}
+use Rattle.std.specs.Str.{bytes_eq}
+use Rattle.std.specs.FinMap.{get}
+use Rattle.pss_base.specs.declared.session.SessionNo.{SessionNo}
+use Rattle.pss_machine.specs.Sessions.{Session, Sessions, session_named}
+use Rattle.pss_machine.proofs.Found.{found_there}
+use Rattle.pss_session.specs.Meaning.{Meaning, number_named}
+
+-- the session behind a number that was found
+pub record Behind (sessions : Sessions) (name : List ℕ) (number : SessionNo) : Type 0 where
+  pub session : Session
+  pub named : session_named sessions name ≡ Some (number.0, session)
+  pub there : get sessions number.0 ≡ Some session
+
+pub behind : (m : Meaning) (name : List ℕ) (number : SessionNo) → Some number ≡ number_named m name → Behind m.sessions name number
+behind m name number is = by (session_named m.sessions name) refl is
+  where
+    by : (o : Option (ℕ × Session)) → session_named m.sessions name ≡ o → Some number ≡ option_map {U = SessionNo} (λ e. record { 0 = e.0 }) o → Behind m.sessions name number
+    by None at e = absurd (cc)
+    by (Some e) at same =
+        let one : number.0 ≡ e.0 = cc in
+        record {
+          session = e.1;
+          named = at ∙ ap Some (λ i. (sym one i, e.1));
+          there = ap (get m.sessions) one ∙ found_there (λ e. bytes_eq e.1.name name) m.sessions e at;
+        }
+
+pub some_is : {A : Type 0} (o : Option A) (x : A) → o ≡ Some x → IsSome o
+some_is o x is = subst IsSome (sym is) refl
+
+pub none_named : (m : Meaning) (name : List ℕ) → None ≡ number_named m name → session_named m.sessions name ≡ None
+none_named m name is = by (session_named m.sessions name) refl is
+  where
+    by : (o : Option (ℕ × Session)) → session_named m.sessions name ≡ o → None ≡ option_map {U = SessionNo} (λ e. record { 0 = e.0 }) o → o ≡ None
+    by None at e = refl
+    by (Some e) at same = absurd (cc)
+
+-- what a test of the session there tells
+pub told : (P : Session → Type 0) (o : Option Session) (x : Session) → o ≡ Some x → IsSomeAnd o P → P x
+told P o x is holds = subst (λ z. IsSomeAnd z P) is holds

@@ -1,0 +1,35 @@
+// The session of a name.
+ghost use Rattle.std.specs.Prelude.{◌≡◌, None, MatchOption};
+ghost use Rattle.pss_machine.specs.Kept.{Kept};
+ghost use Rattle.pss_machine.specs.Sessions.{session_named};
+ghost use Rattle.connector_parts.specs.Stands.{Stands};
+ghost use Rattle.connector_parts.specs.Found.{IsFound};
+
+use crate::parts::Parts;
+use pss_base::SessionNo;
+use pss_machine::{Access, Association, Kind};
+
+/// A session that a command names.
+#[derive(Clone, Copy, Drop)]
+pub struct Found {
+    pub number: SessionNo,
+    pub kind: Kind,
+    pub access: Access,
+    pub association: Association,
+}
+
+impl Parts {
+    /// The session of a name. None exactly where no session has it.
+    pub fn session(&self, name: &[u8]) -> Option<Found>
+        ensures { (k : Kept) → Stands self.now k → MatchOption result (session_named k.sessions name.now ≡ None) (IsFound k name.now) }
+    {
+        let sessions = self.attended.sessions();
+        let number = sessions.find(name)?;
+        Some(Found {
+            number,
+            kind: sessions.kind(number),
+            access: sessions.access(number),
+            association: sessions.status(number),
+        })
+    }
+}

@@ -1,0 +1,4 @@
+pub mod Openings
+pub mod Starts
+pub mod Endings
+pub mod Closings

@@ -1,0 +1,16 @@
+//! The commands that open, associate and close sessions, begin and roll back transactions, count entries, and tell of all
+//! this, each as one call.
+#![tactic(auto)]
+
+mod associating;
+mod closing;
+mod holding;
+mod opening;
+mod states;
+mod telling;
+
+pub use associating::{end, start, suspend};
+pub use closing::{close, rollback};
+pub use holding::{dup, free_all, refresh, release};
+pub use opening::{begin, open};
+pub use telling::{history, home, pid_of, status};

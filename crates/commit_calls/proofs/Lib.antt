@@ -1,0 +1,4 @@
+pub mod Pids
+pub mod Outcomes
+pub mod Readiness
+pub mod Settlements

@@ -1,0 +1,47 @@
+-- The objects of changes.
+use Rattle.std.proofs.Common.{ℕ, suc, zero, ◌≡◌, ◌<◌, List, [], ◌∷◌, ◌++◌, map, length, take, Option, Some, None, sym, ap, ◌∙◌, arith}
+use Rattle.std.specs.FinMap.{get}
+use Rattle.std.proofs.Math.ListN.{get_or}
+use Rattle.pss_base.specs.declared.pid.Pid.{Pid}
+use Rattle.pss_base.specs.declared.owner.OwnerNo.{OwnerNo}
+use Rattle.type_layout.specs.declared.home.HomeNo.{HomeNo}
+use Rattle.type_layout.specs.declared.schema.Schema.{Schema}
+use Rattle.pss_catalog.specs.Catalog.{Object, Catalog, IsGiven}
+use Rattle.pss_catalog.specs.Changes.{Change as Step}
+use Rattle.storage_home.specs.declared.change.Change.{Change}
+use Rattle.pss_machine.specs.declared.limits.Limits.{Limits}
+use Rattle.pss_machine.specs.Owners.{Owner, net}
+use Rattle.pss_machine.specs.Kept.{Kept}
+use Rattle.pss_laws.specs.Storable.{EachChange, MayBecome}
+use Rattle.pss_laws.proofs.Storing.{net_each}
+use Rattle.owner_view.specs.Net.{home_left, AreNet}
+use Rattle.owner_accounts.specs.Reached.{IsReached}
+use Rattle.owner_accounts.proofs.Runs.{fine_at, keeping_at}
+use Rattle.pss_copies.specs.Settling.{AreOf}
+use Rattle.commit_calls.specs.Ready.{pid_of}
+
+-- each is of the home in which its object was committed
+of_changes : (S : Schema) (M : Catalog) (next : ℕ) (ds : List Step) (cs : List Change) → AreNet S M ds cs → EachChange (λ d. IsGiven next d.serial × MayBecome S next M d.serial d.state) ds → AreOf M ds (map pid_of cs)
+of_changes S M next [] [] net each = tt
+of_changes S M next [] (c ∷ cs) net each = absurd net
+of_changes S M next (d ∷ ds) [] net each = absurd net
+of_changes S M next (d ∷ ds) (c ∷ cs) net each = (net.0.serial, λ x there. by x there d.state each.0.1 ∙ sym net.0.home, of_changes S M next ds cs net.1 each.1)
+  where
+    by : (x : Object) → get M d.serial ≡ Some x → (o : Option Object) → MayBecome S next M d.serial o → x.home.0 ≡ home_left o (get M d.serial)
+    by x there None may = sym (ap (home_left None) there)
+    by x there (Some object) may = ap (λ (h : HomeNo). h.0) (may.1 x there)
+
+-- so are the objects of an owner's net changes, where a run has come
+pub pids_of_net : (S : Schema) (limits : Limits) (k : Kept) → IsReached S limits k → (n : OwnerNo) (owner : Owner) → get k.owners n.0 ≡ Some owner → (cs : List Change) → AreNet S k.catalog (net k.catalog owner) cs → AreOf k.catalog (net k.catalog owner) (map pid_of cs)
+pids_of_net S limits k reached n owner there cs are =
+    let fine = fine_at S limits k reached in
+    of_changes S k.catalog k.next (net k.catalog owner) cs are (net_each S k.next k.catalog owner fine.catalog (fine.views n.0 owner there) ((keeping_at S limits k reached).homes n.0 owner there))
+
+-- one more
+pub pid_more : (cs : List Change) (i k : ℕ) (c : Change) (pids : List Pid) → k ≡ suc i → i < length cs → c ≡ get_or cs i c → pids ≡ map pid_of (take i cs) → pids ++ record { home = c.put.home; serial = c.put.serial } ∷ [] ≡ map pid_of (take k cs)
+pid_more cs i k c pids next less is so = ap (λ l. l ++ record { home = c.put.home; serial = c.put.serial } ∷ []) so ∙ sym (by cs i less is) ∙ ap (λ m. map pid_of (take m cs)) (sym next)
+  where
+    by : (cs : List Change) (i : ℕ) → i < length cs → c ≡ get_or cs i c → map pid_of (take (suc i) cs) ≡ map pid_of (take i cs) ++ record { home = c.put.home; serial = c.put.serial } ∷ []
+    by [] i less is = absurd (omega (arith, less))
+    by (d ∷ ds) zero less is = ap (λ x. pid_of x ∷ []) (sym is)
+    by (d ∷ ds) (suc i) less is = ap (λ l. pid_of d ∷ l) (by ds i (omega (arith, less)) is)

@@ -1,0 +1,13 @@
+//! The commands by which owners commit: `commit` and `flush`, each as one call.
+//!
+//! Memory comes first: what a commit makes of the objects, the text that the history will tell, and the list of the objects
+//! that it changes. What follows takes none: the objects and the history move, entries leave the bodies that are old, and
+//! the owner goes or begins anew.
+#![tactic(auto)]
+
+mod committing;
+mod flushing;
+mod ready;
+
+pub use committing::commit;
+pub use flushing::flush;

@@ -9,6 +9,7 @@
     records    lines of the program record_cases, each with its answer under it; `text` has none, nor has a line that begins with `#`
     journal    lines of the program journal_cases, each with its answer under it; `store` and `octets` have none, nor has a line that begins with `#`
     pages      lines of the program page_cases, likewise
+    stores     lines of the program recovery_cases, likewise: `init`, `mount`, `run`, `crashes` and `sum` have an answer
     refusals   texts of one line, and octets of records with a line under them that marks the place of the refusal: `^ BadBool(15)`
 
 Blocks of the words `grammar` and `commands` are not tried: notation, and commands that prove or build. Any other block is a failed case, and so
@@ -17,7 +18,7 @@ import glob
 import os
 import re
 
-from running import cells, contents, each, ended, expect, expect_answer, journal_cases, lines_of, page_cases, program, record_cases, shortened, tell, top, written
+from running import cells, contents, each, ended, expect, expect_answer, journal_cases, lines_of, page_cases, program, record_cases, recovery_cases, shortened, tell, top, written
 
 BLOCK = re.compile(r"^```([^\n]*)\n(.*?)^```$", re.M | re.S)
 EXAMPLE = re.compile(r"^\.EX\n(.*?)^\.EE$", re.M | re.S)
@@ -99,6 +100,23 @@ class Page:
     def pages(self, block):
         self.journal(block, page_cases)
 
+    def stores(self, block):
+        """Octets may have blanks between them."""
+        lines = [line for line in block.splitlines() if line and not line.startswith("#")]
+        asked, questions, wanted = [], [], []
+        while lines:
+            line = lines.pop(0)
+            words = line.split(" ")
+            places = {"octets": 2, "change": 3}.get(words[0], len(words))
+            asked.append(" ".join([*words[:places], "".join(words[places:])]).rstrip())
+            if words[0] in ("init", "mount", "run", "crashes", "sum"):
+                questions.append(line)
+                wanted.append(lines.pop(0) if lines else "")
+        seen = self.asked(asked, recovery_cases)
+        seen += ["no answer"] * (len(questions) - len(seen))
+        for question, want, told in zip(questions, wanted, seen):
+            tell(self.told(question), told == want, told)
+
     def journal(self, block, program=journal_cases):
         """Octets may have blanks between them."""
         lines = [line for line in block.splitlines() if line and not line.startswith("#")]
@@ -170,7 +188,7 @@ def try_page(folder, path):
         kind, _, name = words.partition(" ")
         if kind in NOT_TRIED:
             continue
-        if kind not in ("psdl", "canonical", "shape", "faults", "script", "console", "records", "journal", "pages", "refusals"):
+        if kind not in ("psdl", "canonical", "shape", "faults", "script", "console", "records", "journal", "pages", "stores", "refusals"):
             tell(page.told(block), False, f"a block of the kind {kind!r}")
         elif name:
             getattr(page, kind)(block, name)

@@ -13,6 +13,7 @@ program = os.environ.get("PSSD") or os.path.join(top, "crates", "pssd", "out", "
 record_cases = os.environ.get("RECORD_CASES") or os.path.join(top, "crates", "record_cases", "out", "record_cases")
 journal_cases = os.environ.get("JOURNAL_CASES") or os.path.join(top, "crates", "journal_cases", "out", "journal_cases")
 page_cases = os.environ.get("PAGE_CASES") or os.path.join(top, "crates", "page_cases", "out", "page_cases")
+recovery_cases = os.environ.get("RECOVERY_CASES") or os.path.join(top, "crates", "recovery_cases", "out", "recovery_cases")
 # A run has so many seconds. A build that is not optimised may need more.
 LONGEST = int(os.environ.get("PSSD_SECONDS") or 60)
 USAGE = b"usage: pssd check SCHEMA | init SCHEMA STORE | run SCHEMA STORE | demo N STORE\n"

@@ -62,6 +62,10 @@ module _ (c : Parts) (k : Kept) (at : IsAt c k) where
       subst HomesAgree (sym at.reached.is)
       (always_agree c.schema c.limits at.reached.catalog at.reached.next at.reached.lines at.reached.good.unique (good_given c.schema at.reached.catalog at.reached.next at.reached.good))
 
+  -- the entries of each session are in order
+  pub in_order_at : (s : ℕ) (copies : Copies) → get k.copies s ≡ Some copies → AreOrderly copies
+  in_order_at = subst (λ (j : Kept). (s : ℕ) (copies : Copies) → get j.copies s ≡ Some copies → AreOrderly copies) (sym at.reached.is) (entries_are_orderly c.schema c.limits at.reached.catalog at.reached.next at.reached.lines)
+
   pub orderly_at : (s : SessionNo) → AreOrderly (copies_of k s)
   orderly_at s =
       subst (λ (j : Kept). AreOrderly (copies_of j s)) (sym at.reached.is)

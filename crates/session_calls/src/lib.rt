@@ -13,4 +13,4 @@ pub use associating::{end, start, suspend};
 pub use closing::{close, rollback};
 pub use holding::{dup, free_all, refresh, release};
 pub use opening::{begin, open};
-pub use telling::{history, home, pid_of, status};
+pub use telling::{history, home, pid_of, stat, status};

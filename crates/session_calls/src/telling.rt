@@ -72,3 +72,19 @@ pub fn history(parts: &Parts) -> Result<Reply, NoMemory>
         members: history.recent()?,
     })
 }
+
+/// `stat`: how many there are of everything.
+pub fn stat(parts: &Parts) -> Reply
+    ensures { (k : Kept) → IsAt parts.now k → Comes parts.now k command.Stat result parts.now }
+{
+    Reply::Stat {
+        sessions: u64::from(parts.attended.sessions().count()),
+        transactions: u64::from(parts.accounts.titles().transactions()),
+        entries: parts.attended.entries(),
+        attached: parts.attended.attached(),
+        bodies: parts.attended.bodies(),
+        locks: parts.accounts.locks(),
+        commits: parts.accounts.history().commits(),
+        objects: parts.accounts.objects(),
+    }
+}

@@ -26,6 +26,7 @@ use type_layout::{Factory, HomeNo, KeyNo, Member, Record, Value, Values, key_of_
 /// object takes.
 ///
 /// The rest of a line that a call is given ends at a column below 2 to the 32nd.
+#[derive(Clone, Copy, Drop)]
 pub struct Asking<'a> {
     pub alloc: Global,
     pub names: &'a NamedSchema,

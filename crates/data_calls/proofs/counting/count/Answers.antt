@@ -1,0 +1,39 @@
+use Rattle.std.proofs.Common.{refl, ap, ◌∙◌, subst}
+use Rattle.std.specs.Prelude.{Result}
+use Rattle.pss_machine.specs.declared.command.Command.TheVariants as command
+use Rattle.pss_machine.specs.declared.reply.Reply.{Reply}
+use Rattle.pss_machine.specs.Kept.{Kept, copies_of}
+use Rattle.pss_machine.specs.Asking.{Asked, asking_of_home}
+use Rattle.pss_machine.specs.Operations.{Count, Ask}
+use Rattle.pss_asking.specs.Telling.{Tells, plain_asked}
+use Rattle.connector_parts.specs.Stands.{IsAt, Comes}
+use Rattle.connector_parts.proofs.Tellings.{if_ok}
+use Rattle.data_calls.specs.Asking.{Asks, decision_on, Follows}
+use Rattle.data_calls.proofs.Fair.{counting_right}
+use Rattle.data_calls.proofs.Words.{named_as, any_asks, comes, idle}
+use Rattle.data_calls.proofs.counting.count.Goals as goal
+
+pub ask-requires : goal.ask-requires
+ask-requires g c =
+    let k = c.requires.kept in
+    let at = c.requires.at in
+    let named = named_as c.as_slice.result.now c.args.name.now c.as_slice.ensures (c.in-Ok.ensures k at) in
+    any_asks c.args.parts.now k at c.args.name.now c.in-Ok.acting named (command.Count c.args.name.now c.args.home.now) (λ s session. asking_of_home c.args.parts.now.schema c.args.home.now (λ h. Ask (Count h))) (λ owners. refl)
+    (counting_right c.args.parts.now.schema (copies_of k c.in-Ok.acting.session) c.args.home.now) c.count-asked.result
+    (subst (Tells plain_asked c.count-asked.result) (ap (λ S. asking_of_home S c.as_slice-in-Ok.result.now (λ h. Ask (Count h))) c.asking.ensures.schema ∙ ap (λ w. asking_of_home c.args.parts.now.schema w (λ h. Ask (Count h))) c.as_slice-in-Ok.ensures) c.count-asked.ensures)
+
+pub returns-in-Ok : goal.returns-in-Ok
+returns-in-Ok g c =
+    if_ok
+    (λ (reply : Reply). (told : Result Asked Reply) (a : Asks c.args.parts.now c.in-Ok.acting told) → Tells plain_asked c.count-asked.result told → Follows c.args.parts.now a.kept (decision_on a) reply c.ask.new.parts)
+    (λ (reply : Reply). (k : Kept) → IsAt c.args.parts.now k → Comes c.args.parts.now k (command.Count c.args.name.now c.args.home.now) reply c.ask.new.parts)
+    c.ask.result
+    (λ reply h k at.
+    let named = named_as c.as_slice.result.now c.args.name.now c.as_slice.ensures (c.in-Ok.ensures k at) in
+    comes c.args.parts.now k at c.args.name.now c.in-Ok.acting named (command.Count c.args.name.now c.args.home.now) (λ s session. asking_of_home c.args.parts.now.schema c.args.home.now (λ h. Ask (Count h))) (λ owners. refl)
+    (counting_right c.args.parts.now.schema (copies_of k c.in-Ok.acting.session) c.args.home.now) c.count-asked.result
+    (subst (Tells plain_asked c.count-asked.result) (ap (λ S. asking_of_home S c.as_slice-in-Ok.result.now (λ h. Ask (Count h))) c.asking.ensures.schema ∙ ap (λ w. asking_of_home c.args.parts.now.schema w (λ h. Ask (Count h))) c.as_slice-in-Ok.ensures) c.count-asked.ensures) reply c.ask.new.parts h)
+    c.ask.ensures
+
+pub returns-in-Err : goal.returns-in-Err
+returns-in-Err g c k at = idle c.args.parts.now k at c.as_slice.result.now c.args.name.now c.as_slice.ensures c.in-Err.reply (c.in-Err.ensures k at) (command.Count c.args.name.now c.args.home.now) (λ s session. asking_of_home c.args.parts.now.schema c.args.home.now (λ h. Ask (Count h))) (λ owners. refl)

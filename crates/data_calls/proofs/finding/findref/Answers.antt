@@ -1,0 +1,38 @@
+use Rattle.std.proofs.Common.{refl, ap, ◌∙◌, subst}
+use Rattle.std.specs.Prelude.{Result}
+use Rattle.pss_machine.specs.declared.command.Command.TheVariants as command
+use Rattle.pss_machine.specs.declared.reply.Reply.{Reply}
+use Rattle.pss_machine.specs.Kept.{Kept, copies_of}
+use Rattle.pss_machine.specs.Asking.{Asked, only}
+use Rattle.pss_asking.specs.Telling.{Tells, plain_asked, finding_to}
+use Rattle.connector_parts.specs.Stands.{IsAt, Comes}
+use Rattle.connector_parts.proofs.Tellings.{if_ok}
+use Rattle.data_calls.specs.Asking.{Asks, decision_on, Follows}
+use Rattle.data_calls.proofs.Fair.{finding_right}
+use Rattle.data_calls.proofs.Words.{named_as, any_asks, comes, idle}
+use Rattle.data_calls.proofs.finding.findref.Goals as goal
+
+pub ask-requires : goal.ask-requires
+ask-requires g c =
+    let k = c.requires.any.kept in
+    let at = c.requires.any.at in
+    let named = named_as c.as_slice.result.now c.args.name.now c.as_slice.ensures (c.in-Ok.ensures k at) in
+    any_asks c.args.parts.now k at c.args.name.now c.in-Ok.acting named (command.FindRef c.args.name.now c.args.home.now c.args.key.now c.args.values.now) (λ s session. finding_to only c.args.parts.now.schema c.args.home.now c.args.key.now c.args.values.now) (λ owners. refl)
+    (finding_right c.args.parts.now.schema (copies_of k c.in-Ok.acting.session) only (λ op none. (refl, none)) c.args.home.now c.args.key.now c.args.values.now) c.findref-asked.result
+    (subst (Tells plain_asked c.findref-asked.result) (ap (λ S. finding_to only S c.as_slice-in-Ok.result.now c.as_slice-in-Ok-2.result.now c.args.values.now) c.asking.ensures.schema ∙ ap (λ h. finding_to only c.args.parts.now.schema h c.as_slice-in-Ok-2.result.now c.args.values.now) c.as_slice-in-Ok.ensures ∙ ap (λ q. finding_to only c.args.parts.now.schema c.args.home.now q c.args.values.now) c.as_slice-in-Ok-2.ensures) (c.findref-asked.ensures))
+
+pub returns-in-Ok : goal.returns-in-Ok
+returns-in-Ok g c =
+    if_ok
+    (λ (reply : Reply). (told : Result Asked Reply) (a : Asks c.args.parts.now c.in-Ok.acting told) → Tells plain_asked c.findref-asked.result told → Follows c.args.parts.now a.kept (decision_on a) reply c.ask.new.parts)
+    (λ (reply : Reply). (k : Kept) → IsAt c.args.parts.now k → Comes c.args.parts.now k (command.FindRef c.args.name.now c.args.home.now c.args.key.now c.args.values.now) reply c.ask.new.parts)
+    c.ask.result
+    (λ reply h k at.
+    let named = named_as c.as_slice.result.now c.args.name.now c.as_slice.ensures (c.in-Ok.ensures k at) in
+    comes c.args.parts.now k at c.args.name.now c.in-Ok.acting named (command.FindRef c.args.name.now c.args.home.now c.args.key.now c.args.values.now) (λ s session. finding_to only c.args.parts.now.schema c.args.home.now c.args.key.now c.args.values.now) (λ owners. refl)
+    (finding_right c.args.parts.now.schema (copies_of k c.in-Ok.acting.session) only (λ op none. (refl, none)) c.args.home.now c.args.key.now c.args.values.now) c.findref-asked.result
+    (subst (Tells plain_asked c.findref-asked.result) (ap (λ S. finding_to only S c.as_slice-in-Ok.result.now c.as_slice-in-Ok-2.result.now c.args.values.now) c.asking.ensures.schema ∙ ap (λ h. finding_to only c.args.parts.now.schema h c.as_slice-in-Ok-2.result.now c.args.values.now) c.as_slice-in-Ok.ensures ∙ ap (λ q. finding_to only c.args.parts.now.schema c.args.home.now q c.args.values.now) c.as_slice-in-Ok-2.ensures) (c.findref-asked.ensures)) reply c.ask.new.parts h)
+    c.ask.ensures
+
+pub returns-in-Err : goal.returns-in-Err
+returns-in-Err g c k at = idle c.args.parts.now k at c.as_slice.result.now c.args.name.now c.as_slice.ensures c.in-Err.reply (c.in-Err.ensures k at) (command.FindRef c.args.name.now c.args.home.now c.args.key.now c.args.values.now) (λ s session. finding_to only c.args.parts.now.schema c.args.home.now c.args.key.now c.args.values.now) (λ owners. refl)

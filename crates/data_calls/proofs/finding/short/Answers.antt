@@ -1,0 +1,38 @@
+use Rattle.std.proofs.Common.{refl, ap, ◌∙◌, subst}
+use Rattle.std.specs.Prelude.{Result}
+use Rattle.pss_machine.specs.declared.command.Command.TheVariants as command
+use Rattle.pss_machine.specs.declared.reply.Reply.{Reply}
+use Rattle.pss_machine.specs.Kept.{Kept, copies_of}
+use Rattle.pss_machine.specs.Asking.{Asked, shortening}
+use Rattle.pss_asking.specs.Telling.{Tells, plain_asked}
+use Rattle.connector_parts.specs.Stands.{IsAt, Comes}
+use Rattle.connector_parts.proofs.Tellings.{if_ok}
+use Rattle.data_calls.specs.Asking.{Asks, decision_on, Follows}
+use Rattle.data_calls.proofs.Fair.{shortening_right}
+use Rattle.data_calls.proofs.Words.{named_as, any_asks, comes, idle}
+use Rattle.data_calls.proofs.finding.short.Goals as goal
+
+pub ask-requires : goal.ask-requires
+ask-requires g c =
+    let k = c.requires.kept in
+    let at = c.requires.at in
+    let named = named_as c.as_slice.result.now c.args.name.now c.as_slice.ensures (c.in-Ok.ensures k at) in
+    any_asks c.args.parts.now k at c.args.name.now c.in-Ok.acting named (command.Short c.args.name.now c.args.home.now c.args.serial) (λ s session. shortening c.args.parts.now.schema c.args.home.now c.args.serial) (λ owners. refl)
+    (shortening_right c.args.parts.now.schema (copies_of k c.in-Ok.acting.session) c.args.home.now c.args.serial) c.short-asked.result
+    (subst (Tells plain_asked c.short-asked.result) (ap (λ S. shortening S c.as_slice-in-Ok.result.now c.args.serial) c.asking.ensures.schema ∙ ap (λ h. shortening c.args.parts.now.schema h c.args.serial) c.as_slice-in-Ok.ensures) (c.short-asked.ensures))
+
+pub returns-in-Ok : goal.returns-in-Ok
+returns-in-Ok g c =
+    if_ok
+    (λ (reply : Reply). (told : Result Asked Reply) (a : Asks c.args.parts.now c.in-Ok.acting told) → Tells plain_asked c.short-asked.result told → Follows c.args.parts.now a.kept (decision_on a) reply c.ask.new.parts)
+    (λ (reply : Reply). (k : Kept) → IsAt c.args.parts.now k → Comes c.args.parts.now k (command.Short c.args.name.now c.args.home.now c.args.serial) reply c.ask.new.parts)
+    c.ask.result
+    (λ reply h k at.
+    let named = named_as c.as_slice.result.now c.args.name.now c.as_slice.ensures (c.in-Ok.ensures k at) in
+    comes c.args.parts.now k at c.args.name.now c.in-Ok.acting named (command.Short c.args.name.now c.args.home.now c.args.serial) (λ s session. shortening c.args.parts.now.schema c.args.home.now c.args.serial) (λ owners. refl)
+    (shortening_right c.args.parts.now.schema (copies_of k c.in-Ok.acting.session) c.args.home.now c.args.serial) c.short-asked.result
+    (subst (Tells plain_asked c.short-asked.result) (ap (λ S. shortening S c.as_slice-in-Ok.result.now c.args.serial) c.asking.ensures.schema ∙ ap (λ h. shortening c.args.parts.now.schema h c.args.serial) c.as_slice-in-Ok.ensures) (c.short-asked.ensures)) reply c.ask.new.parts h)
+    c.ask.ensures
+
+pub returns-in-Err : goal.returns-in-Err
+returns-in-Err g c k at = idle c.args.parts.now k at c.as_slice.result.now c.args.name.now c.as_slice.ensures c.in-Err.reply (c.in-Err.ensures k at) (command.Short c.args.name.now c.args.home.now c.args.serial) (λ s session. shortening c.args.parts.now.schema c.args.home.now c.args.serial) (λ owners. refl)

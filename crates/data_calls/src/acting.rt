@@ -1,0 +1,68 @@
+// Sessions that data commands are done in.
+ghost use Rattle.std.specs.Prelude.{◌≡◌, None, MatchOption, MatchResult};
+ghost use Rattle.pss_machine.specs.Kept.{Kept};
+ghost use Rattle.pss_machine.specs.Sessions.{Session, acts_for as machine_acts_for, active_in as machine_active_in};
+ghost use Rattle.connector_parts.specs.Stands.{IsAt};
+ghost use Rattle.data_calls.specs.Acting.{ActsFor, IsNamed, IsIdle};
+
+use connector_parts::{Found, Parts};
+use pss_base::{OwnerNo, SessionNo};
+use pss_machine::{Access, Association, Kind, Reply};
+
+/// A session in which a data command is done, and the owner that it acts for.
+#[derive(Clone, Copy, Drop)]
+pub struct Acting {
+    pub session: SessionNo,
+    pub access: Access,
+    pub owner: OwnerNo,
+    pub basic: bool,
+}
+
+// The transaction that a session of this association acts for.
+fn active_in(association: Association) -> Option<OwnerNo>
+    ensures { result ≡ machine_active_in association }
+{
+    match association {
+        Association::NoTransaction => None,
+        Association::Active(owner) => Some(owner),
+        Association::Suspended(_) => None,
+        Association::Ending(_) => None,
+    }
+}
+
+// The session as it acts for an owner. None: it acts for nobody.
+fn acting_for(found: Found) -> Option<Acting>
+    ensures { (session : Session) → session.kind ≡ found.kind → session.association ≡ found.association → MatchOption result (machine_acts_for session ≡ None) (ActsFor session found) }
+{
+    match found.kind {
+        Kind::Basic(owner) => Some(Acting {
+            session: found.number,
+            access: found.access,
+            owner,
+            basic: true,
+        }),
+        Kind::Transactional => {
+            let owner = active_in(found.association)?;
+            Some(Acting {
+                session: found.number,
+                access: found.access,
+                owner,
+                basic: false,
+            })
+        }
+    }
+}
+
+/// The session of a name as it acts for an owner. Else the reply to every data command in it: no session has the name, or
+/// it acts for nobody.
+pub fn acts_in(parts: &Parts, name: &[u8]) -> Result<Acting, Reply>
+    ensures { (k : Kept) → IsAt parts.now k → MatchResult result (IsNamed k name.now) (IsIdle parts.now k name.now) }
+{
+    let Some(found) = parts.session(name) else {
+        return Err(Reply::NoSession);
+    };
+    match acting_for(found) {
+        Some(acting) => Ok(acting),
+        None => Err(Reply::NoTx),
+    }
+}

@@ -1,0 +1,77 @@
+// What entries do after a step: the named one, and that of what was found.
+ghost use Rattle.std.specs.Prelude.{◌≡◌, IfOk, OnOk};
+ghost use Rattle.pss_machine.specs.Operations.{plain_answer};
+ghost use Rattle.pss_machine.specs.Moving.{is_done as machine_is_done};
+ghost use Rattle.data_calls.specs.Ways.{MayObtain, MayName, MayFind, IsObtainedNow, IsNamedNow, IsFoundNow};
+
+use crate::acting::Acting;
+use crate::seating::seat;
+use connector_parts::{Parts, entry_number};
+use pss_base::{NoMemory, Pid};
+use pss_machine::Answer;
+
+// The operation did what it was asked for.
+fn is_done(answer: &Answer) -> bool
+    ensures { result ≡ machine_is_done (plain_answer answer.now) }
+{
+    match answer {
+        Answer::Done => true,
+        Answer::Found(_) => true,
+        Answer::Val(_) => true,
+        _ => false,
+    }
+}
+
+/// The entry that a command names stands on a body, where the command did what it was asked for.
+pub fn seat_named(
+    parts: &mut Parts,
+    acting: Acting,
+    entry: Option<u64>,
+    answer: &Answer,
+) -> Result<(), NoMemory>
+    requires { MayName parts.old acting entry (plain_answer answer.now) }
+    ensures { OnOk result ((m : MayName parts.old acting entry (plain_answer answer.now)) → IsNamedNow m parts.new) }
+{
+    if !is_done(answer) {
+        return Ok(());
+    }
+    let Some(entry) = entry else {
+        return Ok(());
+    };
+    match entry_number(entry) {
+        Some(number) => seat(parts, acting, number),
+        None => unreachable!(),
+    }
+}
+
+// The object is obtained in the session, by the entry of this number, which stands on a body.
+fn obtain(parts: &mut Parts, acting: Acting, pid: Pid) -> Result<u32, NoMemory>
+    requires { MayObtain parts.old acting pid }
+    ensures { IfOk result (λ n. (m : MayObtain parts.old acting pid) → IsObtainedNow m n parts.new) }
+{
+    let number = parts.attended.obtain(acting.session, pid)?;
+    seat(parts, acting, number)?;
+    Ok(number)
+}
+
+/// The object that was found is obtained, where it is to be. The answer is the number of its entry.
+pub fn obtain_found(
+    parts: &mut Parts,
+    acting: Acting,
+    obtains: bool,
+    answer: &Answer,
+) -> Result<Option<u32>, NoMemory>
+    requires { MayFind parts.old acting obtains (plain_answer answer.now) }
+    ensures { IfOk result (λ entry. (m : MayFind parts.old acting obtains (plain_answer answer.now)) → IsFoundNow m entry parts.new) }
+{
+    if !obtains {
+        return Ok(None);
+    }
+    match answer {
+        Answer::Found(pid) => {
+            let number = obtain(parts, acting, *pid)?;
+            Ok(Some(number))
+        }
+        _ => Ok(None),
+    }
+}

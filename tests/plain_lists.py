@@ -5,7 +5,7 @@ import os
 import shutil
 
 from pages import below, listed
-from running import ended, here, tell, top
+from running import contents, ended, here, tell, top
 
 # Seconds for the building and the run of a program, which take half a minute of the processor.
 LONGEST = 600
@@ -22,33 +22,40 @@ PROGRAMS = {
 }
 
 
-def workspace(folder):
-    """The libraries with those below them, and a crate NAME_table for each program. Gives the folder of the crates."""
-    libraries = dict(listed())
+def workspace(folder, programs):
+    """A crate NAME_table for each program, the libraries that it names, and those below them. Gives the folder of the crates."""
+    all_crates = dict(listed())
     crates = os.path.join(folder, "crates")
     lines = []
-    for library in sorted(set().union(*(below(name, libraries) for name in PROGRAMS))):
-        lines.append(f"{library}: {' '.join(libraries[library])}\n")
+    used = {name: set().union(*(below(library, all_crates) for library in libraries)) for name, libraries in programs.items()}
+    for library in sorted(set().union(*used.values())):
+        lines.append(f"{library}: {' '.join(all_crates[library])}\n")
         for part in ("src", "specs", "proofs"):
-            shutil.copytree(os.path.join(top, "crates", library, part), os.path.join(crates, library, part))
-    for name in PROGRAMS:
-        lines.append(f"{name}_table: {' '.join(sorted(below(name, libraries)))}\n")
+            if os.path.isdir(os.path.join(top, "crates", library, part)):
+                shutil.copytree(os.path.join(top, "crates", library, part), os.path.join(crates, library, part))
+    for name, libraries in used.items():
+        lines.append(f"{name}_table: {' '.join(sorted(libraries))}\n")
         source = os.path.join(crates, f"{name}_table", "src")
         os.makedirs(source)
-        shutil.copy(os.path.join(here, "tables", f"{name}.txt"), os.path.join(source, "main.rt"))
-        shutil.copy(os.path.join(here, "tables", "told.txt"), os.path.join(source, "told.rt"))
+        text = os.path.join(here, "tables", f"{name}.txt")
+        shutil.copy(text, os.path.join(source, "main.rt"))
+        if b"\nmod told;" in contents(text):
+            shutil.copy(os.path.join(here, "tables", "told.txt"), os.path.join(source, "told.rt"))
     with open(os.path.join(folder, "crates.txt"), "w") as file:
         file.writelines(lines)
     return crates
 
 
+def tried(crates, name, script=b""):
+    """What `rt try` comes to. It also has an interpreter, for which these programs are too long: it gets one step."""
+    return ended(["rt", "try", "--steps", "1"], script, longest=LONGEST, cwd=os.path.join(crates, f"{name}_table"))
+
+
 def plain_lists(folder):
     if shutil.which("rt") is None:
         return print("note: no rt, so that the programs in tests/tables/ are not tried")
-    crates = workspace(folder)
+    crates = workspace(folder, {name: [name] for name in PROGRAMS})
     for name, told in PROGRAMS.items():
-        # `rt try` also has an interpreter, for which these programs are too long: it gets one step.
-        run = ended(["rt", "try", "--steps", "1"], longest=LONGEST, cwd=os.path.join(crates, f"{name}_table"))
-        status, spoken, complaint = run
+        status, spoken, complaint = tried(crates, name)
         seen = status, spoken[:1000], spoken[-100:], complaint[:1000], complaint[-500:]
         tell(f"tests/tables/{name}.txt", (status, spoken) == (0, told), seen)

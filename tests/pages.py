@@ -4,7 +4,7 @@
     canonical  the canonical text of the text in front of it, or of the one that is named
     shape      its shape text
     faults     texts of one line, each with a line under it that marks the place of its fault: `^ 1:32 C1 Redefined`
-    script     lines of a script over examples/cells.psdl, each with its reply behind two blanks or more
+    script     lines of a script, each with its reply behind two blanks or more; a second word names the text in examples/, else it is cells.psdl
     console    commands behind `$ `, each with what it prints; a line `..` stands for any lines
     records    lines of the program record_cases, each with its answer under it; `text` has none, nor has a line that begins with `#`
     journal    lines of the program journal_cases, each with its answer under it; `store` and `octets` have none, nor has a line that begins with `#`
@@ -18,7 +18,7 @@ import glob
 import os
 import re
 
-from running import cells, contents, each, ended, expect, expect_answer, journal_cases, lines_of, page_cases, program, record_cases, recovery_cases, shortened, tell, top, written
+from running import cells, contents, each, ended, examples, expect, expect_answer, journal_cases, lines_of, page_cases, program, record_cases, recovery_cases, shortened, tell, top, written
 
 BLOCK = re.compile(r"^```([^\n]*)\n(.*?)^```$", re.M | re.S)
 EXAMPLE = re.compile(r"^\.EX\n(.*?)^\.EE$", re.M | re.S)
@@ -56,11 +56,12 @@ class Page:
         for text, fault in marked(block.splitlines(), f"{self.name}: "):
             expect_answer(self.folder, self.told(text), text, f"schema {fault}\n".encode())
 
-    def script(self, block):
+    def script(self, block, name="cells"):
         parts = [re.fullmatch(r"(.*?\S)(?:  +(\S.*))?", line) for line in block.splitlines() if line]
         script = "".join(f"{part[1]}\n" for part in parts)
         spoken = "".join(f"{part[2]}\n" for part in parts if part[2])
-        expect(self.told(script), ["run", cells, os.path.join(self.folder, "page.store")], script.encode(), 0, spoken.encode())
+        schema = os.path.join(examples, f"{name}.psdl")
+        expect(self.told(script), ["run", schema, os.path.join(self.folder, "page.store")], script.encode(), 0, spoken.encode())
 
     def console(self, block):
         """The commands are run where `./pssd` is the program and `examples` are the examples."""
@@ -199,7 +200,7 @@ def try_page(folder, path):
 
 
 def pages(folder):
-    for name, to in [("pssd", program), ("examples", os.path.join(top, "examples"))]:
+    for name, to in [("pssd", program), ("examples", examples)]:
         os.symlink(os.path.abspath(to), os.path.join(folder, name))
     found = glob.glob(os.path.join(top, "*.md")) + glob.glob(os.path.join(top, "docs", "*"))
     for path in each("the pages", sorted(found)):

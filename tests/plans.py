@@ -57,7 +57,7 @@ def plans(folder):
 # A text, how a run of it over FIRST ends, and what is spoken: for it, or for its check where that is another.
 PIECES = [
     (CELLS, 0, REPLIES),
-    (b"storagetype Cell {};", 9, NOT_BUILT),
+    (b"storagetype Cell {};", 0, b"OK\nNOHOME\nNOENTRY\n"),
     (b"storagetype Cell;", 2, b"schema 1:13 C5 Incomplete\n"),
     (b"storagetype T { state strong ref<Person> p; };", 2, b"schema 1:23 S6 LeftOut\n"),
     (b"const long Abc = 1; const long ABC = 2;", 2, b"schema 1:32 C1 Redefined\n"),

@@ -93,7 +93,7 @@ def written(folder, text):
     return schema
 
 
-def expect_answer(folder, name, text, told, status=9, spoken=b"not built\n", script=b"open a basic rw\n"):
+def expect_answer(folder, name, text, told, status=0, spoken=b"OK\n", script=b"open a basic rw\n"):
     """A text under `check` and under `run`: both refuse it with one line. What `run` comes to else is given."""
     schema = written(folder, text)
     is_refused = told.startswith(b"schema ")

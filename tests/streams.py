@@ -54,7 +54,7 @@ EXCHANGES = {
     "a line and a half": [(b"open s basic rw\ncrea", [b"OK\n"]), (b"te s Cells 7\n", CREATED[1])],
     "lines without a reply": [(b"\n# one\n \t\nopen s basic rw\n", [b"OK\n"]), (b"#\nget s i1 v\n", [b"NOENTRY\n"])],
     "CR and LF apart": [(b"open s basic rw\r", []), (b"\n", [b"OK\n"])],
-    "a line that is too long": [(b"x" * 70000 + b"\n", [b"NOTBUILT\n"]), OPENED],
+    "a line that is too long": [(b"x" * 70000 + b"\n", [b"ERR 65537\n"]), OPENED],
     }
 
 

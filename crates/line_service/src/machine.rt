@@ -24,17 +24,17 @@ pub enum Turn {
 
 /// A machine that serves lines, each by one turn from its state to the next one.
 pub trait LineMachine {
-    /// The states that it may be in, for contracts alone: no value of it is made.
-    type State;
+    /// The states that it may be in.
+    ghost State: { Type 0 };
 
     /// It is in this state, over a disk with this content that may leave this after a crash.
-    ghost is_in: { Self → Self.State → Option (List ℕ) → Option Disk → Type 0 };
+    ghost is_in: { Self → State → Option (List ℕ) → Option Disk → Type 0 };
 
     /// What a line makes of a state, and what is spoken for it: a reply with its line feed, or nothing.
-    ghost turn: { Self.State → LineStep → Self.State × List ℕ };
+    ghost turn: { State → LineStep → State × List ℕ };
 
     /// A moment that may come while a line is served in a state, where so much had been spoken before.
-    ghost passes: { Self.State → LineStep → Option (List ℕ) → Moment → Type 0 };
+    ghost passes: { State → LineStep → Option (List ℕ) → Moment → Type 0 };
 
     /// How many lines it has served.
     ghost served: { Self → ℕ };
@@ -44,13 +44,13 @@ pub trait LineMachine {
     fn serve_line<W: Station>(&mut self, line: &LineStep, station: &mut W) -> Turn
         requires line { IsLine line.now }
         requires few { served self.old < 4294967295 }
-        requires stands { (s : Self.State) × is_in self.old s (W.content station.old) (W.now station.old).disk }
+        requires stands { (s : State) × is_in self.old s (W.content station.old) (W.now station.old).disk }
         ensures served { result ≡ Turn.Went → served self.new ≡ served self.old + 1 }
-        ensures went { result ≡ Turn.Went → (s : Self.State) → is_in self.old s (W.content station.old) (W.now station.old).disk
+        ensures went { result ≡ Turn.Went → (s : State) → is_in self.old s (W.content station.old) (W.now station.old).disk
             → is_in self.new (turn s line.now).0 (W.content station.new) (W.now station.new).disk }
-        ensures speaks { (s : Self.State) → is_in self.old s (W.content station.old) (W.now station.old).disk
+        ensures speaks { (s : State) → is_in self.old s (W.content station.old) (W.now station.old).disk
             → Speaks result (turn s line.now).1 (W.now station.old).spoken (W.now station.new).spoken }
-        ensures moments { (s : Self.State) → is_in self.old s (W.content station.old) (W.now station.old).disk
+        ensures moments { (s : State) → is_in self.old s (W.content station.old) (W.now station.old).disk
             → Through (W.history station.old) (W.history station.new)
             (λ m. passes s line.now (W.now station.old).spoken m × SaidWhole result (turn s line.now).1 (W.now station.old).spoken (W.now station.new).spoken m.spoken) }
         ensures speech { HasCauseIf (W.speak_faults station.old) (W.speak_faults station.new) (is_speak_fault result) }

@@ -6,10 +6,10 @@ use Rattle.pss_disk.specs.Moments.{Moment, Disk, Through}
 use Rattle.pss_disk.proofs.Passing.{weaker}
 use Rattle.line_service.specs.Spoken.{HasSpoken}
 use Rattle.line_service.specs.Turns.{IsWhole}
-use Rattle.pss_daemon.specs.Ends.{IsNoPlan, IsUnbuilt, IsCheck, IsRun, IsOther, SaidWhole, usage_line}
+use Rattle.pss_daemon.specs.Ends.{IsNoPlan, IsUnbuilt, IsCheck, IsRun, IsOther, SaidWhole, usage_line, not_built_line}
 use Rattle.pss_daemon.specs.declared.forms.Plan.{Plan}
 use Rattle.pss_daemon.specs.declared.forms.Plan.TheVariants.{Check, Init, Run, Demo}
-use Rattle.pss_serving.specs.Outcomes.{OfText, WholeServing, not_built_line}
+use Rattle.pss_serving.specs.Outcomes.{OfText, WholeServing}
 use Rattle.pss_serving.specs.Spoken.{IsCut}
 use Rattle.pss_serving.specs.declared.status.Status.{Status}
 use Rattle.pss_serving.specs.declared.status.Status.TheVariants as status

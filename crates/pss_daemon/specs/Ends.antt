@@ -7,13 +7,17 @@ use Rattle.line_service.specs.Turns.{IsWhole}
 use Rattle.pss_daemon.specs.Forms.{IsPlanOf}
 use Rattle.pss_daemon.specs.declared.forms.Plan.{Plan}
 use Rattle.pss_daemon.specs.declared.forms.Plan.TheVariants.{Check, Init, Run, Demo}
-use Rattle.pss_serving.specs.Outcomes.{Call, EndsChecking, EndsServing, OfText, WholeServing, not_built_line}
+use Rattle.pss_serving.specs.Outcomes.{Call, EndsChecking, EndsServing, OfText, WholeServing}
 use Rattle.pss_serving.specs.declared.status.Status.{Status}
 use Rattle.pss_serving.specs.declared.status.Status.TheVariants as status
 
 -- what is spoken where the words are none of the forms
 abbrev pub usage_line : List ℕ
 usage_line = codes "usage: pssd check SCHEMA | init SCHEMA STORE | run SCHEMA STORE | demo N STORE" ++ 10 ∷ []
+
+-- what is spoken where what the words ask for is not built yet
+abbrev pub not_built_line : List ℕ
+not_built_line = codes "not built" ++ 10 ∷ []
 
 -- the words are none of the forms
 abbrev pub IsNoPlan : List (List ℕ) → Type 0

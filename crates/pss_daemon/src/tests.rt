@@ -1,18 +1,12 @@
 // Calls over sources and a station in memory, for what the built program cannot show: a read or a call of speech that
-// fails in mid-stream, and a script over limits that are lower than its own.
+// fails in mid-stream.
 use crate::{Status, pssd};
-use psdl_syntax::first_form;
 use pss_base::{Bytes, MemSource, NoMemory};
 use pss_disk::MemStation;
-use pss_serving::serve;
 use std::alloc::Global;
 use std::test::Fail;
 
 const CELLS: &str = "storagetype Cell{state long v;};storagehome Cells of Cell{};";
-
-const FIRST: &str = "open s1 basic rw\ncreate s1 Cells 7\nget s1 i1 v\n";
-
-const REPLIES: &str = "OK\nOK i1 000000010000000000000001\nOK 7\n";
 
 // Its last line has no line feed.
 const UNENDED: &str = "open s1 basic rw\ncreate s1 Cells 7";
@@ -93,43 +87,6 @@ fn the_first_failure_ends_the_call(rt: HostRuntime) -> Result<(), Fail> {
             station.spoken(),
             spoken.as_bytes(),
             "{schema:?} {script:?} {fail:?}"
-        );
-    }
-    Ok(())
-}
-
-// The greatest numbers of lines and of bytes, how the run ends, and what it speaks.
-const LIMITED: [(u32, u64, Status, &str); 5] = [
-    (3, 47, Status::Ok, REPLIES),
-    (
-        2,
-        47,
-        Status::ScriptTooLong,
-        "OK\nOK i1 000000010000000000000001\nscript too long\n",
-    ),
-    (
-        3,
-        46,
-        Status::ScriptTooLong,
-        "OK\nOK i1 000000010000000000000001\nscript too long\n",
-    ),
-    (1, 17, Status::ScriptTooLong, "OK\nscript too long\n"),
-    (0, 0, Status::ScriptTooLong, "script too long\n"),
-];
-
-#[test]
-fn a_script_over_its_limit_is_told(rt: HostRuntime) -> Result<(), Fail> {
-    let alloc = rt.alloc();
-    for (max_lines, max_bytes, status, spoken) in LIMITED {
-        let form = first_form(alloc, CELLS.as_bytes())?.ok_or("no form")?;
-        let mut script = MemSource::new(alloc, FIRST.as_bytes(), 5, &[])?;
-        let mut station = MemStation::new(alloc, b"", &[])?;
-        let ended = serve(alloc, form, &mut script, &mut station, max_lines, max_bytes);
-        assert_eq!(rt; ended, status, "{max_lines} {max_bytes}");
-        assert_eq!(rt;
-            station.spoken(),
-            spoken.as_bytes(),
-            "{max_lines} {max_bytes}"
         );
     }
     Ok(())

@@ -4,11 +4,9 @@ use Rattle.std.specs.declared.option.Option.{Option}
 use Rattle.psdl_tree.specs.Views.{tree_view}
 use Rattle.type_layout.specs.declared.schema.Schema.{Schema as LayoutSchema}
 use Rattle.pss_serving.specs.Checked.{IsSound, spoken_of, checked_text}
-use Rattle.pss_serving.specs.Schema.{IsFound, IsOf}
+use Rattle.pss_serving.specs.Found.{IsFound}
 use Rattle.pss_serving.specs.declared.reading.SoundText.{SoundText}
 use Rattle.pss_serving.specs.declared.reading.Checked.TheVariants as checked
-use Rattle.pss_serving.specs.declared.schema.Schema.{Schema}
-use Rattle.pss_serving.specs.declared.schema.Schema.TheVariants.{Form, Other, Refused, ReadFault, NoMemory}
 
 -- what holds of what was read holds of what came
 pub told : (P : List ℕ → Type 0) (bytes : List ℕ) (source : Option (List ℕ)) → P bytes → IfSome source (λ text. bytes ≡ text) → IfSome source P
@@ -21,15 +19,3 @@ sound_of source sound found = told (λ text. IsSound text (tree_view sound.tree)
 
 pub text_of : (source : Option (List ℕ)) (sound : SoundText) → IsFound (checked.Sound sound) source → spoken_of (tree_view sound.tree) sound.schema ≡ checked_text (tree_view sound.tree)
 text_of source sound found = ap (λ (s : LayoutSchema). spoken_of (tree_view sound.tree) s) found.1
-
-unknown : (form : Schema) → IsOf form None
-unknown (Form form) = tt
-unknown Other = tt
-unknown (Refused fault) = tt
-unknown ReadFault = tt
-unknown NoMemory = tt
-
--- what is so of the bytes that were read is so of the source
-pub form_told : (form : Schema) (bytes : List ℕ) (source : Option (List ℕ)) → IsOf form (Some bytes) → IfSome source (λ text. bytes ≡ text) → IsOf form source
-form_told form bytes None of is = unknown form
-form_told form bytes (Some text) of is = subst (λ (t : List ℕ). IsOf form (Some t)) is of

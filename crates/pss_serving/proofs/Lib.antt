@@ -1,9 +1,3 @@
-pub mod WordLaws
-pub mod Numbers
-pub mod ByPlace
-pub mod Keeping
-pub mod CommandLaws
-pub mod Refusals
 pub mod AtMoments
 pub mod Overlong
 pub mod Told

@@ -7,7 +7,7 @@ use Rattle.psdl_tokens.specs.Places.{place_of}
 use Rattle.psdl_syntax.specs.Syntax.{IsFault, most_bytes}
 use Rattle.psdl_syntax.specs.declared.syntax_fault.SyntaxKind.{SyntaxKind}
 use Rattle.psdl_syntax.specs.declared.syntax_fault.SyntaxKind.TheVariants as kinds
-use Rattle.pss_serving.specs.Schema.{IsFound}
+use Rattle.pss_serving.specs.Found.{IsFound}
 use Rattle.pss_serving.specs.declared.reading.Checked.{Checked}
 use Rattle.pss_serving.specs.declared.reading.Checked.TheVariants as checked
 use Rattle.pss_serving.specs.declared.schema_fault.SchemaFault.TheVariants.{Syntax, Check}

@@ -11,6 +11,11 @@ pub record Counts : Type 0 where
   pub speech : ℕ
   pub disk : ℕ
 
+-- these counts, by how a source and a station tell how often they have failed
+abbrev pub counts_of : {P C W : Type 0} → (P → ℕ) → (C → ℕ) → (speech disk : W → ℕ) → P → C → W → Counts
+counts_of schema_faults script_faults speech_faults disk_faults schema script station =
+    record { schema = schema_faults schema; script = script_faults script; speech = speech_faults station; disk = disk_faults station }
+
 -- no count rose
 abbrev pub AreSame : Counts → Counts → Type 0
 AreSame old new = (new.schema ≡ old.schema) × (new.script ≡ old.script) × (new.speech ≡ old.speech) × (new.disk ≡ old.disk)

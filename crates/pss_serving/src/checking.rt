@@ -4,7 +4,7 @@ ghost use Rattle.pss_base.specs.Causes.{HasCauseIf};
 ghost use Rattle.pss_disk.specs.Moments.{Through};
 ghost use Rattle.psdl_tree.specs.Views.{tree_view};
 ghost use Rattle.pss_serving.specs.Checked.{spoken_of};
-ghost use Rattle.pss_serving.specs.Counts.{HasCauses};
+ghost use Rattle.pss_serving.specs.Counts.{HasCauses, counts_of};
 ghost use Rattle.pss_serving.specs.Outcomes.{EndsChecking, OfText};
 ghost use Rattle.line_service.specs.Spoken.{HasSpoken};
 ghost use Rattle.line_service.specs.Turns.{IsWhole};
@@ -52,8 +52,8 @@ fn tell<W: Station>(alloc: Global, sound: &SoundText, station: &mut W) -> Told
 pub fn tell_checked<P: Source, W: Station>(alloc: Global, schema: &mut P, station: &mut W) -> Status
     ensures ends { EndsChecking result (P.left schema.old) (W.now station.old).spoken (W.now station.new).spoken (P.faults schema.old) (P.faults schema.new) }
     ensures causes { (script : ℕ) → HasCauses result
-        (record { schema = P.faults schema.old; script = script; speech = W.speak_faults station.old; disk = W.disk_faults station.old })
-        (record { schema = P.faults schema.new; script = script; speech = W.speak_faults station.new; disk = W.disk_faults station.new }) }
+        (counts_of P.faults (λ n. n) W.speak_faults W.disk_faults schema.old script station.old)
+        (counts_of P.faults (λ n. n) W.speak_faults W.disk_faults schema.new script station.new) }
     // At each moment nothing was spoken or all, but where speech failed.
     ensures moments { Through (W.history station.old) (W.history station.new)
         (λ m. OfText (λ told. IsWhole told (W.now station.old).spoken m.spoken) (P.left schema.old) ⊎ IsCut result (W.now station.new).spoken m.spoken) }

@@ -3,7 +3,7 @@ ghost use Rattle.std.specs.Prelude.{◌≡◌, false, Some};
 ghost use Rattle.pss_base.specs.Causes.{HasCauseIf};
 ghost use Rattle.psdl_tree.specs.Views.{tree_view};
 ghost use Rattle.psdl_syntax.specs.Syntax.{IsTextOf};
-ghost use Rattle.pss_serving.specs.Schema.{IsFound, has_failed};
+ghost use Rattle.pss_serving.specs.Found.{IsFound, has_failed};
 
 use crate::schema_fault::SchemaFault;
 use psdl_check::{CheckKind, check};

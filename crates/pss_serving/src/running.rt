@@ -1,24 +1,44 @@
 // A script is served over the text of a schema.
 ghost use Rattle.std.specs.Prelude.{◌≡◌, ◌⊎◌, IsTrue};
 ghost use Rattle.pss_disk.specs.Moments.{Through};
-ghost use Rattle.pss_serving.specs.Counts.{HasCauses};
-ghost use Rattle.pss_serving.specs.Outcomes.{EndsServing, WholeServing, ends_before_script};
+ghost use Rattle.pss_serving.specs.Counts.{HasCauses, counts_of};
+ghost use Rattle.pss_serving.specs.Endings.{status_of_ending};
+ghost use Rattle.pss_serving.specs.Outcomes.{EndsServing, IsAlwaysRight, WholeServing, call_of, ends_before_script};
 ghost use Rattle.pss_serving.specs.Spoken.{IsCut};
 
-use crate::schema::{Schema, read_schema};
-use crate::serving::serve;
+use crate::laws::scripts_are_right;
+use crate::reading::{Checked, SoundText, read_checked};
 use crate::status::Status;
-use crate::telling::{NOT_BUILT, Told, refuse};
-use line_service::speak;
+use crate::telling::{Told, refuse};
+use line_service::Ending;
+use psdl_sound::text_is_sound;
 use pss_base::Source;
 use pss_disk::Station;
+use script_service::serve_script;
 use std::alloc::Global;
+use type_layout::Schema;
 
-/// A script has at most so many lines.
-const MOST_LINES: u32 = 4294967295;
+// How the call of the service ends, where serving its script does.
+fn status_of(ending: Ending) -> Status
+    ensures { result ≡ status_of_ending ending }
+{
+    match ending {
+        Ending::End => Status::Ok,
+        Ending::TooLong => Status::ScriptTooLong,
+        Ending::ReadFault => Status::ReadFault,
+        Ending::DiskFault => Status::DiskFault,
+        Ending::SpeakFault => Status::SpeakFault,
+        Ending::NoMemory => Status::NoMemory,
+    }
+}
 
-/// A script has at most so many bytes.
-const MOST_BYTES: u64 = 281474976710656;
+// The schema alone: text and tree are let go before the script is read.
+fn schema_of(sound: SoundText) -> Schema
+    ensures { result ≡ sound.schema }
+{
+    let SoundText { schema, .. } = sound;
+    schema
+}
 
 /// Reads a schema's text and checks it, and serves a script over it: the reply to each line is spoken in one piece.
 pub fn run_script<P: Source, C: Source, W: Station>(
@@ -28,28 +48,30 @@ pub fn run_script<P: Source, C: Source, W: Station>(
     station: &mut W,
 ) -> Status
     ensures ends { EndsServing result
-        (record { schema = P.left schema.old; script = C.left script.old; left = C.left script.new; before = (W.now station.old).spoken; after = (W.now station.new).spoken })
+        (call_of P.left C.left W.now schema.old script.old script.new station.old station.new)
         (P.faults schema.old) (P.faults schema.new) }
     ensures unread { IsTrue (ends_before_script result) → script.new ≡ script.old }
     ensures causes { HasCauses result
-        (record { schema = P.faults schema.old; script = C.faults script.old; speech = W.speak_faults station.old; disk = W.disk_faults station.old })
-        (record { schema = P.faults schema.new; script = C.faults script.new; speech = W.speak_faults station.new; disk = W.disk_faults station.new }) }
+        (counts_of P.faults C.faults W.speak_faults W.disk_faults schema.old script.old station.old)
+        (counts_of P.faults C.faults W.speak_faults W.disk_faults schema.new script.new station.new) }
     // At each moment whole replies were spoken, but where speech failed.
     ensures moments { Through (W.history station.old) (W.history station.new)
         (λ m. WholeServing (P.left schema.old) (C.left script.old) (W.now station.old).spoken m.spoken ⊎ IsCut result (W.now station.new).spoken m.spoken) }
+    // What was committed by then is as if done alone, in the order of commits; and so of any first lines.
+    ensures right { IsAlwaysRight (P.left schema.old) (C.left script.old) }
 {
-    match read_schema(alloc, schema) {
-        Schema::Form(form) => serve(alloc, form, script, station, MOST_LINES, MOST_BYTES),
-        Schema::Other => match speak(station, NOT_BUILT) {
-            Ok(()) => Status::NotBuilt,
-            Err(_) => Status::SpeakFault,
-        },
-        Schema::Refused(fault) => match refuse(alloc, &fault, station) {
+    text_is_sound();
+    scripts_are_right();
+    match read_checked(alloc, schema) {
+        Checked::Sound(sound) => {
+            status_of(serve_script(alloc, schema_of(sound), script, station))
+        }
+        Checked::Refused(fault) => match refuse(alloc, &fault, station) {
             Told::Whole => Status::SchemaRefused,
             Told::SpeakFault => Status::SpeakFault,
             Told::NoMemory => Status::NoMemory,
         },
-        Schema::ReadFault => Status::ReadFault,
-        Schema::NoMemory => Status::NoMemory,
+        Checked::ReadFault => Status::ReadFault,
+        Checked::NoMemory => Status::NoMemory,
     }
 }

@@ -20,7 +20,7 @@ pub enum Status {
     SpeakFault,
     /// The script has more lines or bytes than are served.
     ScriptTooLong,
-    /// What the words or the schema ask for is not built yet.
+    /// What the words ask for is not built yet.
     NotBuilt,
 }
 

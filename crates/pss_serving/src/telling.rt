@@ -1,14 +1,12 @@
-// What there is to say is spoken in one piece: a reply, or the fault of the schema.
-ghost use Rattle.std.specs.Prelude.{◌≡◌, ◌++◌, ◌∷◌, []};
+// The fault of a schema's text is spoken in one piece.
+ghost use Rattle.std.specs.Prelude.{◌≡◌};
 ghost use Rattle.pss_base.specs.Causes.{HasCauseIf};
 ghost use Rattle.pss_disk.specs.Moments.{Through};
 ghost use Rattle.line_service.specs.Spoken.{HasSpoken};
-ghost use Rattle.pss_serving.specs.Texts.{text};
 ghost use Rattle.pss_serving.specs.Refusals.{refusal_line};
 ghost use Rattle.pss_serving.specs.Told.{IsTold, is_fault};
 
 use crate::refusal::print_refusal;
-use crate::reply::{Reply, print_line};
 use crate::schema_fault::SchemaFault;
 use line_service::speak;
 use pss_disk::Station;
@@ -23,27 +21,6 @@ pub enum Told {
     SpeakFault,
     /// There was no memory: nothing was spoken.
     NoMemory,
-}
-
-/// What is spoken where what is asked for is not built yet.
-pub const NOT_BUILT: &[u8] = b"not built\n";
-
-/// Speaks a reply.
-pub fn say<W: Station>(alloc: Global, reply: &Reply, station: &mut W) -> Told
-    ensures told { IsTold result (text reply.now ++ 10 ∷ []) (W.now station.old).spoken (W.now station.new).spoken }
-    ensures disk { (W.now station.new).disk ≡ (W.now station.old).disk }
-    ensures content { W.content station.new ≡ W.content station.old }
-    ensures moments { Through (W.history station.old) (W.history station.new) (HasSpoken (W.now station.new).spoken (W.now station.old).disk) }
-    ensures cause { HasCauseIf (W.speak_faults station.old) (W.speak_faults station.new) (is_fault result) }
-    ensures other { W.disk_faults station.new ≡ W.disk_faults station.old }
-{
-    match print_line(alloc, reply) {
-        Ok(line) => match speak(station, line.as_slice()) {
-            Ok(()) => Told::Whole,
-            Err(_) => Told::SpeakFault,
-        },
-        Err(_) => Told::NoMemory,
-    }
 }
 
 /// Speaks the fault of the schema's text.

@@ -12,7 +12,7 @@ invariant-lines g l = record {
       (λ s. g.M.LineMachine.is_in l.machine s (g.W.Station.content l.station) (g.W.Station.now l.station).disk)
       (record { lines = l.max_lines; bytes = l.max_bytes }) (g.C.Source.left l.fn.script) l.reader (prepend_known l.reader.ahead (g.C.Source.left l.script))
       (g.W.Station.now l.fn.station).spoken (g.W.Station.now l.station).spoken (g.M.LineMachine.served l.fn.machine) (g.M.LineMachine.served l.machine);
-  moments : (s : g.row.M-State.Denot) → g.M.LineMachine.is_in l.fn.machine s (g.W.Station.content l.fn.station) (g.W.Station.now l.fn.station).disk
+  moments : (s : g.M.LineMachine.State) → g.M.LineMachine.is_in l.fn.machine s (g.W.Station.content l.fn.station) (g.W.Station.now l.fn.station).disk
       → Through (g.W.Station.history l.fn.station) (g.W.Station.history l.station)
       (Whole g.M.LineMachine.turn g.M.LineMachine.passes (λ t disk. (machine : g.row.M.Denot) × (content : Option (List ℕ)) × g.M.LineMachine.is_in machine t content disk) s
       (record { lines = l.max_lines; bytes = l.max_bytes }) (g.C.Source.left l.fn.script) (g.W.Station.now l.fn.station).spoken);

@@ -18,6 +18,7 @@ returns-in-Ok-speak-2 g c =
       unasked = λ none. refl;
       unread = λ ended. refl;
       moments = unbuilt_moments c.args.words.now _ _ _ _ _ _ _ unbuilt c.in-Ok-speak-2.ensures.said c.speak-in_default-asked.ensures.moments;
+      right = c.scripts_are_right.ensures (g.P.Source.left c.args.schema.now) (g.C.Source.left c.args.script.now);
     }
 
 pub returns-in-Err-speak : goal.returns-in-Err-speak
@@ -29,6 +30,7 @@ returns-in-Err-speak g c =
       unasked = λ none. refl;
       unread = λ ended. refl;
       moments = cut_moments c.args.words.now _ _ _ _ _ _ _ c.speak-in_default-asked.ensures.moments;
+      right = c.scripts_are_right.ensures (g.P.Source.left c.args.schema.now) (g.C.Source.left c.args.script.now);
     }
 
 pub returns-in-Check-clause-moments : goal.returns-in-Check-clause-moments
@@ -36,3 +38,12 @@ returns-in-Check-clause-moments g c = check_moments c.args.words.now _ _ _ _ Non
 
 pub returns-in-Run-clause-moments : goal.returns-in-Run-clause-moments
 returns-in-Run-clause-moments g c = run_moments c.args.words.now _ _ _ _ None _ _ c.run_script.result (c.in-Run.schema, c.in-Run.store, rw c.in-Run.is at c.in-Ok.ensures.ok) c.run_script.ensures.moments
+
+pub returns-in-Ok-speak-clause-right : goal.returns-in-Ok-speak-clause-right
+returns-in-Ok-speak-clause-right g c = c.scripts_are_right.ensures (g.P.Source.left c.args.schema.now) (g.C.Source.left c.args.script.now)
+
+pub returns-in-Err-clause-right : goal.returns-in-Err-clause-right
+returns-in-Err-clause-right g c = c.scripts_are_right.ensures (g.P.Source.left c.args.schema.now) (g.C.Source.left c.args.script.now)
+
+pub returns-in-Check-clause-right : goal.returns-in-Check-clause-right
+returns-in-Check-clause-right g c = c.scripts_are_right.ensures (g.P.Source.left c.args.schema.now) (g.C.Source.left c.args.script.now)

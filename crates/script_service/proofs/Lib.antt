@@ -1,0 +1,5 @@
+pub mod Runs
+pub mod Rights
+pub mod Short
+pub mod Told
+pub mod Ended

@@ -1,0 +1,75 @@
+// One line is served, and its reply is spoken.
+ghost use Rattle.std.specs.Prelude.{◌≡◌, ◌<◌, ◌+◌};
+ghost use Rattle.pss_base.specs.Causes.{HasCauseIf};
+ghost use Rattle.pss_disk.specs.Moments.{Through};
+ghost use Rattle.line_service.specs.Turns.{IsLine, Speaks, SaidWhole, is_speak_fault, is_disk_fault};
+ghost use Rattle.script_service.specs.Turns.{Running, turn_from};
+ghost use Rattle.script_service.specs.Going.{IsIn, connector_of, served_by};
+
+use crate::replying::reply_to;
+use crate::saying::say;
+use connector::Connector;
+use line_service::{LineMachine, Turn};
+use pss_base::LineStep;
+use pss_disk::Station;
+use std::alloc::Global;
+
+/// A connector, and how many lines were served by it.
+#[derive(Drop)]
+pub struct Daemon {
+    alloc: Global,
+    connector: Connector,
+    served: u32,
+}
+
+impl Daemon {
+    /// A daemon that has served no line, over a connector on which no command was performed.
+    pub fn new(alloc: Global, connector: Connector) -> Daemon
+        ensures connector { connector_of result ≡ connector }
+        ensures served { served_by result ≡ 0 }
+    {
+        Daemon {
+            alloc,
+            connector,
+            served: 0,
+        }
+    }
+
+    /// Serves a line of at most 65,536 bytes, or one that was too long: what it says is performed, and its reply is spoken
+    /// in one call. After any answer but `Went` it is not called again. It serves at most 4,294,967,295 lines.
+    pub fn turn<W: Station>(&mut self, line: LineStep, station: &mut W) -> Turn
+        requires line { IsLine line }
+        requires few { served_by self.old < 4294967295 }
+        requires stands { (state : Running) × IsIn self.old state }
+        ensures served { result ≡ Turn.Went → served_by self.new ≡ served_by self.old + 1 }
+        ensures went { result ≡ Turn.Went → (state : Running) → IsIn self.old state → IsIn self.new (turn_from state line).0 }
+        ensures speaks { (state : Running) → IsIn self.old state → Speaks result (turn_from state line).1 (W.now station.old).spoken (W.now station.new).spoken }
+        ensures moments { (state : Running) → IsIn self.old state → Through (W.history station.old) (W.history station.new)
+            (λ m. SaidWhole result (turn_from state line).1 (W.now station.old).spoken (W.now station.new).spoken m.spoken) }
+        ensures speech { HasCauseIf (W.speak_faults station.old) (W.speak_faults station.new) (is_speak_fault result) }
+        ensures disk { HasCauseIf (W.disk_faults station.old) (W.disk_faults station.new) (is_disk_fault result) }
+    {
+        self.serve_line(&line, station)
+    }
+}
+
+impl LineMachine for Daemon {
+    ghost State = { Running };
+
+    ghost is_in = { λ daemon state content disk. IsIn daemon state };
+
+    ghost turn = { turn_from };
+
+    ghost passes = { λ state line before m. Unit {0} };
+
+    ghost served = { served_by };
+
+    fn serve_line<W: Station>(&mut self, line: &LineStep, station: &mut W) -> Turn {
+        self.served += 1;
+        match reply_to(self.alloc, &mut self.connector, line, station) {
+            Ok(Some(reply)) => say(self.alloc, &reply, station),
+            Ok(None) => Turn::Went,
+            Err(_) => Turn::NoMemory,
+        }
+    }
+}

@@ -1,0 +1,12 @@
+//! Serves the lines of a script by a connector: the command that a line says is performed, and its reply is spoken.
+#![tactic(auto)]
+
+mod daemon;
+mod laws;
+mod replying;
+mod saying;
+mod serving;
+
+pub use daemon::Daemon;
+pub use laws::{lines_are_run, runs_are_right};
+pub use serving::serve_script;

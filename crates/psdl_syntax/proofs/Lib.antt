@@ -1,4 +1,3 @@
-pub mod Spelled
 pub mod Numbers
 pub mod Depths
 pub mod Operands

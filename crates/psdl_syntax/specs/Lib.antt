@@ -1,4 +1,3 @@
-pub mod Form
 pub mod Codes
 pub mod Seen
 pub mod Grammar

@@ -1,4 +1,3 @@
-pub mod Scanning
 pub mod Tables
 pub mod Placing
 pub mod Valuing

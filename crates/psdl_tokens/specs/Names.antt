@@ -1,7 +1,6 @@
--- The words that may name a type, a home or a member.
-use Rattle.std.specs.Prelude.{ℕ, List, [], ◌∷◌, ◌≡◌, IsTrue, Any, Contains, codes}
+-- The words of the grammar, and those that it leaves out.
+use Rattle.std.specs.Prelude.{ℕ, List, [], ◌∷◌, ◌≡◌, codes}
 use Rattle.std.specs.Str.{str_to_ascii_lowercase}
-use Rattle.psdl_tokens.specs.Tokens.{is_word}
 
 -- the same letters, each in small or in great
 abbrev pub SameButForCase : List ℕ → List ℕ → Type 0
@@ -26,9 +25,3 @@ left_out_words =
     codes "public" ∷ codes "raises" ∷ codes "scope" ∷ codes "store" ∷ codes "stores" ∷ codes "strong" ∷
     codes "supports" ∷ codes "switch" ∷ codes "truncatable" ∷ codes "union" ∷ codes "valuetype" ∷
     codes "ValueBase" ∷ codes "wchar" ∷ codes "wstring" ∷ codes "TRUE" ∷ codes "FALSE" ∷ []
-
--- a word that is no keyword in any case, and no left-out word exactly
-pub record IsName (word : List ℕ) : Type 0 where
-  pub is_a_word : IsTrue (is_word word)
-  pub no_keyword : ¬ Any (SameButForCase word) keywords
-  pub not_left_out : ¬ Contains left_out_words word

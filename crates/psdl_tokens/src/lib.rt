@@ -1,5 +1,4 @@
-//! The tokens of PSDL texts, up to the first place where none stands, and how keywords and signs are spelled; and the
-//! words and signs of one byte that a text of the first form is made of.
+//! The tokens of PSDL texts, up to the first place where none stands, and how keywords and signs are spelled.
 #![tactic(auto)]
 
 mod alphabet;
@@ -13,15 +12,13 @@ mod numeral;
 mod quoted;
 mod spelling;
 mod token;
-mod tokens;
 
 pub use character::Character;
 pub use cursor::{START, place_behind};
 pub use lexeme::{Lexeme, LexicalKind};
 pub use lexis::{LexicalFault, MOST_BYTES, Scanned, scan};
-pub use names::{is_keyword, is_left_out, is_name};
+pub use names::{is_keyword, is_left_out};
 pub use numeral::is_digit;
 pub use quoted::Quoted;
 pub use spelling::{keyword_spelling, mark_spelling};
 pub use token::{Keyword, Mark, Token, TokenKind};
-pub use tokens::{Cut, behind, next_token};

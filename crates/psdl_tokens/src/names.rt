@@ -1,8 +1,6 @@
-// The words that may name a type, a home or a member.
+// The words of the grammar, and those that it leaves out.
 ghost use Rattle.std.specs.Prelude.{◌↔◌, IsTrue, Any, Contains, map};
-ghost use Rattle.psdl_tokens.specs.Names.{SameButForCase, keywords, left_out_words, IsName};
-
-use crate::tokens::is_word;
+ghost use Rattle.psdl_tokens.specs.Names.{SameButForCase, keywords, left_out_words};
 
 // The words of the grammar. No name is one of them in any case.
 const KEYWORDS: [&str; 30] = [
@@ -101,11 +99,4 @@ pub fn is_left_out(word: &[u8]) -> bool
     ensures { IsTrue result ↔ Contains left_out_words word.now }
 {
     is_in(word, &LEFT_OUT_WORDS)
-}
-
-/// Tells whether a type, a home or a member may have this name.
-pub fn is_name(word: &[u8]) -> bool
-    ensures { IsTrue result ↔ IsName word.now }
-{
-    is_word(word) && !is_keyword(word) && !is_left_out(word)
 }

@@ -25,11 +25,12 @@ impl Parts {
     {
         let sessions = self.attended.sessions();
         let number = sessions.find(name)?;
+        let standing = sessions.standing(number);
         Some(Found {
             number,
-            kind: sessions.kind(number),
-            access: sessions.access(number),
-            association: sessions.status(number),
+            kind: standing.kind,
+            access: standing.access,
+            association: standing.association,
         })
     }
 }

@@ -6,7 +6,8 @@ use crate::short::{ShortKey, short_of};
 use indexmap::IndexMap;
 use pss_base::NoMemory;
 use std::alloc::Global;
-use std::hash::{BuildHasherDefault, DefaultHasher};
+use std::hash::BuildHasherDefault;
+use table_hash::ByteHasher;
 
 /// What stands behind a key. A key with nothing behind it has no slot.
 #[derive(Clone, Copy, Drop)]
@@ -55,7 +56,7 @@ impl Slot {
     }
 }
 
-type Table<K> = IndexMap<K, Slot, BuildHasherDefault<DefaultHasher>>;
+type Table<K> = IndexMap<K, Slot, BuildHasherDefault<ByteHasher>>;
 
 /// A table for short keys, which lie in it, and one for longer ones, which lie on the heap: a look-up of a short key reads one place less.
 #[derive(Drop)]

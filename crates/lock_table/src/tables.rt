@@ -6,10 +6,11 @@ ghost use Rattle.lock_table.specs.inner.Tables.{entry_at, Turns};
 use indexmap::IndexMap;
 use pss_base::NoMemory;
 use std::alloc::Global;
-use std::hash::{BuildHasherDefault, DefaultHasher, Hash};
+use std::hash::{BuildHasherDefault, Hash};
+use table_hash::ByteHasher;
 
 /// Values by key. A stranger may choose the keys.
-pub type Table<K, V> = IndexMap<K, V, BuildHasherDefault<DefaultHasher>>;
+pub type Table<K, V> = IndexMap<K, V, BuildHasherDefault<ByteHasher>>;
 
 /// A table with no entry. It takes no memory.
 pub fn empty<K: Eq + Hash, V>(alloc: Global) -> Table<K, V>

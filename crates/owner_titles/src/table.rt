@@ -8,13 +8,14 @@ use crate::called::Called;
 use indexmap::IndexMap;
 use pss_base::{NoMemory, OwnerNo};
 use std::alloc::Global;
-use std::hash::{BuildHasherDefault, DefaultHasher};
+use std::hash::BuildHasherDefault;
 use std::marker::Model;
+use table_hash::NumberHasher;
 
 /// A finite map from the numbers of owners to how they are called.
 #[derive(Drop)]
 pub struct TitleTable {
-    table: IndexMap<u32, Called, BuildHasherDefault<DefaultHasher>>,
+    table: IndexMap<u32, Called, BuildHasherDefault<NumberHasher>>,
 }
 
 impl Model for TitleTable {

@@ -15,4 +15,5 @@ mod register;
 mod rows;
 mod sessions;
 
+pub use register::Standing;
 pub use sessions::Sessions;

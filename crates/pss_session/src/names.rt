@@ -6,9 +6,10 @@ ghost use Rattle.pss_session.specs.inner.Names.{number_at, Turns};
 use indexmap::IndexMap;
 use pss_base::{NoMemory, SessionNo};
 use std::alloc::Global;
-use std::hash::{BuildHasherDefault, DefaultHasher};
+use std::hash::BuildHasherDefault;
+use table_hash::NumberHasher;
 
-pub type Names = IndexMap<Vec<u8>, SessionNo, BuildHasherDefault<DefaultHasher>>;
+pub type Names = IndexMap<Vec<u8>, SessionNo, BuildHasherDefault<NumberHasher>>;
 
 pub fn empty(alloc: Global) -> Names
     ensures { result.entries ≡ [] }

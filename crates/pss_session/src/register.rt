@@ -14,6 +14,14 @@ pub struct SessionRecord {
     pub association: Association,
 }
 
+/// What a session is, and how it is associated.
+#[derive(Clone, Copy, Drop)]
+pub struct Standing {
+    pub kind: Kind,
+    pub access: Access,
+    pub association: Association,
+}
+
 /// The sessions by number, in the order in which they were opened, their numbers by name, and the last number that was
 /// given.
 #[derive(Drop)]

@@ -11,9 +11,10 @@ use indexmap::IndexMap;
 use pss_base::{NoMemory, OwnerNo, SessionNo};
 use pss_machine::Association;
 use std::alloc::Global;
-use std::hash::{BuildHasherDefault, DefaultHasher};
+use std::hash::BuildHasherDefault;
+use table_hash::NumberHasher;
 
-pub type Rows = IndexMap<u32, SessionRecord, BuildHasherDefault<DefaultHasher>>;
+pub type Rows = IndexMap<u32, SessionRecord, BuildHasherDefault<NumberHasher>>;
 
 pub fn empty(alloc: Global) -> Rows
     ensures { result.entries ≡ [] }

@@ -9,7 +9,7 @@ ghost use Rattle.pss_session.specs.Meaning.{no_sessions, session_at, number_name
 
 use crate::coming::{close, open, prepare};
 use crate::detaching::{detach_all, detach_pid};
-use crate::register::{Register, SessionRecord};
+use crate::register::{Register, SessionRecord, Standing};
 use crate::{names, rows};
 use incarnations::Incarnations;
 use pss_base::{Bytes, NoMemory, OwnerNo, Pid, SessionNo, Steps};
@@ -150,6 +150,20 @@ impl Sessions {
         ensures { IsSomeAnd (session_at self.now session) (λ x. result ≡ x.association) }
     {
         self.record(session).association
+    }
+
+    /// Whether a session is an owner itself, whether it may change objects, and how it is associated: `kind`, `access` and
+    /// `status` by one look-up.
+    pub fn standing(&self, session: SessionNo) -> Standing
+        requires { IsSome (session_at self.now session) }
+        ensures { IsSomeAnd (session_at self.now session) (λ x. (result.kind ≡ x.kind) × (result.access ≡ x.access) × (result.association ≡ x.association)) }
+    {
+        let record = self.record(session);
+        Standing {
+            kind: record.kind,
+            access: record.access,
+            association: record.association,
+        }
     }
 
     /// The name of a session.

@@ -5,10 +5,11 @@ ghost use Rattle.schema_names.specs.Tables.{value_at, IsEntered};
 use indexmap::IndexMap;
 use pss_base::NoMemory;
 use std::alloc::Global;
-use std::hash::{BuildHasherDefault, DefaultHasher};
+use std::hash::BuildHasherDefault;
+use table_hash::ByteHasher;
 
 /// What stands behind each name: of two things with one name the first.
-pub type NameTable<T> = IndexMap<Vec<u8>, T, BuildHasherDefault<DefaultHasher>>;
+pub type NameTable<T> = IndexMap<Vec<u8>, T, BuildHasherDefault<ByteHasher>>;
 
 pub fn empty<T: Copy + Drop>(alloc: Global) -> NameTable<T>
     ensures { result.entries ≡ [] }

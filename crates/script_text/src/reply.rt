@@ -198,11 +198,14 @@ fn append_reply(out: &mut Bytes, reply: &Reply) -> Result<(), NoMemory>
     }
 }
 
+/// Room for most replies with their line feed: names, lists and long values alone outgrow it.
+const ROOM: usize = 48;
+
 /// The text of a reply, without a line feed.
 pub fn print_reply(alloc: Global, reply: &Reply) -> Result<Bytes, NoMemory>
     ensures { IfOk result (λ bytes. bytes ≡ text reply.now) }
 {
-    let mut out = Bytes::new(alloc);
+    let mut out = Bytes::with_room(alloc, ROOM)?;
     append_reply(&mut out, reply)?;
     Ok(out)
 }

@@ -9,14 +9,15 @@ use crate::names::{BodyName, BodyPlace, BodyRecord};
 use indexmap::IndexMap;
 use pss_base::NoMemory;
 use std::alloc::Global;
-use std::hash::{BuildHasherDefault, DefaultHasher};
+use std::hash::BuildHasherDefault;
 use std::marker::Model;
+use table_hash::NumberHasher;
 use type_layout::Record;
 
 /// A finite map from names of bodies to bodies.
 #[derive(Drop)]
 pub struct BodyTable {
-    table: IndexMap<BodyName, BodyRecord, BuildHasherDefault<DefaultHasher>>,
+    table: IndexMap<BodyName, BodyRecord, BuildHasherDefault<NumberHasher>>,
 }
 
 impl Model for BodyTable {

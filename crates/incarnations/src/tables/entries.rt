@@ -6,13 +6,14 @@ use crate::names::{EntryRecord, Slot};
 use indexmap::IndexMap;
 use pss_base::NoMemory;
 use std::alloc::Global;
-use std::hash::{BuildHasherDefault, DefaultHasher};
+use std::hash::BuildHasherDefault;
 use std::marker::Model;
+use table_hash::NumberHasher;
 
 /// A finite map from slots to records of entries.
 #[derive(Drop)]
 pub struct EntryTable {
-    table: IndexMap<Slot, EntryRecord, BuildHasherDefault<DefaultHasher>>,
+    table: IndexMap<Slot, EntryRecord, BuildHasherDefault<NumberHasher>>,
 }
 
 impl Model for EntryTable {

@@ -6,13 +6,14 @@ use crate::names::ObjectName;
 use indexmap::IndexMap;
 use pss_base::NoMemory;
 use std::alloc::Global;
-use std::hash::{BuildHasherDefault, DefaultHasher};
+use std::hash::BuildHasherDefault;
 use std::marker::Model;
+use table_hash::NumberHasher;
 
 /// A finite map from objects in sessions to numbers of entries.
 #[derive(Drop)]
 pub struct ObjectTable {
-    table: IndexMap<ObjectName, u32, BuildHasherDefault<DefaultHasher>>,
+    table: IndexMap<ObjectName, u32, BuildHasherDefault<NumberHasher>>,
 }
 
 impl Model for ObjectTable {

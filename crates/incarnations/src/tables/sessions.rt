@@ -6,13 +6,14 @@ use crate::names::SessionRecord;
 use indexmap::IndexMap;
 use pss_base::{NoMemory, SessionNo};
 use std::alloc::Global;
-use std::hash::{BuildHasherDefault, DefaultHasher};
+use std::hash::BuildHasherDefault;
 use std::marker::Model;
+use table_hash::NumberHasher;
 
 /// A finite map from sessions to their records.
 #[derive(Drop)]
 pub struct SessionTable {
-    table: IndexMap<SessionNo, SessionRecord, BuildHasherDefault<DefaultHasher>>,
+    table: IndexMap<SessionNo, SessionRecord, BuildHasherDefault<NumberHasher>>,
 }
 
 impl Model for SessionTable {

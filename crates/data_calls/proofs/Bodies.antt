@@ -1,6 +1,6 @@
 -- What is read off a body that an entry shares is what its owner sees.
 use Rattle.std.proofs.Common.{◌≡◌, ℕ, ◌==◌, Bool, true, false, List, [], Option, Some, None, refl, sym, ap, ◌∙◌, subst}
-use Rattle.std.specs.Prelude.{IsSomeAnd, IfSome, if◌then◌else◌}
+use Rattle.std.specs.Prelude.{IsSomeAnd, if◌then◌else◌}
 use Rattle.std.specs.List.{slice_get}
 use Rattle.std.specs.Option.{option_map, option_and_then}
 use Rattle.std.specs.FinMap.{get}
@@ -16,7 +16,7 @@ use Rattle.pss_machine.specs.declared.level.Level.TheVariants as level
 use Rattle.pss_machine.specs.declared.session.View.{View}
 use Rattle.pss_machine.specs.declared.session.View.TheVariants.{Committed, Own, Kept as InCopy}
 use Rattle.pss_machine.specs.Needs.{needs}
-use Rattle.pss_machine.specs.Operations.{Question, FindPid, Follow, PlainOp, Get, Exists, Ask, PlainAnswer, Val, Gone}
+use Rattle.pss_machine.specs.Operations.{Follow, PlainOp, Get, Exists, Ask, PlainAnswer, Val, Gone}
 use Rattle.pss_machine.specs.Alone.{object_of, member_told, followed}
 use Rattle.pss_machine.specs.Owners.{Owner, view, has_changed, blocker, Step, step_on_view}
 use Rattle.pss_machine.specs.Sessions.{Session}
@@ -34,18 +34,17 @@ use Rattle.pss_copies.specs.declared.parts.Parts.{Parts as Attending}
 use Rattle.pss_copies.specs.Told.{stand_told, entry_told}
 use Rattle.pss_copies.specs.Seats.{Attends, OwnerSees}
 use Rattle.pss_copies.proofs.Held.{told_at}
-use Rattle.owner_titles.specs.declared.called.Called.{Called}
-use Rattle.owner_titles.specs.Meaning.{Meaning as Titles, AreTitles}
+use Rattle.owner_view.specs.Fitting.{FitsOp}
+use Rattle.tx_session.specs.Following.{RefersTo}
 use Rattle.owner_accounts.specs.Accounts.{AreAccounts}
-use Rattle.owner_accounts.specs.Steps.{MayStep, step_in}
+use Rattle.owner_accounts.specs.Steps.{MayStep, MayFollow as OwnerMayFollow, step_in}
 use Rattle.connector_parts.specs.declared.parts.Parts.{Parts}
 use Rattle.connector_parts.specs.Stands.{StayAs}
 use Rattle.connector_parts.proofs.Bounds.{commands_left}
 use Rattle.data_calls.specs.declared.acting.Acting.{Acting}
 use Rattle.data_calls.specs.Acting.{IsActing}
 use Rattle.data_calls.specs.Asking.{MayTake, Takes, Follows, decision_on, object_in}
-use Rattle.data_calls.specs.Copied.{MayAct, IsRead, MayLook, IsLed, MayFollow, is_serializable, lead_to}
-use Rattle.data_calls.proofs.Granted.{free}
+use Rattle.data_calls.specs.Copied.{MayAct, IsRead, MayLook, IsLed, MayFollow}
 use Rattle.data_calls.proofs.Seats.{view_changed, view_kept, view_committed}
 use Rattle.data_calls.proofs.Taking.{fair, is_owner, step_here, seen_is, busy_says, takes, stepped_same}
 
@@ -66,6 +65,16 @@ told_seen M owner p member tell values v seen there = by (object_of (view M owne
         let same : x.values ≡ values = same_some (ap (λ o. given o None (λ (object : Object). Some object.values)) (sym is) ∙ seen) in
         ap (λ o. given o (Gone p) (λ (object : Object). given (slice_get object.values member) (Gone p) tell)) is
         ∙ ap (λ o. given o (Gone p) tell) (ap (λ vs. slice_get vs member) same ∙ there)
+
+-- and refers to what that value refers to
+refers_to : (M : Catalog) (p : Pid) (member : ℕ) (values : List PlainValue) (to : Option Pid) → values_at M p ≡ Some values → slice_get values member ≡ Some (Ref to) → RefersTo M p member to
+refers_to M p member values to seen there = by (object_of M p) refl
+  where
+    by : (o : Option Object) → object_of M p ≡ o → RefersTo M p member to
+    by None is = absurd (none_some (ap (λ o. given o None (λ (object : Object). Some object.values)) (sym is) ∙ seen))
+    by (Some x) is =
+        let same : x.values ≡ values = same_some (ap (λ o. given o None (λ (object : Object). Some object.values)) (sym is) ∙ seen) in
+        record { object = x; there = is; refers = ap (λ vs. slice_get vs member) same ∙ there }
 
 module _ (k : Kept) (acting : Acting) (is : IsActing k acting) (a : Attending) (at : Attends k a) (n : ℕ) (e : Entry) (there : entry_at a.copies acting.session n ≡ Some e) where
   -- the entry stands on the body of the view in which its session sees the object
@@ -128,15 +137,15 @@ module _ (k : Kept) (acting : Acting) (is : IsActing k acting) (a : Attending) (
         ∙ ap (told_by_copy (view k.catalog is.owner) values) op_is
         ∙ tells ∙ ap (λ o. given o None (λ v. Some (tell v))) has
 
-    -- what the body tells of the member is what the owner sees
-    pub body_tells : (asked : Asked) → asked.entry ≡ Some n → asked.op ≡ op → copied_answer k.catalog is.owner (copies_of k acting.session) asked ≡ None
-        → option_and_then (get a.copies.bodies) (body_under a.copies (slot acting.session n)) ≡ Some values → member_told (view k.catalog is.owner) e.pid member tell ≡ tell v
-    body_tells asked named op_is none kept = by e.view refl (sym (ap (λ o. option_and_then (get a.copies.bodies) (option_and_then body_of o)) there) ∙ kept)
+    -- what the body has is what the owner sees
+    pub body_seen : (asked : Asked) → asked.entry ≡ Some n → asked.op ≡ op → copied_answer k.catalog is.owner (copies_of k acting.session) asked ≡ None
+        → option_and_then (get a.copies.bodies) (body_under a.copies (slot acting.session n)) ≡ Some values → values_at (view k.catalog is.owner) e.pid ≡ Some values
+    body_seen asked named op_is none kept = by e.view refl (sym (ap (λ o. option_and_then (get a.copies.bodies) (option_and_then body_of o)) there) ∙ kept)
       where
-        by : (o : Option View) → e.view ≡ o → option_and_then (get a.copies.bodies) (option_map (body e.pid) o) ≡ Some values → member_told (view k.catalog is.owner) e.pid member tell ≡ tell v
+        by : (o : Option View) → e.view ≡ o → option_and_then (get a.copies.bodies) (option_map (body e.pid) o) ≡ Some values → values_at (view k.catalog is.owner) e.pid ≡ Some values
         by None on is_kept = absurd (none_some is_kept)
-        by (Some Committed) on is_kept = told_seen k.catalog is.owner e.pid member tell values v (committed_seen on values is_kept) has
-        by (Some (Own m)) on is_kept = told_seen k.catalog is.owner e.pid member tell values v (own_seen m on values is_kept) has
+        by (Some Committed) on is_kept = committed_seen on values is_kept
+        by (Some (Own m)) on is_kept = own_seen m on values is_kept
         by (Some (InCopy t)) on is_kept = absurd (none_some (sym none ∙ copy_tells t on is_kept asked named op_is))
 
 -- ---- what comes of a look
@@ -190,12 +199,12 @@ module _ {c : Parts} {acting : Acting} {asked : Asked} (m : MayAct c acting aske
       let of = subst (λ o. IsSomeAnd o (λ (e : Plain). object_in asked.op ≡ Some e.pid)) told ((fair m.take).named n named) in
       sym (same_some (sym object ∙ of))
 
-  -- what is told of the object's member, where a copy would tell the same of its values
-  pub member_is : (member : ℕ) (v : PlainValue) → slice_get values member ≡ Some v → (tell : PlainValue → PlainAnswer) → told_by_copy (view m.take.asks.kept.catalog m.take.asks.is.owner) values asked.op ≡ given (slice_get values member) None (λ v. Some (tell v))
-      → member_told (view m.take.asks.kept.catalog m.take.asks.is.owner) p member tell ≡ tell v
-  member_is member v has tell tells =
-      subst (λ (q : Pid). member_told (view m.take.asks.kept.catalog m.take.asks.is.owner) q member tell ≡ tell v) same_object
-      (body_tells m.take.asks.kept acting m.take.asks.is c.attended m.take.asks.at.stands.attended n entry_there.0 entry_there.1 are values member v has asked.op tell tells asked named refl m.told kept)
+  -- the owner sees these values of it, where a copy would tell of a member of theirs
+  pub values_seen : (member : ℕ) (v : PlainValue) → slice_get values member ≡ Some v → (tell : PlainValue → PlainAnswer) → told_by_copy (view m.take.asks.kept.catalog m.take.asks.is.owner) values asked.op ≡ given (slice_get values member) None (λ v. Some (tell v))
+      → values_at (view m.take.asks.kept.catalog m.take.asks.is.owner) p ≡ Some values
+  values_seen member v has tell tells =
+      subst (λ (q : Pid). values_at (view m.take.asks.kept.catalog m.take.asks.is.owner) q ≡ Some values) same_object
+      (body_seen m.take.asks.kept acting m.take.asks.is c.attended m.take.asks.at.stands.attended n entry_there.0 entry_there.1 are values member v has asked.op tell tells asked named refl m.told kept)
 
 -- a member is read
 pub is_read_by : {c : Parts} {acting : Acting} {asked : Asked} (m : MayAct c acting asked) (p : Pid) (member : ℕ) → asked.op ≡ Ask (Get p member) → AreCopies c.attended.copies → (values : List PlainValue)
@@ -209,70 +218,50 @@ is_read_by {c = c} {acting = acting} {asked = asked} m p member op_is are values
       op_is = op_is;
       told =
           ap (λ (op : PlainOp). (step_on_view c.schema m.take.asks.kept.catalog m.take.asks.is.owner op).answer) op_is
-          ∙ member_is m p (ap object_in op_is) n named are values some member v has Val (ap (told_by_copy (view m.take.asks.kept.catalog m.take.asks.is.owner) values) op_is);
+          ∙ told_seen m.take.asks.kept.catalog m.take.asks.is.owner p member Val values v
+          (values_seen m p (ap object_in op_is) n named are values some member v has Val (ap (told_by_copy (view m.take.asks.kept.catalog m.take.asks.is.owner) values) op_is)) has;
     }
 
--- a member is followed to another object
-pub is_led_by : {c : Parts} {acting : Acting} {asked : Asked} (m : MayAct c acting asked) (p : Pid) (member : ℕ) → asked.op ≡ Ask (Follow p member) → is_serializable m.take.asks.is.owner.level ≡ false → AreCopies c.attended.copies
-    → (values : List PlainValue) → IsSomeAnd asked.entry (λ n. option_and_then (get c.attended.copies.bodies) (body_under c.attended.copies (slot acting.session n)) ≡ Some values) → (q : Pid) → slice_get values member ≡ Some (Ref (Some q)) → IsLed m q
-is_led_by {c = c} {acting = acting} {asked = asked} m p member op_is loose are values kept q has = by asked.entry refl kept
+-- a member is followed
+pub is_led_by : {c : Parts} {acting : Acting} {asked : Asked} (m : MayAct c acting asked) (p : Pid) (member : ℕ) → asked.op ≡ Ask (Follow p member) → AreCopies c.attended.copies → (values : List PlainValue)
+    → IsSomeAnd asked.entry (λ n. option_and_then (get c.attended.copies.bodies) (body_under c.attended.copies (slot acting.session n)) ≡ Some values) → (to : Option Pid) → slice_get values member ≡ Some (Ref to) → IsLed m p to
+is_led_by {c = c} {acting = acting} {asked = asked} m p member op_is are values kept to has = by asked.entry refl kept
   where
-    by : (o : Option ℕ) → asked.entry ≡ o → IsSomeAnd o (λ n. option_and_then (get c.attended.copies.bodies) (body_under c.attended.copies (slot acting.session n)) ≡ Some values) → IsLed m q
+    by : (o : Option ℕ) → asked.entry ≡ o → IsSomeAnd o (λ n. option_and_then (get c.attended.copies.bodies) (body_under c.attended.copies (slot acting.session n)) ≡ Some values) → IsLed m p to
     by None named none = absurd none
     by (Some n) named some = record {
-      question = Follow p member;
+      member = member;
       op_is = op_is;
-      loose = loose;
-      told =
-          ap (λ (op : PlainOp). (step_on_view c.schema m.take.asks.kept.catalog m.take.asks.is.owner op).answer) op_is
-          ∙ member_is m p (ap object_in op_is) n named are values some member (Ref (Some q)) has (followed (view m.take.asks.kept.catalog m.take.asks.is.owner) p)
-          (ap (told_by_copy (view m.take.asks.kept.catalog m.take.asks.is.owner) values) op_is);
+      refers =
+          refers_to (view m.take.asks.kept.catalog m.take.asks.is.owner) p member values to
+          (values_seen m p (ap object_in op_is) n named are values some member (Ref to) has (followed (view m.take.asks.kept.catalog m.take.asks.is.owner) p) (ap (told_by_copy (view m.take.asks.kept.catalog m.take.asks.is.owner) values) op_is)) has;
     }
 
-pub led_where : (c : Parts) (acting : Acting) (asked : Asked) (p : Pid) (member : ℕ) → asked.op ≡ Ask (Follow p member) → AreCopies c.attended.copies
-    → (values : List PlainValue) → IsSomeAnd asked.entry (λ n. option_and_then (get c.attended.copies.bodies) (body_under c.attended.copies (slot acting.session n)) ≡ Some values) → (found : Option Pid) → IfSome found (λ q. slice_get values member ≡ Some (Ref (Some q)))
-    → ((S : Schema) (k : Kept) (o : Owner) → AreAccounts S c.accounts k → get k.owners acting.owner.0 ≡ Some o → is_serializable o.level ≡ false) → IfSome found (λ q. (m : MayAct c acting asked) → IsLed m q)
-led_where c acting asked p member op_is are values kept None has loose = tt
-led_where c acting asked p member op_is are values kept (Some q) has loose = λ m. is_led_by m p member op_is (loose c.schema m.take.asks.kept m.take.asks.is.owner m.take.asks.at.stands.accounts m.take.asks.is.owner_there) are values kept q has
+-- ---- what comes of a member that is followed
 
--- the level of an owner is that under which it is called
-pub level_told : (k : Kept) (titles : Titles) → AreTitles titles k → (n : OwnerNo) (o : Owner) → get k.owners n.0 ≡ Some o → (called : Called) → Some called ≡ get titles.called n.0 → o.level ≡ called.level
-level_told k titles are n o there called is = same_some (ap (option_map {U = Level} (λ (x : Owner). x.level)) (sym there) ∙ are.levels n.0 ∙ ap (option_map {U = Level} (λ (x : Called). x.level)) (sym is))
+module _ {c : Parts} {acting : Acting} {asked : Asked} {p : Pid} {to : Option Pid} (m : MayFollow c acting asked p to) where
+  abbrev asks_it : MayTake c acting asked
+  asks_it = m.act.take
 
-pub level_there : (k : Kept) (titles : Titles) → AreTitles titles k → (n : OwnerNo) (o : Owner) → get k.owners n.0 ≡ Some o → None ≡ get titles.called n.0 → ⊥
-level_there k titles are n o there is = none_some (ap (option_map {U = Level} (λ (x : Called). x.level)) is ∙ sym (are.levels n.0) ∙ ap (option_map {U = Level} (λ (x : Owner). x.level)) there)
+  abbrev pub may_follow : OwnerMayFollow c.schema c.accounts acting.owner p to
+  may_follow = record {
+    member = m.led.member;
+    step = record { by = is_owner m.act.take; fits = subst (FitsOp c.schema) m.led.op_is (fair m.act.take).fits; serial = tt; serials = tt; commands = commands_left c m.act.take.asks.kept m.act.take.asks.at acting.owner };
+    refers = m.led.refers;
+  }
 
--- ---- what comes of a look where a member leads
+  follow_is : step_here asks_it ≡ step_in may_follow.step
+  follow_is = seen_is m.act ∙ ap (step_on_view c.schema asks_it.asks.kept.catalog asks_it.asks.is.owner) m.led.op_is
 
--- who does not lock what it reads needs nothing to look
-loose_needs : (S : Schema) (l : Level) (M : Catalog) (question : Question) → is_serializable l ≡ false → needs S l M (Ask question) ≡ []
-loose_needs S level.Basic M question e = refl
-loose_needs S level.ReadCommitted M question e = refl
-loose_needs S level.Serializable M question e = absurd (cc)
+  held_by : blocker asks_it.asks.kept.owners acting.owner (step_here asks_it).needs ≡ blocker asks_it.asks.kept.owners acting.owner (step_in may_follow.step).needs
+  held_by = ap (λ (t : Step). blocker asks_it.asks.kept.owners acting.owner t.needs) follow_is
 
-module _ {c : Parts} {acting : Acting} {asked : Asked} {q : Pid} (m : MayFollow c acting asked q) where
-  abbrev pub may_find : MayStep c.schema c.accounts acting.owner (Ask (FindPid q))
-  may_find = record { by = is_owner m.act.take; fits = tt; serial = tt; serials = tt; commands = commands_left c m.act.take.asks.kept m.act.take.asks.at acting.owner }
+  pub follow_busy : (b : OwnerNo) (name : List ℕ) → blocker asks_it.asks.kept.owners acting.owner (step_in may_follow.step).needs ≡ Some b → name ≡ name_of asks_it.asks.kept b → (new : Parts) → StayAs c new → new.attended ≡ c.attended
+      → AreAccounts c.schema new.accounts asks_it.asks.kept → Follows c asks_it.asks.kept (decision_on asks_it.asks) (reply.Busy name) new
+  follow_busy b name is named new stay attended accounts = busy_says asks_it b name (held_by ∙ is) named new stay attended accounts
 
-  find_needs : (step_in may_find).needs ≡ []
-  find_needs = loose_needs c.schema m.act.take.asks.is.owner.level (view m.act.take.asks.kept.catalog m.act.take.asks.is.owner) (FindPid q) m.led.loose
-
-  pub find_free : blocker m.act.take.asks.kept.owners acting.owner (step_in may_find).needs ≡ None
-  find_free = ap (blocker m.act.take.asks.kept.owners acting.owner) find_needs ∙ free m.act.take.asks.kept.owners acting.owner
-
-  here_needs : (step_here m.act.take).needs ≡ []
-  here_needs =
-      ap (λ (t : Step). t.needs) (seen_is m.act) ∙ ap (needs c.schema m.act.take.asks.is.owner.level (view m.act.take.asks.kept.catalog m.act.take.asks.is.owner)) m.led.op_is
-      ∙ loose_needs c.schema m.act.take.asks.is.owner.level (view m.act.take.asks.kept.catalog m.act.take.asks.is.owner) m.led.question m.led.loose
-
-  here_own : [] ≡ (step_here m.act.take).own
-  here_own = ap (λ (op : PlainOp). (step_on_view c.schema m.act.take.asks.kept.catalog m.act.take.asks.is.owner op).own) (sym m.led.op_is) ∙ ap (λ (t : Step). t.own) (sym (seen_is m.act))
-
-  here_next : m.act.take.asks.kept.next ≡ next_after m.act.take.asks.kept.next (step_here m.act.take).op
-  here_next = ap (next_after m.act.take.asks.kept.next) (sym m.led.op_is) ∙ ap (λ (t : Step). next_after m.act.take.asks.kept.next t.op) (sym (seen_is m.act))
-
-  pub find_takes : (answer : PlainAnswer) → lead_to (view m.act.take.asks.kept.catalog m.act.take.asks.is.owner) q ≡ answer → (new : Parts) → StayAs c new → new.attended ≡ c.attended
-      → AreAccounts c.schema new.accounts (after_step m.act.take.asks.kept acting.owner acting.session (step_in may_find) asked) → Takes c m.act.take.asks.kept (decision_on m.act.take.asks) acting asked answer new
-  find_takes answer is new stay attended accounts =
-      takes m.act.take answer (ap (blocker m.act.take.asks.kept.owners acting.owner) here_needs ∙ free m.act.take.asks.kept.owners acting.owner) (ap (λ (t : Step). t.answer) (seen_is m.act) ∙ m.led.told ∙ is) new stay attended
-      (stepped_same c.schema new.accounts m.act.take.asks.kept acting.owner acting.session (step_in may_find) (step_here m.act.take) asked (find_needs ∙ sym here_needs) here_own here_next accounts)
+  pub follow_takes : (answer : PlainAnswer) → blocker asks_it.asks.kept.owners acting.owner (step_in may_follow.step).needs ≡ None → answer ≡ (step_in may_follow.step).answer → (new : Parts) → StayAs c new → new.attended ≡ c.attended
+      → AreAccounts c.schema new.accounts (after_step asks_it.asks.kept acting.owner acting.session (step_in may_follow.step) asked) → Takes c asks_it.asks.kept (decision_on asks_it.asks) acting asked answer new
+  follow_takes answer none told new stay attended accounts =
+      takes asks_it answer (held_by ∙ none) (ap (λ (t : Step). t.answer) follow_is ∙ sym told) new stay attended
+      (subst (λ (t : Step). AreAccounts c.schema new.accounts (after_step asks_it.asks.kept acting.owner acting.session t asked)) (sym follow_is) accounts)

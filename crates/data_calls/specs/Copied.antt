@@ -1,14 +1,13 @@
 -- What a session's own copies tell.
-use Rattle.std.specs.Prelude.{ℕ, ◌≡◌, Bool, true, false, Option, Some, None, if◌then◌else◌}
+use Rattle.std.specs.Prelude.{ℕ, ◌≡◌, Option, Some, None, if◌then◌else◌}
 use Rattle.pss_base.specs.declared.pid.Pid.{Pid}
 use Rattle.pss_catalog.specs.Catalog.{Catalog, has}
-use Rattle.pss_machine.specs.Operations.{Question, PlainAnswer, Found, Gone, Get, Ask, plain_answer}
+use Rattle.pss_machine.specs.Operations.{PlainAnswer, Found, Gone, Get, Follow, Ask, plain_answer}
 use Rattle.pss_machine.specs.Owners.{view, step_on_view}
-use Rattle.pss_machine.specs.declared.level.Level.{Level}
-use Rattle.pss_machine.specs.declared.level.Level.TheVariants.{Serializable, ReadCommitted, Basic}
 use Rattle.pss_machine.specs.Kept.{Kept, copies_of}
 use Rattle.pss_machine.specs.Asking.{Asked}
 use Rattle.pss_machine.specs.Stepping.{copied_answer}
+use Rattle.tx_session.specs.Following.{RefersTo}
 use Rattle.connector_parts.specs.declared.parts.Parts.{Parts}
 use Rattle.data_calls.specs.declared.acting.Acting.{Acting}
 use Rattle.data_calls.specs.declared.copied.Told.{Told}
@@ -56,20 +55,14 @@ pub record MayLook (c : Parts) (acting : Acting) (asked : Asked) (p : Pid) (answ
   pub act : MayAct c acting asked
   pub read : IsRead act p answer
 
--- the owner locks what it reads
-abbrev pub is_serializable : Level → Bool
-is_serializable Serializable = true
-is_serializable ReadCommitted = false
-is_serializable Basic = false
-
--- where the body tells that a member of the object leads, for an owner that locks nothing to look there
-pub record IsLed {c : Parts} {acting : Acting} {asked : Asked} (m : MayAct c acting asked) (q : Pid) : Type 0 where
-  pub question : Question
-  pub op_is : asked.op ≡ Ask question
-  pub loose : is_serializable m.take.asks.is.owner.level ≡ false
-  pub told : (step_on_view c.schema m.take.asks.kept.catalog m.take.asks.is.owner asked.op).answer ≡ lead_to (view m.take.asks.kept.catalog m.take.asks.is.owner) q
+-- what the body tells on which the named entry stands: a member of the object is followed, and it refers to this one, or to
+-- none, in what the owner sees
+pub record IsLed {c : Parts} {acting : Acting} {asked : Asked} (m : MayAct c acting asked) (p : Pid) (to : Option Pid) : Type 0 where
+  pub member : ℕ
+  pub op_is : asked.op ≡ Ask (Follow p member)
+  pub refers : RefersTo (view m.take.asks.kept.catalog m.take.asks.is.owner) p member to
 
 -- a step that such a body leads may be taken
-pub record MayFollow (c : Parts) (acting : Acting) (asked : Asked) (q : Pid) : Type 0 where
+pub record MayFollow (c : Parts) (acting : Acting) (asked : Asked) (p : Pid) (to : Option Pid) : Type 0 where
   pub act : MayAct c acting asked
-  pub led : IsLed act q
+  pub led : IsLed act p to

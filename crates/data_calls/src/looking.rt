@@ -7,18 +7,14 @@ ghost use Rattle.type_layout.specs.Views.{plain_value};
 ghost use Rattle.pss_machine.specs.Operations.{Val};
 ghost use Rattle.incarnations.specs.Meaning.{AreCopies, slot, body_under};
 ghost use Rattle.pss_asking.specs.Telling.{plain_asked};
-ghost use Rattle.type_layout.specs.declared.schema.Schema.{Schema};
 ghost use Rattle.type_layout.specs.Types.{Ref};
-ghost use Rattle.pss_machine.specs.Owners.{Owner};
-ghost use Rattle.pss_machine.specs.Kept.{Kept};
-ghost use Rattle.owner_accounts.specs.Accounts.{AreAccounts};
-ghost use Rattle.data_calls.specs.Copied.{MayAct, IsRead, IsLed, is_serializable};
+ghost use Rattle.data_calls.specs.Copied.{MayAct, IsRead, IsLed};
 
 use crate::acting::Acting;
 use connector_parts::{Parts, entry_number};
 use pss_asking::Asked;
-use pss_base::{NoMemory, OwnerNo, Pid, SessionNo};
-use pss_machine::{Level, Op};
+use pss_base::{NoMemory, Pid, SessionNo};
+use pss_machine::Op;
 use std::alloc::Global;
 use type_layout::{Record, Value};
 
@@ -27,6 +23,13 @@ use type_layout::{Record, Value};
 pub struct Sight {
     pub pid: Pid,
     pub value: Value,
+}
+
+/// The object that a member of an object refers to, or none, as a body has it.
+#[derive(Clone, Copy, Drop)]
+pub struct Followed {
+    pub pid: Pid,
+    pub to: Option<Pid>,
 }
 
 // The values of the body on which an entry of the session stands.
@@ -55,55 +58,41 @@ fn value_at(alloc: Global, values: &Record, member: u32) -> Result<Option<Value>
     }
 }
 
-// The object that a value refers to.
-fn lead_of(value: &Value) -> Option<Pid>
-    ensures { IfSome result (λ q. plain_value value.now ≡ Ref (Some q)) }
+// What a value refers to. None: it is no reference.
+fn referred(value: &Value) -> Option<Option<Pid>>
+    ensures { IfSome result (λ to. plain_value value.now ≡ Ref to) }
 {
     match value {
-        Value::Ref(Some(to)) => Some(*to),
+        Value::Ref(to) => Some(*to),
         _ => None,
     }
 }
 
-// The object that a member refers to.
-fn lead_at(values: &Record, member: u32) -> Option<Pid>
-    ensures { IfSome result (λ q. slice_get values.now member ≡ Some (Ref (Some q))) }
+// What a member refers to. None: it is no reference.
+fn referred_at(values: &Record, member: u32) -> Option<Option<Pid>>
+    ensures { IfSome result (λ to. slice_get values.now member ≡ Some (Ref to)) }
 {
     match values.0.as_slice().get(member as usize) {
-        Some(value) => lead_of(value),
+        Some(value) => referred(value),
         None => None,
     }
 }
 
-// The owner locks what it reads.
-fn locks_reads(parts: &Parts, owner: OwnerNo) -> bool
-    ensures { (S : Schema) (k : Kept) (o : Owner) → AreAccounts S parts.now.accounts k → get k.owners owner.0 ≡ Some o → result ≡ is_serializable o.level }
+/// The member of an object that is followed, as the body has it on which the named entry stands. None: no member is followed,
+/// or the entry stands on no body.
+pub fn led_off(parts: &Parts, acting: Acting, asked: &Asked) -> Option<Followed>
+    ensures { IfSome result (λ followed. (m : MayAct parts.now acting (plain_asked asked.now)) → IsLed m followed.pid followed.to) }
 {
-    match parts.accounts.titles().get(owner) {
-        Some(called) => match called.level {
-            Level::Serializable => true,
-            Level::ReadCommitted => false,
-            Level::Basic => false,
-        },
-        None => true,
-    }
-}
-
-/// Where the member of an object leads that is followed, as the body has it on which the named entry stands. None: no member
-/// is followed, the entry stands on no body, the member refers to nothing, or the owner locks what it reads.
-pub fn led_off(parts: &Parts, acting: Acting, asked: &Asked) -> Option<Pid>
-    ensures { IfSome result (λ q. (m : MayAct parts.now acting (plain_asked asked.now)) → IsLed m q) }
-{
-    let Op::Follow { member, .. } = &asked.op else {
+    let Op::Follow { pid, member } = &asked.op else {
         return None;
     };
-    if locks_reads(parts, acting.owner) {
-        return None;
-    }
     let Some(values) = values_of(parts, acting.session, asked.entry) else {
         return None;
     };
-    lead_at(values, *member)
+    match referred_at(values, *member) {
+        Some(to) => Some(Followed { pid: *pid, to }),
+        None => None,
+    }
 }
 
 /// The member of an object that is asked for, as the body has it on which the named entry stands. None: no member is asked

@@ -9,7 +9,7 @@ ghost use Rattle.data_calls.specs.Copied.{MayTell, MayLead, MayAct, MayLook, May
 use crate::acting::Acting;
 use crate::copied::{Told, consult};
 use crate::granting::Grant;
-use crate::looking::{Sight, led_off, read_off};
+use crate::looking::{Followed, Sight, led_off, read_off};
 use connector_parts::Parts;
 use pss_asking::Asked;
 use pss_base::{NoMemory, Pid};
@@ -70,19 +70,25 @@ fn look(parts: &mut Parts, acting: Acting, asked: Asked, sight: Sight) -> Result
     }
 }
 
-// A body has told where the member leads that is followed, to an object which is looked up in what the owner sees; it locks
-// nothing to look.
-fn lead_off(parts: &mut Parts, acting: Acting, asked: Asked, pid: Pid) -> Result<Grant, NoMemory>
-    requires { MayFollow parts.old acting (plain_asked asked) pid }
-    ensures { IfOk result (λ grant. (m : MayFollow parts.old acting (plain_asked asked) pid) → IsGranted parts.old m.act.take.asks.kept (decision_on m.act.take.asks) acting grant parts.new) }
+// A body has told what the member refers to that is followed: the owner looks whether that object is there, and decodes nothing.
+fn lead_off(
+    parts: &mut Parts,
+    acting: Acting,
+    asked: Asked,
+    followed: Followed,
+) -> Result<Grant, NoMemory>
+    requires { MayFollow parts.old acting (plain_asked asked) followed.pid followed.to }
+    ensures { IfOk result (λ grant. (m : MayFollow parts.old acting (plain_asked asked) followed.pid followed.to) → IsGranted parts.old m.act.take.asks.kept (decision_on m.act.take.asks) acting grant parts.new) }
 {
-    let schema = parts.schema.schema();
-    match parts
-        .accounts
-        .act(acting.owner, schema, &Op::FindPid { pid })?
-    {
-        Answer::Found(_) => Ok(Grant::Taken(asked, Answer::Found(pid))),
-        _ => Ok(Grant::Taken(asked, Answer::Gone(pid))),
+    let told = parts.accounts.follow(
+        acting.owner,
+        parts.schema.schema(),
+        followed.pid,
+        followed.to,
+    )?;
+    match told {
+        Answer::Busy(other) => Ok(Grant::Refused(Reply::Busy(parts.name_of(other)?))),
+        told => Ok(Grant::Taken(asked, told)),
     }
 }
 
@@ -92,7 +98,7 @@ fn go(parts: &mut Parts, acting: Acting, asked: Asked) -> Result<Grant, NoMemory
     ensures { IfOk result (λ grant. (m : MayAct parts.old acting (plain_asked asked)) → IsGranted parts.old m.take.asks.kept (decision_on m.take.asks) acting grant parts.new) }
 {
     match led_off(parts, acting, &asked) {
-        Some(pid) => lead_off(parts, acting, asked, pid),
+        Some(followed) => lead_off(parts, acting, asked, followed),
         None => act(parts, acting, asked),
     }
 }

@@ -1,8 +1,9 @@
 -- What owners may do.
-use Rattle.std.proofs.Common.{ℕ, ◌≡◌, ◌<◌, Some, ap, ◌∙◌, arith}
+use Rattle.std.proofs.Common.{ℕ, ◌≡◌, ◌<◌, Option, Some, ap, ◌∙◌, arith}
 use Rattle.std.specs.Prelude.{unwrap_or}
 use Rattle.std.specs.FinMap.{get, len}
 use Rattle.pss_base.specs.declared.owner.OwnerNo.{OwnerNo}
+use Rattle.pss_base.specs.declared.pid.Pid.{Pid}
 use Rattle.type_layout.specs.declared.schema.Schema.{Schema}
 use Rattle.pss_catalog.specs.Catalog.{Object, IsUnique}
 use Rattle.pss_catalog.proofs.Uniqueness.{found_over}
@@ -13,8 +14,9 @@ use Rattle.pss_laws.proofs.Nets.{last_listed}
 use Rattle.owner_view.specs.Seen.{Fits}
 use Rattle.owner_view.specs.Homes.{fits_sound}
 use Rattle.tx_session.specs.Owners.{owners_in, MaySee, MayAct}
+use Rattle.tx_session.specs.Following.{MayFollow as OwnerFollows}
 use Rattle.owner_accounts.specs.declared.accounts.Accounts.{Accounts}
-use Rattle.owner_accounts.specs.Steps.{IsOwner, MayStep}
+use Rattle.owner_accounts.specs.Steps.{IsOwner, MayStep, MayFollow}
 use Rattle.owner_accounts.proofs.Runs.{sound_at, fine_at, keeping_at}
 
 module _ {S : Schema} {a : Accounts} {n : OwnerNo} (by : IsOwner S a n) where
@@ -37,3 +39,6 @@ module _ {S : Schema} {a : Accounts} {n : OwnerNo} (by : IsOwner S a n) where
 
 abbrev pub may_act : {S : Schema} {a : Accounts} {n : OwnerNo} {op : PlainOp} (m : MayStep S a n op) → MayAct S a.homes (owners_in a.owners) n op
 may_act m = record { sees = may_see m.by; fits_op = m.fits; unique = unique_at m.by; few = few_at m.by }
+
+abbrev pub may_follow : {S : Schema} {a : Accounts} {n : OwnerNo} {p : Pid} {to : Option Pid} (m : MayFollow S a n p to) → OwnerFollows S a.homes (owners_in a.owners) n p to
+may_follow m = record { member = m.member; act = may_act m.step; refers = m.refers }

@@ -2,15 +2,17 @@
 use Rattle.std.specs.Prelude.{ℕ, ◌≡◌, ◌<◌, ◌-◌, ◌^◌, Option, Some, None}
 use Rattle.std.specs.FinMap.{get}
 use Rattle.pss_base.specs.declared.owner.OwnerNo.{OwnerNo}
+use Rattle.pss_base.specs.declared.pid.Pid.{Pid}
 use Rattle.type_layout.specs.declared.schema.Schema.{Schema}
 use Rattle.pss_machine.specs.declared.limits.Limits.{Limits}
 use Rattle.pss_machine.specs.declared.answer.Answer.{Answer}
 use Rattle.pss_machine.specs.declared.answer.Answer.TheVariants as answer
-use Rattle.pss_machine.specs.Operations.{PlainOp, Create}
-use Rattle.pss_machine.specs.Owners.{Owner, Step, step_on_view}
+use Rattle.pss_machine.specs.Operations.{Follow, PlainOp, Create, Ask}
+use Rattle.pss_machine.specs.Owners.{Owner, Step, step_on_view, view}
 use Rattle.pss_machine.specs.Kept.{Kept, Title}
 use Rattle.pss_machine.specs.Allowed.{TakesNext}
 use Rattle.owner_view.specs.Fitting.{FitsOp}
+use Rattle.tx_session.specs.Following.{RefersTo}
 use Rattle.owner_accounts.specs.declared.accounts.Accounts.{Accounts}
 use Rattle.owner_accounts.specs.Accounts.{AreAccounts}
 use Rattle.owner_accounts.specs.Reached.{IsReached}
@@ -56,6 +58,12 @@ pub record MayStep (S : Schema) (a : Accounts) (n : OwnerNo) (op : PlainOp) : Ty
 -- the step on what the owner sees
 abbrev pub step_in : {S : Schema} {a : Accounts} {n : OwnerNo} {op : PlainOp} → MayStep S a n op → Step
 step_in {S = S} {op = op} m = step_on_view S m.by.kept.catalog m.by.owner op
+
+-- it may follow a member of the object, which refers to this one, or to none, in what it sees
+pub record MayFollow (S : Schema) (a : Accounts) (n : OwnerNo) (p : Pid) (to : Option Pid) : Type 0 where
+  pub member : ℕ
+  pub step : MayStep S a n (Ask (Follow p member))
+  pub refers : RefersTo (view step.by.kept.catalog step.by.owner) p member to
 
 -- the owner that an operation was held up by
 abbrev pub busy_by : Answer → Option OwnerNo

@@ -10,10 +10,10 @@ ghost use Rattle.pss_machine.specs.Asking.{Asked};
 ghost use Rattle.pss_machine.specs.Stepping.{step_on_copy};
 ghost use Rattle.pss_machine.specs.Moving.{after_step, next_after as machine_next};
 ghost use Rattle.owner_accounts.specs.Accounts.{AreAccounts};
-ghost use Rattle.owner_accounts.specs.Steps.{MayStep, MayCount, HasSerial, busy_by, step_in};
+ghost use Rattle.owner_accounts.specs.Steps.{MayStep, MayFollow, MayCount, HasSerial, busy_by, step_in};
 
 use crate::accounts::Accounts;
-use pss_base::{NoMemory, OwnerNo};
+use pss_base::{NoMemory, OwnerNo, Pid};
 use pss_machine::{Answer, Op};
 use type_layout::Schema;
 
@@ -35,6 +35,31 @@ impl Accounts {
             return Ok(answer);
         }
         self.next = next_after(self.next, op);
+        self.titles.count(owner);
+        Ok(answer)
+    }
+
+    /// Follows a member of an object, which in what the owner sees refers to this one, or to none. It comes to what `act`
+    /// comes to, but reads no record.
+    ///
+    /// `NoMemory`: nothing is said of the accounts, which are not used again.
+    pub fn follow(
+        &mut self,
+        owner: OwnerNo,
+        schema: &Schema,
+        pid: Pid,
+        to: Option<Pid>,
+    ) -> Result<Answer, NoMemory>
+        requires { MayFollow schema.now self.old owner pid to }
+        ensures busy { IfOk result (λ answer. (m : MayFollow schema.now self.old owner pid to) (n : Number) → (answer ≡ told.Busy n) ↔ (blocker m.step.by.kept.owners owner (step_in m.step).needs ≡ Some n)) }
+        ensures held_up { OnOk result ((m : MayFollow schema.now self.old owner pid to) → IsSome (blocker m.step.by.kept.owners owner (step_in m.step).needs) → AreAccounts schema.now self.new m.step.by.kept) }
+        ensures answer { IfOk result (λ answer. (m : MayFollow schema.now self.old owner pid to) → blocker m.step.by.kept.owners owner (step_in m.step).needs ≡ None → plain_answer answer ≡ (step_in m.step).answer) }
+        ensures stepped { OnOk result ((m : MayFollow schema.now self.old owner pid to) (s : SessionNo) (asked : Asked) → blocker m.step.by.kept.owners owner (step_in m.step).needs ≡ None → AreAccounts schema.now self.new (after_step m.step.by.kept owner s (step_in m.step) asked)) }
+    {
+        let answer = self.owners.follow(owner, schema, &self.homes, pid, to)?;
+        if let Some(_) = busy_by(&answer) {
+            return Ok(answer);
+        }
         self.titles.count(owner);
         Ok(answer)
     }

@@ -26,8 +26,8 @@ same_one : {A : Type 0} (x y : A) → Some x ≡ Some y → x ≡ y
 same_one x y e = cc
 
 -- what the owners of the value may do those of its parts may
-abbrev pub acting : (S : Schema) (homes : Homes) (value parts : Parts) (n : OwnerNo) (op : PlainOp) → parts ≡ value → MayAct S homes (owners_in value) n op → MayAct S homes (owners_in parts) n op
-acting S homes value parts n op is m = record {
+abbrev pub acting : {S : Schema} {homes : Homes} {value parts : Parts} {n : OwnerNo} {op : PlainOp} → parts ≡ value → MayAct S homes (owners_in value) n op → MayAct S homes (owners_in parts) n op
+acting {n = n} is m = record {
   sees = record {
     catalog = m.sees.catalog;
     owner = m.sees.owner;
@@ -40,17 +40,17 @@ acting S homes value parts n op is m = record {
   few = m.few;
 }
 
-module _ (S : Schema) (homes : Homes) (value parts : Parts) (n : OwnerNo) (op : PlainOp) (is : parts ≡ value) (step : Step)
-    (steps : (m : MayAct S homes (owners_in parts) n op) → IsStep S m.sees.owner.level (view m.sees.catalog m.sees.owner) op step) (m : MayAct S homes (owners_in value) n op) where
+module _ (S : Schema) (homes : Homes) (value parts : Parts) (n : OwnerNo) (op : PlainOp) (is : parts ≡ value) (step : Step) (m : MayAct S homes (owners_in value) n op)
+    (steps : IsStep S m.sees.owner.level (view m.sees.catalog m.sees.owner) op step) where
   abbrev within : MayAct S homes (owners_in parts) n op
-  within = acting S homes value parts n op is m
+  within = acting is m
 
   pub may_be_taken : Under S value → AreOwners parts → MayTake S parts n step
-  may_be_taken under owners = may_take S homes parts n op within step (steps within) (subst (Under S) (sym is) under) owners
+  may_be_taken under owners = may_take S homes parts n op within step steps (subst (Under S) (sym is) under) owners
 
   module _ (have : HaveLocks (owners_in parts) parts.locks) where
     pub blocker_is : blocker (owners_in value) n (step_of m).needs ≡ table.blocker parts.locks n step.needs
-    blocker_is = ap (λ (p : Parts). blocker (owners_in p) n (step_of m).needs) (sym is) ∙ its_blocker S homes parts n op within step (steps within) have
+    blocker_is = ap (λ (p : Parts). blocker (owners_in p) n (step_of m).needs) (sym is) ∙ its_blocker S homes parts n op within step steps have
 
     -- ---- one holds it up
 
@@ -66,7 +66,7 @@ module _ (S : Schema) (homes : Homes) (value parts : Parts) (n : OwnerNo) (op : 
     module _ (free : None ≡ table.blocker parts.locks n step.needs) where
       pub not_busy : (told : Answer) → told ≡ step.answer → (b : OwnerNo) → (told ≡ answer.Busy b) ↔ (blocker (owners_in value) n (step_of m).needs ≡ Some b)
       not_busy told same b = (
-        (λ e. absurd (never_busy S homes parts n op within step (steps within) b (sym same ∙ e))),
+        (λ e. absurd (never_busy S homes parts n op within step steps b (sym same ∙ e))),
         (λ e. (let no : None ≡ Some b = free ∙ sym blocker_is ∙ e in cc)),
       )
 
@@ -74,8 +74,8 @@ module _ (S : Schema) (homes : Homes) (value parts : Parts) (n : OwnerNo) (op : 
       not_held_up some = (let no = subst IsSome (blocker_is ∙ sym free) some in cc)
 
       pub told_answer : (told : Answer) → told ≡ step.answer → plain_answer told ≡ (step_of m).answer
-      told_answer told same = ap plain_answer same ∙ (steps within).answer
+      told_answer told same = ap plain_answer same ∙ steps.answer
 
     pub stepped_on : (new : Parts) → owners_in new ≡ with_at (owners_in parts) n.0 (with_step step) → owners_in new ≡ with_at (owners_in value) n.0 (stepped (step_of m))
     stepped_on new on =
-        on ∙ ap (λ (f : Owner → Owner). with_at (owners_in parts) n.0 f) (its_step S homes parts n op within step (steps within)) ∙ ap (λ (p : Parts). with_at (owners_in p) n.0 (stepped (step_of m))) is
+        on ∙ ap (λ (f : Owner → Owner). with_at (owners_in parts) n.0 f) (its_step S homes parts n op within step steps) ∙ ap (λ (p : Parts). with_at (owners_in p) n.0 (stepped (step_of m))) is

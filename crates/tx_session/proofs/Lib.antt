@@ -4,4 +4,5 @@ pub mod Actors
 pub mod Endings
 pub mod Coming
 pub mod Blocking
+pub mod References
 pub mod Telling

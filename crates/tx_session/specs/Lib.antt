@@ -1,3 +1,4 @@
 pub mod Kept
 pub mod Owners
 pub mod Acting
+pub mod Following

@@ -2,6 +2,7 @@
 #![tactic(auto)]
 
 mod acting;
+mod following;
 mod owners;
 mod parts;
 mod table;

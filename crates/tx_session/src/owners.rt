@@ -14,12 +14,13 @@ ghost use Rattle.storage_home.specs.Applied.{AreChanges};
 ghost use Rattle.lock_table.specs.Agreement.{locks_of};
 ghost use Rattle.owner_view.specs.Net.{AreNet};
 ghost use Rattle.tx_session.specs.Owners.{owners_in, Under, MaySee, MayAct, step_of};
+ghost use Rattle.tx_session.specs.Following.{MayFollow};
 
 use crate::parts::Parts;
 use crate::table;
 use lock_table::LockTable;
 use owner_view::Owned;
-use pss_base::{NoMemory, OwnerNo, Steps};
+use pss_base::{NoMemory, OwnerNo, Pid, Steps};
 use pss_machine::{Answer, Level, Op};
 use std::alloc::Global;
 use std::marker::Model;
@@ -107,6 +108,34 @@ impl Owners {
         match self.parts.locks.blocker(owner, &step.needs) {
             Some(other) => Ok(Answer::Busy(other)),
             None => self.parts.take(owner, schema, step),
+        }
+    }
+
+    /// Follows a member of an object, which in what the owner sees refers to this one, or to none. It comes to what `act` comes
+    /// to, but reads no record.
+    ///
+    /// `NoMemory`: all is as before.
+    pub fn follow(
+        &mut self,
+        owner: OwnerNo,
+        schema: &Schema,
+        homes: &Homes,
+        pid: Pid,
+        to: Option<Pid>,
+    ) -> Result<Answer, NoMemory>
+        requires may { MayFollow schema.now homes.now (owners_in self.old) owner pid to }
+        requires under { Under schema.now self.old }
+        ensures busy { IfOk result (λ answer. (m : MayFollow schema.now homes.now (owners_in self.old) owner pid to) (n : Number) → (answer ≡ told.Busy n) ↔ (blocker (owners_in self.old) owner (step_of m.act).needs ≡ Some n)) }
+        ensures held_up { OnOk result ((m : MayFollow schema.now homes.now (owners_in self.old) owner pid to) → IsSome (blocker (owners_in self.old) owner (step_of m.act).needs) → owners_in self.new ≡ owners_in self.old) }
+        ensures answer { IfOk result (λ answer. (m : MayFollow schema.now homes.now (owners_in self.old) owner pid to) → blocker (owners_in self.old) owner (step_of m.act).needs ≡ None → plain_answer answer ≡ (step_of m.act).answer) }
+        ensures stepped { OnOk result ((m : MayFollow schema.now homes.now (owners_in self.old) owner pid to) → blocker (owners_in self.old) owner (step_of m.act).needs ≡ None → owners_in self.new ≡ with_at (owners_in self.old) owner.0 (stepped (step_of m.act))) }
+        ensures err { OnErr result (owners_in self.new ≡ owners_in self.old) }
+        ensures under { Under schema.now self.new }
+    {
+        let led = self.parts.step_led(owner, schema, homes, pid, to)?;
+        match self.parts.locks.blocker(owner, &led.needs) {
+            Some(holder) => Ok(Answer::Busy(holder)),
+            None => self.parts.take(owner, schema, led),
         }
     }
 

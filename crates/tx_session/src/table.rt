@@ -9,10 +9,11 @@ use indexmap::IndexMap;
 use owner_view::{Owned, Put};
 use pss_base::{NoMemory, OwnerNo};
 use std::alloc::Global;
-use std::hash::{BuildHasherDefault, DefaultHasher};
+use std::hash::BuildHasherDefault;
+use table_hash::NumberHasher;
 use type_layout::Schema;
 
-pub type Table = IndexMap<u32, Owned, BuildHasherDefault<DefaultHasher>>;
+pub type Table = IndexMap<u32, Owned, BuildHasherDefault<NumberHasher>>;
 
 pub fn empty(alloc: Global) -> Table
     ensures { result.entries ≡ [] }

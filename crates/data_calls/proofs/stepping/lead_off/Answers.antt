@@ -1,40 +1,43 @@
-use Rattle.std.proofs.Common.{◌≡◌, None, refl, sym, ap, ◌∙◌, subst}
+use Rattle.std.proofs.Common.{◌≡◌, None, Some, IsSome, refl, sym, subst}
+use Rattle.std.specs.Prelude.{◌↔◌}
+use Rattle.pss_base.specs.declared.owner.OwnerNo.{OwnerNo}
 use Rattle.pss_base.specs.declared.session.SessionNo.{SessionNo}
 use Rattle.type_layout.specs.declared.schema.Schema.{Schema}
-use Rattle.pss_machine.specs.Operations.{FindPid, Ask, Found, Gone, plain_answer}
-use Rattle.pss_machine.specs.Owners.{blocker, view}
+use Rattle.pss_machine.specs.declared.answer.Answer.TheVariants as told
+use Rattle.pss_machine.specs.Operations.{plain_answer}
+use Rattle.pss_machine.specs.Owners.{blocker}
 use Rattle.pss_machine.specs.Asking.{Asked}
 use Rattle.pss_machine.specs.Moving.{after_step}
 use Rattle.owner_accounts.specs.Accounts.{AreAccounts}
-use Rattle.owner_accounts.specs.Steps.{MayStep, step_in}
+use Rattle.owner_accounts.specs.Steps.{MayFollow, step_in}
 use Rattle.pss_asking.specs.Telling.{plain_asked}
-use Rattle.data_calls.proofs.Taking.{lead_found, lead_gone, plain_found}
-use Rattle.data_calls.proofs.Bodies.{may_find, find_free, find_takes}
+use Rattle.data_calls.proofs.Taking.{none_where, some_there}
+use Rattle.data_calls.proofs.Bodies.{may_follow, follow_busy, follow_takes}
 use Rattle.data_calls.proofs.stepping.lead_off.Goals as goal
 
-pub act-requires : goal.act-requires
-act-requires c = subst (λ (S : Schema). MayStep S c.args.parts.now.accounts c.args.acting.owner (Ask (FindPid c.args.pid))) (sym c.schema-schema.ensures) (may_find c.requires)
+pub follow-requires : goal.follow-requires
+follow-requires c = subst (λ (S : Schema). MayFollow S c.args.parts.now.accounts c.args.acting.owner c.args.followed.pid c.args.followed.to) (sym c.schema.ensures) (may_follow c.requires)
 
-pub returns-in-Found : goal.returns-in-Found
-returns-in-Found c m =
+pub returns-in_ok-name_of-in-Busy : goal.returns-in_ok-name_of-in-Busy
+returns-in_ok-name_of-in-Busy c m =
     let a = c.args.parts.now.accounts in
     let n = c.args.acting.owner in
-    let q = c.args.pid in
-    let answered = subst (λ (S : Schema). (m : MayStep S a n (Ask (FindPid q))) → blocker m.by.kept.owners n (step_in m).needs ≡ None → plain_answer c.in_ok-act.field-0 ≡ (step_in m).answer) c.schema-schema.ensures c.in_ok-act.ensures.answer in
-    let stepped = subst (λ (S : Schema). (m : MayStep S a n (Ask (FindPid q))) (s : SessionNo) (asked : Asked) → blocker m.by.kept.owners n (step_in m).needs ≡ None → AreAccounts S c.act.new.self (after_step m.by.kept n s (step_in m) asked)) c.schema-schema.ensures c.in_ok-act.ensures.stepped in
-    let V = view m.act.take.asks.kept.catalog m.act.take.asks.is.owner in
-    let free = find_free m in
-    let found = lead_found V q _ (sym (ap plain_answer c.in-Found.is) ∙ answered (may_find m) free) in
-    find_takes m (Found q) found _ (record { schema = refl; limits = refl }) refl (stepped (may_find m) c.args.acting.session (plain_asked c.args.asked) free)
+    let p = c.args.followed.pid in
+    let to = c.args.followed.to in
+    let busy = subst (λ (S : Schema). (m : MayFollow S a n p to) (b : OwnerNo) → (c.in_ok-told.told ≡ told.Busy b) ↔ (blocker m.step.by.kept.owners n (step_in m.step).needs ≡ Some b)) c.schema.ensures c.in_ok-told.ensures.busy in
+    let held = subst (λ (S : Schema). (m : MayFollow S a n p to) → IsSome (blocker m.step.by.kept.owners n (step_in m.step).needs) → AreAccounts S c.follow.new.self m.step.by.kept) c.schema.ensures c.in_ok-told.ensures.held_up in
+    let is = (busy (may_follow m) c.in-Busy.other).0 c.in-Busy.is in
+    let accounts = held (may_follow m) (some_there is) in
+    follow_busy m c.in-Busy.other _ is (c.in_ok-name_of-in-Busy.ensures m.act.take.asks.kept (record { accounts = accounts; attended = m.act.take.asks.at.stands.attended })) _ (record { schema = refl; limits = refl }) refl accounts
 
-pub returns : goal.returns
-returns c m =
+pub returns-in_default : goal.returns-in_default
+returns-in_default c m =
     let a = c.args.parts.now.accounts in
     let n = c.args.acting.owner in
-    let q = c.args.pid in
-    let answered = subst (λ (S : Schema). (m : MayStep S a n (Ask (FindPid q))) → blocker m.by.kept.owners n (step_in m).needs ≡ None → plain_answer c.in_ok-act.field-0 ≡ (step_in m).answer) c.schema-schema.ensures c.in_ok-act.ensures.answer in
-    let stepped = subst (λ (S : Schema). (m : MayStep S a n (Ask (FindPid q))) (s : SessionNo) (asked : Asked) → blocker m.by.kept.owners n (step_in m).needs ≡ None → AreAccounts S c.act.new.self (after_step m.by.kept n s (step_in m) asked)) c.schema-schema.ensures c.in_ok-act.ensures.stepped in
-    let V = view m.act.take.asks.kept.catalog m.act.take.asks.is.owner in
-    let free = find_free m in
-    let gone = lead_gone V q (plain_answer c.in_ok-act.field-0) (λ p is. c.in_default.not-Found p (plain_found c.in_ok-act.field-0 p is)) (answered (may_find m) free) in
-    find_takes m (Gone q) gone _ (record { schema = refl; limits = refl }) refl (stepped (may_find m) c.args.acting.session (plain_asked c.args.asked) free)
+    let p = c.args.followed.pid in
+    let to = c.args.followed.to in
+    let busy = subst (λ (S : Schema). (m : MayFollow S a n p to) (b : OwnerNo) → (c.in_ok-told.told ≡ told.Busy b) ↔ (blocker m.step.by.kept.owners n (step_in m.step).needs ≡ Some b)) c.schema.ensures c.in_ok-told.ensures.busy in
+    let answered = subst (λ (S : Schema). (m : MayFollow S a n p to) → blocker m.step.by.kept.owners n (step_in m.step).needs ≡ None → plain_answer c.in_ok-told.told ≡ (step_in m.step).answer) c.schema.ensures c.in_ok-told.ensures.answer in
+    let stepped = subst (λ (S : Schema). (m : MayFollow S a n p to) (s : SessionNo) (asked : Asked) → blocker m.step.by.kept.owners n (step_in m.step).needs ≡ None → AreAccounts S c.follow.new.self (after_step m.step.by.kept n s (step_in m.step) asked)) c.schema.ensures c.in_ok-told.ensures.stepped in
+    let none = none_where (blocker m.act.take.asks.kept.owners n (step_in (may_follow m).step).needs) (λ b is. c.in_default.not-Busy b ((busy (may_follow m) b).1 is)) in
+    follow_takes m (plain_answer c.in_ok-told.told) none (answered (may_follow m) none) _ (record { schema = refl; limits = refl }) refl (stepped (may_follow m) c.args.acting.session (plain_asked c.args.asked) none)

@@ -1,5 +1,6 @@
 pub mod ByKey
 pub mod Turned
+pub mod SlotTables
 pub mod Touching
 pub mod Located
 pub mod Givens

@@ -1,5 +1,5 @@
 -- Pages are touched by changes, one change after the other.
-use Rattle.std.proofs.Common.{ℕ, ◌≡◌, ◌==◌, ◌||◌, Bool, true, false, cond, List, [], ◌∷◌, ◌++◌, Some, None, refl, sym, ap, ◌∙◌}
+use Rattle.std.proofs.Common.{ℕ, ◌≡◌, ◌↔◌, ◌==◌, ◌||◌, Bool, true, false, IsTrue, cond, List, [], ◌∷◌, ◌++◌, length, Some, None, arith, refl, sym, ap, ◌∙◌}
 use Rattle.std.proofs.lemmas.Bool.{eqb-true, false≢true}
 use Rattle.std.specs.FinMap as finite
 use Rattle.std.specs.List.{list_any}
@@ -60,3 +60,23 @@ noted_more puts put q o = by (put.serial == q) (is_noted q puts) ∙ ap (λ b. c
     by true false = refl
     by false true = refl
     by false false = refl
+
+pub no_entries : (es : List (ℕ × ℕ)) (r : Bool) → (IsTrue r ↔ (length es ≡ 0)) → r ≡ true → es ≡ []
+no_entries [] r is e = refl
+no_entries (p ∷ es) r is e = let z : length (p ∷ es) ≡ 0 = is.0 e in absurd (omega (arith, z))
+
+-- where no objects are kept, no page is touched
+pub none_touched : (es : List (ℕ × ℕ)) (puts : List Put) (s : ℕ) (m : Bool) → es ≡ [] → m ≡ (is_touched (under_serials es) puts s || m)
+none_touched es puts s m none = sym (ap (λ (ps : List (ℕ × ℕ)). is_touched (under_serials ps) puts s || m) none ∙ ap (λ b. b || m) (by puts))
+  where
+    by : (ps : List Put) → is_touched (under_serials []) ps s ≡ false
+    by [] = refl
+    by (p ∷ ps) = ap (λ o. is_in s o || is_touched (under_serials []) ps s) (get_entries [] p.serial) ∙ by ps
+
+-- and none of them has a place
+pub none_placed : (es : List (ℕ × ℕ)) (puts : List Put) (q : ℕ) → es ≡ [] → slot_under q es ≡ cond (is_noted q puts) None (slot_under q es)
+none_placed es puts q none = ap (slot_under q) none ∙ by (is_noted q puts) ∙ ap (λ (ps : List (ℕ × ℕ)). cond (is_noted q puts) None (slot_under q ps)) (sym none)
+  where
+    by : (b : Bool) → slot_under q [] ≡ cond b None (slot_under q [])
+    by true = refl
+    by false = refl

@@ -1,5 +1,6 @@
 pub mod Located
 pub mod Repacked
+pub mod SlotTables
 pub mod Planned
 pub mod Gates
 pub mod Laying

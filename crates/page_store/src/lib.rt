@@ -9,6 +9,7 @@ mod parting;
 mod placing;
 mod repacking;
 mod rereading;
+mod slot_table;
 mod small;
 mod stop;
 mod switch;

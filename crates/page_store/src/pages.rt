@@ -11,7 +11,8 @@ ghost use Rattle.page_format.specs.Refusals.{IsPageRefusal};
 ghost use Rattle.page_format.specs.Roots.{IsWithinLimits};
 ghost use Rattle.page_format.specs.Rows.{AreRows};
 
-use page_format::{Gathered, PageFault, Places, Root, Slots, gather};
+use crate::slot_table::SlotTable;
+use page_format::{Gathered, PageFault, Root, Slots, gather};
 use pss_base::{Bytes, NoMemory, Put, Puts};
 use pss_disk::Station;
 use std::alloc::Global;
@@ -28,7 +29,7 @@ pub struct Pages {
     epoch: u64,
     shape: Bytes,
     slots: Slots,
-    places: Places,
+    places: SlotTable,
     small: Option<u32>,
     noted: Vec<Put>,
     room: usize,
@@ -81,7 +82,7 @@ fn pages_of(alloc: Global, root: &Root, gathered: Gathered) -> Result<Fetched, N
             epoch: root.epoch,
             shape,
             slots,
-            places: gathered.places,
+            places: SlotTable::of(alloc, gathered.places),
             small: gathered.small,
             noted: Vec::new(alloc),
             room: 0,

@@ -4,8 +4,9 @@ ghost use Rattle.std.specs.List.{filter};
 ghost use Rattle.page_store.specs.Placed.{is_noted, slot_under};
 ghost use Rattle.page_store.specs.Touched.{is_in, is_repacked, is_touched, under_serials};
 
+use crate::slot_table::SlotTable;
 use page_format::layout::SLOTS;
-use page_format::{Places, Slots, flags, mark};
+use page_format::{Slots, flags, mark};
 use pss_base::{NoMemory, Put};
 use std::alloc::Global;
 
@@ -21,7 +22,7 @@ pub struct Parted {
 pub fn part_slots(
     alloc: Global,
     slots: &[u32],
-    places: &mut Places,
+    places: &mut SlotTable,
     noted: &[Put],
     small: Option<u32>,
 ) -> Result<Parted, NoMemory>
@@ -36,7 +37,7 @@ pub fn part_slots(
 }
 
 // Sets the flag of each page that is packed anew, and takes the objects away of which changes are noted.
-fn mark_repacked(marks: &mut [bool], places: &mut Places, noted: &[Put], small: Option<u32>)
+fn mark_repacked(marks: &mut [bool], places: &mut SlotTable, noted: &[Put], small: Option<u32>)
     requires { length marks.old ≡ 16384 }
     ensures marked { (s : ℕ) → s < 16384 → slice_index_or marks.new s false ≡ (is_repacked (under_serials places.old.entries) noted.now small s || slice_index_or marks.old s false) }
     ensures len { length marks.new ≡ 16384 }
@@ -56,8 +57,20 @@ fn mark_small(marks: &mut [bool], small: Option<u32>)
     }
 }
 
-// Sets the flag of each page that holds an object of which a change is noted, and takes these objects away.
-fn mark_touched(marks: &mut [bool], places: &mut Places, noted: &[Put])
+// Sets the flag of each page that holds an object of which a change is noted, and takes these objects away. A new store
+// has none to look for.
+fn mark_touched(marks: &mut [bool], places: &mut SlotTable, noted: &[Put])
+    requires { length marks.old ≡ 16384 }
+    ensures marked { (s : ℕ) → s < 16384 → slice_index_or marks.new s false ≡ (is_touched (under_serials places.old.entries) noted.now s || slice_index_or marks.old s false) }
+    ensures places { (q : ℕ) → slot_under q places.new.entries ≡ cond (is_noted q noted.now) None (slot_under q places.old.entries) }
+{
+    if !places.has_none() {
+        mark_places(marks, places, noted);
+    }
+}
+
+// The same, looking for each object.
+fn mark_places(marks: &mut [bool], places: &mut SlotTable, noted: &[Put])
     requires { length marks.old ≡ 16384 }
     ensures marked { (s : ℕ) → s < 16384 → slice_index_or marks.new s false ≡ (is_touched (under_serials places.old.entries) noted.now s || slice_index_or marks.old s false) }
     ensures places { (q : ℕ) → slot_under q places.new.entries ≡ cond (is_noted q noted.now) None (slot_under q places.old.entries) }
@@ -68,12 +81,12 @@ fn mark_touched(marks: &mut [bool], places: &mut Places, noted: &[Put])
 }
 
 // Sets the flag of the page that holds an object, where there is one, and takes the object away.
-fn mark_place(marks: &mut [bool], places: &mut Places, serial: u64)
+fn mark_place(marks: &mut [bool], places: &mut SlotTable, serial: u64)
     requires { length marks.old ≡ 16384 }
     ensures marked { (s : ℕ) → s < 16384 → slice_index_or marks.new s false ≡ (is_in s (slot_under serial places.old.entries) || slice_index_or marks.old s false) }
     ensures places { (q : ℕ) → slot_under q places.new.entries ≡ cond (serial == q) None (slot_under q places.old.entries) }
 {
-    mark_small(marks, places.swap_remove(&serial));
+    mark_small(marks, places.take(serial));
 }
 
 // Parts slots by their flags.

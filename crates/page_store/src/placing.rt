@@ -3,15 +3,16 @@ ghost use Rattle.std.specs.Prelude.{ℕ, ◌≡◌, ◌≤◌, cond, Some, lengt
 ghost use Rattle.page_store.specs.Placed.{is_object, placed, slot_under};
 ghost use Rattle.page_store.specs.Switch.{slots_of};
 
-use page_format::{Entries, Entry, NewPage, Places};
+use crate::slot_table::SlotTable;
+use page_format::{Entries, Entry, NewPage};
 use pss_base::NoMemory;
 use std::alloc::Global;
 
 /// Puts the objects of new pages where these are.
-pub fn place_pages(places: &mut Places, pages: &[NewPage]) -> Result<(), NoMemory>
+pub fn place_pages(places: &mut SlotTable, pages: &[NewPage]) -> Result<(), NoMemory>
     ensures { OnOk result ((q : ℕ) → slot_under q places.new.entries ≡ placed pages.now q (slot_under q places.old.entries)) }
 {
-    places.reserve(count_of(pages))?;
+    places.reserve(count_of(pages), last_serial(pages))?;
     for page in pages {
         match place_entries(places, page.slot, page.entries.as_slice()) {
             Ok(()) => {}
@@ -30,12 +31,28 @@ fn count_of(pages: &[NewPage]) -> usize {
     count
 }
 
+// The serial of the last object in the last page: the greatest one, since pages are packed by rising serial.
+fn last_serial(pages: &[NewPage]) -> u64 {
+    match pages.last() {
+        Some(page) => serial_of(page.entries.as_slice().last()),
+        None => 0,
+    }
+}
+
+// The serial of an object, where there is one.
+fn serial_of(entry: Option<&Entry>) -> u64 {
+    match entry {
+        Some(entry) => entry.serial,
+        None => 0,
+    }
+}
+
 // Puts objects into the page of a slot.
-fn place_entries(places: &mut Places, slot: u32, entries: &[Entry]) -> Result<(), NoMemory>
+fn place_entries(places: &mut SlotTable, slot: u32, entries: &[Entry]) -> Result<(), NoMemory>
     ensures { OnOk result ((q : ℕ) → slot_under q places.new.entries ≡ cond (is_object q entries.now) (Some slot) (slot_under q places.old.entries)) }
 {
     for entry in entries {
-        places.insert(entry.serial, slot)?;
+        places.put(entry.serial, slot)?;
     }
     Ok(())
 }

@@ -1,7 +1,7 @@
 use Rattle.std.proofs.Common.{ℕ, ◌≡◌, ◌<◌, ◌||◌, None, cond, false, length, get_or, take}
 use Rattle.page_store.specs.Placed.{is_noted, slot_under}
 use Rattle.page_store.specs.Touched.{is_touched, under_serials}
-use Rattle.page_store.proofs.parting.mark_touched.Given as goal
+use Rattle.page_store.proofs.parting.mark_places.Given as goal
 
 abbrev pub invariant-loop-put : goal.invariant-loop-put
 invariant-loop-put l = record {

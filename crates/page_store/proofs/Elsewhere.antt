@@ -1,5 +1,5 @@
 -- Octets of a content where pages and a root were laid, but for two gates.
-use Rattle.std.proofs.Common.{ℕ, ◌≡◌, ◌≢◌, ◌⊎◌, ⊎_elim, ◌+◌, ◌-◌, ◌<◌, ◌≤◌, List, [], ◌∷◌, ◌++◌, length, drop, get_or, None, Some, IfSome, refl, sym, ap, ◌∙◌, subst, arith, length-append}
+use Rattle.std.proofs.Common.{ℕ, ◌≡◌, ◌≢◌, ◌⊎◌, ⊎_elim, ◌+◌, ◌-◌, ◌<◌, ◌≤◌, List, [], ◌∷◌, ◌++◌, length, drop, get_or, None, Some, is_some, IfSome, refl, sym, ap, ◌∙◌, subst, arith, length-append}
 use Rattle.std.proofs.lemmas.Bool.{cases_lt}
 use Rattle.std.proofs.lemmas.List.{get_or-append_right, get_or-drop, get_or_append_left}
 use Rattle.std.specs.declared.option.Option.{Option}
@@ -16,6 +16,11 @@ use Rattle.page_format.specs.declared.new_page.NewPage.{NewPage}
 use Rattle.page_format.specs.declared.root.Root.{Root}
 use Rattle.page_store.specs.inner.Switching.{Becomes}
 use Rattle.page_store.proofs.Laid.{laid}
+
+-- a content is told where the one was that it became of
+pub told_on : (S : ℕ → Type 0) (f : List ℕ → List ℕ) (old new : Option (List ℕ)) → Becomes S f old new → is_some new ≡ is_some old
+told_on S f None new is = ap is_some is
+told_on S f (Some c) new is = ap is_some is.1
 
 -- a write leaves the octets in front of it and behind it, also past the end
 octet_in_front : (at : ℕ) (bytes c : List ℕ) (i : ℕ) → i < at → octet_at (write at bytes c) i ≡ octet_at c i

@@ -1,5 +1,5 @@
 // The root of a store is followed by the next one.
-ghost use Rattle.std.specs.Prelude.{ℕ, ◌≡◌, ◌≢◌, ◌+◌, ◌≤◌, IfErr, IfSome, List, OnOk};
+ghost use Rattle.std.specs.Prelude.{ℕ, ◌≡◌, ◌≢◌, ◌+◌, ◌≤◌, is_some, IfErr, IfSome, List, OnOk};
 ghost use Rattle.std.specs.Option.{option_map};
 ghost use Rattle.pss_base.specs.Causes.{HasCause, HasCauseIf};
 ghost use Rattle.pss_base.specs.declared.stop.StoreStop.TheVariants as stop;
@@ -104,6 +104,7 @@ fn switch_with<W: Station>(
     ensures entered { OnOk result ((old : Old) (next : Next) → IsNextOf old next new.now pages.now → IfSome (W.content w.old) (λ before. MayFollow old next before → IfSome (W.content w.new) (IsEntered next before))) }
     ensures closed { OnOk result (IfSome (W.content w.new) (λ c. IsClosed c journal_start)) }
     ensures written { OnOk result (IfSome (W.content w.old) (λ before. IfSome (W.content w.new) (IsWritten new.now pages.now before))) }
+    ensures told { OnOk result (is_some (W.content w.new) ≡ is_some (W.content w.old)) }
     ensures settled { OnOk result (IsSettled (W.content w.new) (W.now w.new)) }
     ensures quiet { Through (W.history w.old) (W.history w.new) (IsQuiet (W.now w.old)) }
     ensures said { IsQuiet (W.now w.old) (W.now w.new) }
@@ -135,6 +136,7 @@ pub fn switch_roots<W: Station>(
     ensures placed { OnOk result ((old : Old) (next : Next) → IsNextOf old next new.now pages.now → IfSome (W.content w.old) (λ before. MayFollow old next before → IfSome (W.content w.new) (HasPages next before))) }
     ensures closed { OnOk result (IfSome (W.content w.new) (λ c. IsClosed c journal_start)) }
     ensures written { OnOk result (IfSome (W.content w.old) (λ before. IfSome (W.content w.new) (IsWritten new.now pages.now before))) }
+    ensures told { OnOk result (is_some (W.content w.new) ≡ is_some (W.content w.old)) }
     ensures settled { OnOk result (IsSettled (W.content w.new) (W.now w.new)) }
     ensures memory { IfErr result (λ why. why ≡ stop.NoMemory → OnlyReads W.now W.content W.history W.speak_faults w.old w.new) }
     ensures quiet { Through (W.history w.old) (W.history w.new) (IsQuiet (W.now w.old)) }

@@ -1,5 +1,5 @@
 -- Images of zero octets.
-use Rattle.std.proofs.Common.{ℕ, ◌≡◌, ◌≢◌, ⊎_elim, ◌+◌, ◌-◌, ◌<◌, ◌≤◌, List, [], ◌∷◌, length, get_or, slice_get, None, Some, IfSome, Result, Ok, Err, OnOk, unwrap_or, sym, ap, ◌∙◌, subst, arith}
+use Rattle.std.proofs.Common.{ℕ, ◌≡◌, ◌≢◌, ⊎_elim, ◌+◌, ◌-◌, ◌<◌, ◌≤◌, List, [], ◌∷◌, length, get_or, slice_get, None, Some, IfSome, IsSome, Result, Ok, Err, OnOk, unwrap_or, refl, sym, ap, ◌∙◌, subst, arith}
 use Rattle.std.proofs.lemmas.Bool.{cases_lt}
 use Rattle.std.proofs.lemmas.Option.{unwrap_or-slice_get}
 use Rattle.std.specs.declared.option.Option.{Option}
@@ -34,6 +34,14 @@ blank_write n at piece content e zeros b = record { count_ = long piece; zeros =
 pub blank_written : (n at : ℕ) (piece : List ℕ) (old new : Option (List ℕ)) → at ≡ n → ((i : ℕ) → i < length piece → get_or piece i 0 ≡ 0) → new ≡ option_map (write at piece) old → IfSome old (IsBlank n) → IfSome new (IsBlank (n + length piece))
 blank_written n at piece None new e zeros is b = subst (λ o. IfSome o (IsBlank (n + length piece))) (sym is) tt
 blank_written n at piece (Some content) new e zeros is b = subst (λ o. IfSome o (IsBlank (n + length piece))) (sym is) (blank_write n at piece content e zeros b)
+
+-- what is written is told where it was told before
+pub told_written : (at : ℕ) (piece : List ℕ) (old new : Option (List ℕ)) → new ≡ option_map (write at piece) old → IsSome old → IsSome new
+told_written at piece old new is some = subst IsSome (sym is) (by old some)
+  where
+    by : (o : Option (List ℕ)) → IsSome o → IsSome (option_map (write at piece) o)
+    by None some = some
+    by (Some c) some = refl
 
 -- a root is written behind its gate, and the gate opened
 pub made_of : (n : ℕ) (root content : List ℕ) → 1 + length root ≤ n → IsBlank n content → IsMade n root (write 0 (165 ∷ []) (write 1 root content))

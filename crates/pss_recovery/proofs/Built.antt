@@ -36,6 +36,7 @@ module _ (S : Schema) (root : Root) (loaded : Loaded) (content : Option (List �
     catalog = made.0;
     good = subst (IsGood S made.0) (sym built.answer) (replayed_good S has.base root.next journal.bodies made.0 replayed.next made.1 has.good);
     kept = subst (IsKept S made.0) (sym built.homes_) made.2;
+    next_ = built.next_ ∙ sym built.answer;
     whole = record {
       some = omega (arith, built.next_, some_last S has.base root.next journal.bodies made.0 replayed.next has.good made.1);
       behind = omega (arith, behind, ap (λ (p : Position). p.end) built.journal_);

@@ -170,6 +170,7 @@ module _ (S : Schema) (mounted : Mounted) (end : ℕ) (is : end ≡ mounted.stor
     catalog = has.catalog;
     good = has.good;
     kept = has.kept;
+    next_ = has.next_;
     stands = stood old has.told;
     mounted_ = by old new has.told own content (subst (λ (n : ℕ). IfSome new (λ c. IsClosed c n)) is closed);
   }

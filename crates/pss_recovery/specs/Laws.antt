@@ -3,8 +3,10 @@ use Rattle.std.specs.Prelude.{ℕ, ◌≡◌, List, ⊤}
 use Rattle.type_layout.specs.declared.schema.Schema.{Schema}
 use Rattle.pss_catalog.specs.Catalog.{Catalog, IsGood}
 use Rattle.pss_recovery.specs.Bodies.{Spells}
+use Rattle.pss_recovery.specs.Mounted.{IsMounted}
 use Rattle.pss_recovery.specs.Stands.{IsRefusal, Stands}
 use Rattle.pss_recovery.specs.declared.body.Body.{Body}
+use Rattle.pss_recovery.specs.declared.parts.Parts.{Parts}
 use Rattle.pss_recovery.specs.declared.fault.MountFault.{MountFault}
 use Rattle.pss_recovery.specs.declared.fault.MountFault.TheVariants.{NotAStore, ShapeDiffers, Damaged, DiskFault, NoMemory}
 
@@ -29,3 +31,7 @@ pub record IsImageOneThing : Type 0 where
 -- what an image stands for is a good catalog with its next serial
 abbrev pub StoresAreGood : Type 0
 StoresAreGood = (S : Schema) (M : Catalog) (next : ℕ) (image : List ℕ) → Stands S M next image → IsGood S M next
+
+-- the content of a store that is mounted stands for its catalog and its next serial
+abbrev pub MountedStands : Type 0
+MountedStands = (S : Schema) (M : Catalog) (next : ℕ) (store : Parts) (content : List ℕ) → IsMounted S M next store content → Stands S M next content

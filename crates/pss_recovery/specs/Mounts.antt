@@ -17,6 +17,7 @@ pub record HasMounted (S : Schema) (mounted : Mounted) (before after : Option (L
   pub catalog : Catalog
   pub good : IsGood S catalog mounted.next
   pub kept : IsKept S catalog mounted.homes
+  pub next_ : mounted.store.next ≡ mounted.next
   pub stands : IfSome before (Stands S catalog mounted.next)
   pub mounted_ : IfSome after (IsMounted S catalog mounted.next mounted.store)
 

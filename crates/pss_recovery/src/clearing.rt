@@ -1,5 +1,5 @@
 // A new store is written into an empty file.
-ghost use Rattle.std.specs.Prelude.{ℕ, ◌≡◌, ◌+◌, ◌*◌, ◌<◌, ◌≤◌, ◌++◌, List, length, Err, EachIndex, IfOk, IfSome, OnOk, slice_index};
+ghost use Rattle.std.specs.Prelude.{ℕ, ◌≡◌, ◌+◌, ◌*◌, ◌<◌, ◌≤◌, ◌++◌, List, length, Err, EachIndex, IfOk, IfSome, IsSome, OnOk, slice_index};
 ghost use Rattle.pss_base.specs.Causes.{HasCause, HasCauseIf};
 ghost use Rattle.pss_disk.specs.Moments.{IsSettled};
 ghost use Rattle.pss_disk.specs.Octets.{disk_end};
@@ -56,6 +56,7 @@ fn clear<W: Station>(w: &mut W, piece: &[u8], count: u32) -> Result<(), Failed>
     requires within { count * length piece.now ≤ disk_end }
     requires empty { IfSome (W.content w.old) (IsBlank 0) }
     ensures cleared { OnOk result (IfSome (W.content w.new) (IsBlank (count * length piece.now))) }
+    ensures told { OnOk result (IsSome (W.content w.old) → IsSome (W.content w.new)) }
     ensures silent { IsSilent W.now W.history W.speak_faults w.old w.new }
     ensures cause { HasCause (W.disk_faults w.old) (W.disk_faults w.new) result }
 {
@@ -74,6 +75,7 @@ fn make<W: Station>(w: &mut W, piece: &[u8], count: u32, root: &[u8]) -> Result<
     requires short { 1 + length root.now ≤ count * length piece.now }
     requires empty { IfSome (W.content w.old) (IsBlank 0) }
     ensures made { OnOk result (IfSome (W.content w.new) (IsMade (count * length piece.now) root.now)) }
+    ensures told { OnOk result (IsSome (W.content w.old) → IsSome (W.content w.new)) }
     ensures settled { OnOk result (IsSettled (W.content w.new) (W.now w.new)) }
     ensures silent { IsSilent W.now W.history W.speak_faults w.old w.new }
     ensures cause { HasCause (W.disk_faults w.old) (W.disk_faults w.new) result }
@@ -90,6 +92,7 @@ pub fn write_new<W: Station>(alloc: Global, w: &mut W, shape: &[u8]) -> Result<(
     requires short { length shape.now ≤ 65536 }
     requires empty { IfSome (W.content w.old) (λ c. length c ≡ 0) }
     ensures made { OnOk result (IfSome (W.content w.new) (IsMade journal_end (first_root shape.now))) }
+    ensures told { OnOk result (IsSome (W.content w.old) → IsSome (W.content w.new)) }
     ensures settled { OnOk result (IsSettled (W.content w.new) (W.now w.new)) }
     ensures never { result ≡ Err fault.NotEmpty → ⊥ }
     ensures silent { IsSilent W.now W.history W.speak_faults w.old w.new }

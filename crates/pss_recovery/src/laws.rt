@@ -1,5 +1,5 @@
 // What the definitions come to.
-ghost use Rattle.pss_recovery.specs.Laws.{IsImageOneThing, SpellsOneBody, StoresAreGood};
+ghost use Rattle.pss_recovery.specs.Laws.{IsImageOneThing, MountedStands, SpellsOneBody, StoresAreGood};
 
 /// Octets spell one body, or none. So what `decode_body` answers is the only answer. The function does nothing: its
 /// contract is the law.
@@ -18,4 +18,10 @@ pub fn an_image_is_one_thing()
 /// The function does nothing: its contract is the law.
 pub fn a_store_is_good()
     ensures { StoresAreGood }
+{}
+
+/// What is known in memory of a store that is mounted tells more than its content: this stands for the catalog and the next
+/// serial. The function does nothing: its contract is the law.
+pub fn a_mounted_store_stands()
+    ensures { MountedStands }
 {}

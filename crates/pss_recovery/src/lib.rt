@@ -38,7 +38,9 @@ pub use body::Body;
 pub use decoding::decode_body;
 pub use encoding::encode_body;
 pub use fault::{InitFault, MountFault};
-pub use laws::{a_body_is_one_thing, a_store_is_good, an_image_is_one_thing};
+pub use laws::{
+    a_body_is_one_thing, a_mounted_store_stands, a_store_is_good, an_image_is_one_thing,
+};
 pub use mounting::Mounted;
 pub use prepared::Prepared;
 pub use store::Store;

@@ -1,5 +1,5 @@
 // A store as a whole.
-ghost use Rattle.std.specs.Prelude.{◌≡◌, ◌<◌, ◌≤◌, Err, IfSome, OnOk, length};
+ghost use Rattle.std.specs.Prelude.{◌≡◌, ◌<◌, ◌≤◌, Err, IfSome, IsSome, OnOk, length};
 ghost use Rattle.std.specs.FinMap.{empty};
 ghost use Rattle.pss_base.specs.Causes.{HasCauseIf};
 ghost use Rattle.pss_disk.specs.Moments.{IsSettled};
@@ -52,6 +52,7 @@ impl Store {
     pub fn init<W: Station>(alloc: Global, w: &mut W, shape: &Bytes) -> Result<(), InitFault>
         requires { length shape.now ≤ 65536 }
         ensures made { OnOk result ((S : Schema) → shape_text S ≡ shape.now → IfSome (W.content w.new) (Stands S empty 1)) }
+        ensures told { OnOk result (IsSome (W.content w.old) → IsSome (W.content w.new)) }
         ensures settled { OnOk result (IsSettled (W.content w.new) (W.now w.new)) }
         ensures empty { OnOk result (IfSome (W.content w.old) (λ c. length c ≡ 0)) }
         ensures not_empty { result ≡ Err fault.NotEmpty → IfSome (W.content w.old) (λ c. 0 < length c) }

@@ -1,5 +1,5 @@
 // A store gets its next root, with the changes that were noted.
-ghost use Rattle.std.specs.Prelude.{ℕ, ◌≡◌, ◌≤◌, [], IfSome, OnOk};
+ghost use Rattle.std.specs.Prelude.{ℕ, ◌≡◌, ◌≤◌, [], is_some, IfSome, OnOk};
 ghost use Rattle.pss_base.specs.Causes.{HasCauseIf};
 ghost use Rattle.pss_disk.specs.Images.{IsQuiet};
 ghost use Rattle.pss_disk.specs.Moments.{IsSettled, Through};
@@ -33,6 +33,7 @@ impl Pages {
         ensures made { OnOk result ((old : Old) → IfSome (W.content w.old) (λ c. MayCheckpoint old self.old next c → IfSome (W.content w.new) (IsMade old self.old next self.new))) }
         ensures written { OnOk result (IfSome (W.content w.old) (λ c. IfSome (W.content w.new) (IsLaid self.old next c))) }
         ensures closed { OnOk result (IfSome (W.content w.new) (λ c. IsClosed c journal_start)) }
+        ensures told { OnOk result (is_some (W.content w.new) ≡ is_some (W.content w.old)) }
         ensures settled { OnOk result (IsSettled (W.content w.new) (W.now w.new)) }
         ensures noted { OnOk result (self.new.noted ≡ []) }
         ensures room { OnOk result (self.new.room ≡ 0) }

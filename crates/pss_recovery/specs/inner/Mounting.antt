@@ -95,6 +95,7 @@ pub record HasRead (S : Schema) (mounted : Mounted) (content : Option (List ℕ)
   pub catalog : Catalog
   pub good : IsGood S catalog mounted.next
   pub kept : IsKept S catalog mounted.homes
+  pub next_ : mounted.store.next ≡ mounted.next
   pub whole : IsWhole mounted.store
   pub told : IfSome content (IsRead S catalog mounted.next mounted.store)
 

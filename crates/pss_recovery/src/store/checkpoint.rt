@@ -1,5 +1,5 @@
 // A store gets its next root.
-ghost use Rattle.std.specs.Prelude.{ℕ, ◌≡◌, IfSome, OnOk};
+ghost use Rattle.std.specs.Prelude.{ℕ, ◌≡◌, is_some, IfSome, OnOk};
 ghost use Rattle.pss_base.specs.Causes.{HasCauseIf};
 ghost use Rattle.pss_catalog.specs.Catalog.{Catalog};
 ghost use Rattle.pss_disk.specs.Moments.{IsSettled, Through};
@@ -29,6 +29,7 @@ impl Store {
         ensures empty { OnOk result (IfSome (W.content w.new) HasNoRecord) }
         ensures start { OnOk result (self.new.journal.end ≡ journal_start) }
         ensures next { OnOk result (self.new.next ≡ self.old.next) }
+        ensures told { OnOk result (is_some (W.content w.new) ≡ is_some (W.content w.old)) }
         ensures settled { OnOk result (IsSettled (W.content w.new) (W.now w.new)) }
         ensures silent { IsSilent W.now W.history W.speak_faults w.old w.new }
         ensures cause { HasCauseIf (W.disk_faults w.old) (W.disk_faults w.new) (is_disk_stop result) }

@@ -1,5 +1,5 @@
 // Room is made for a body.
-ghost use Rattle.std.specs.Prelude.{ℕ, ◌≡◌, ◌≤◌, false, List, IfOk, IfSome, OnOk, length};
+ghost use Rattle.std.specs.Prelude.{ℕ, ◌≡◌, ◌≤◌, false, is_some, List, IfOk, IfSome, OnOk, length};
 ghost use Rattle.pss_base.specs.Causes.{HasCauseIf};
 ghost use Rattle.pss_catalog.specs.Catalog.{Catalog};
 ghost use Rattle.pss_disk.specs.Moments.{IsSettled, Through};
@@ -36,6 +36,7 @@ impl Store {
         ensures still { Fits self.old.journal.end (length (body_octets body)) → (W.content w.new ≡ W.content w.old) × (W.now w.new ≡ W.now w.old) }
         ensures same { Fits self.old.journal.end (length (body_octets body)) → (S : Schema) (M : Catalog) (next : ℕ) (content : List ℕ) → IsMounted S M next self.old content → IsMounted S M next self.new content }
         ensures checkpoint { (Fits self.old.journal.end (length (body_octets body)) → ⊥) → OnOk result (self.new.journal.end ≡ journal_start) }
+        ensures told { OnOk result (is_some (W.content w.new) ≡ is_some (W.content w.old)) }
         ensures settled { OnOk result (IsSettled (W.content w.new) (W.now w.new)) }
         ensures silent { IsSilent W.now W.history W.speak_faults w.old w.new }
         ensures cause { HasCauseIf (W.disk_faults w.old) (W.disk_faults w.new) (is_disk_stop result) }
@@ -68,6 +69,7 @@ impl Store {
         ensures still { Fits self.old.journal.end len → w.new ≡ w.old }
         ensures same { Fits self.old.journal.end len → (S : Schema) (M : Catalog) (next : ℕ) (content : List ℕ) → IsMounted S M next self.old content → IsMounted S M next self.new content }
         ensures checkpoint { (Fits self.old.journal.end len → ⊥) → OnOk result (self.new.journal.end ≡ journal_start) }
+        ensures told { OnOk result (is_some (W.content w.new) ≡ is_some (W.content w.old)) }
         ensures settled { OnOk result (IsSettled (W.content w.new) (W.now w.new)) }
         ensures silent { IsSilent W.now W.history W.speak_faults w.old w.new }
         ensures cause { HasCauseIf (W.disk_faults w.old) (W.disk_faults w.new) (is_disk_stop result) }
@@ -103,6 +105,7 @@ impl Store {
         ensures still { Fits self.old.journal.end len → w.new ≡ w.old }
         ensures same { Fits self.old.journal.end len → self.new ≡ self.old }
         ensures checkpoint { (Fits self.old.journal.end len → ⊥) → OnOk result (self.new.journal.end ≡ journal_start) }
+        ensures told { OnOk result (is_some (W.content w.new) ≡ is_some (W.content w.old)) }
         ensures settled { OnOk result (IsSettled (W.content w.new) (W.now w.new)) }
         ensures silent { IsSilent W.now W.history W.speak_faults w.old w.new }
         ensures cause { HasCauseIf (W.disk_faults w.old) (W.disk_faults w.new) (is_disk_stop result) }

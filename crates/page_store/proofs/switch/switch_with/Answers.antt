@@ -1,11 +1,11 @@
-use Rattle.std.proofs.Common.{ap}
+use Rattle.std.proofs.Common.{ap, ◌∙◌}
 use Rattle.page_store.specs.Stores.{AllHave}
 use Rattle.page_store.specs.Switch.{IsEither}
 use Rattle.page_format.specs.declared.root.Root.{Root}
 use Rattle.page_store.proofs.Entering.{entered_from, old_is_either, quiet_on, ready_now}
 use Rattle.pss_disk.specs.Images.{IsQuiet}
 use Rattle.pss_disk.proofs.Passing.{then_come}
-use Rattle.page_store.proofs.Elsewhere.{then_written}
+use Rattle.page_store.proofs.Elsewhere.{then_written, told_on}
 use Rattle.page_store.proofs.switch.switch_with.Goals as goal
 
 pub returns-in_err-prepare_root-clause-stores : goal.returns-in_err-prepare_root-clause-stores
@@ -44,3 +44,8 @@ returns-clause-quiet g c =
 pub returns-clause-written : goal.returns-clause-written
 returns-clause-written g c =
     then_written c.args.new.now c.args.pages.now (g.W.Station.content c.args.w.now) (g.W.Station.content c.prepare_root.new.w) (g.W.Station.content c.enter_root.new.w) c.in_ok-prepare_root.ensures.laid c.in_ok-enter_root.ensures.kept
+
+pub returns-clause-told : goal.returns-clause-told
+returns-clause-told g c =
+    told_on _ _ (g.W.Station.content c.prepare_root.new.w) (g.W.Station.content c.enter_root.new.w) c.in_ok-enter_root.ensures.kept
+    ∙ told_on _ _ (g.W.Station.content c.args.w.now) (g.W.Station.content c.prepare_root.new.w) c.in_ok-prepare_root.ensures.laid

@@ -1,7 +1,7 @@
-use Rattle.std.proofs.Common.{◌*◌, length, inr, ◌∙◌}
+use Rattle.std.proofs.Common.{◌*◌, [], ◌∷◌, length, IsSome, inr, sym, ◌∙◌, subst}
 use Rattle.pss_disk.specs.Octets.{range_of}
 use Rattle.pss_disk.proofs.Images.{synced_settled}
-use Rattle.pss_recovery.proofs.Blank.{made_written}
+use Rattle.pss_recovery.proofs.Blank.{made_written, told_written}
 use Rattle.pss_recovery.proofs.Silent.{silent_sync, silent_then, silent_write}
 use Rattle.pss_recovery.proofs.clearing.make.Goals as goal
 
@@ -53,3 +53,8 @@ pub returns-clause-made : goal.returns-clause-made
 returns-clause-made g c =
     made_written (c.args.count * length c.args.piece.now) c.args.root.now (g.W.Station.content c.clear.new.w) (g.W.Station.content c.sync.new.self) (g.W.Station.content c.set_gate.new.station) c.requires.short
     (c.sync.ensures.content ∙ c.in_ok-write_at.ensures.written) c.in_ok-set_gate.ensures.content c.in_ok-clear.ensures.cleared
+
+pub returns-clause-told : goal.returns-clause-told
+returns-clause-told g c = λ some.
+    told_written 0 (165 ∷ []) (g.W.Station.content c.sync.new.self) (g.W.Station.content c.set_gate.new.station) c.in_ok-set_gate.ensures.content
+    (subst IsSome (sym c.sync.ensures.content) (told_written 1 c.args.root.now (g.W.Station.content c.clear.new.w) (g.W.Station.content c.write_at.new.self) c.in_ok-write_at.ensures.written (c.in_ok-clear.ensures.told some)))

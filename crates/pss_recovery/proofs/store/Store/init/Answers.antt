@@ -1,4 +1,5 @@
-use Rattle.std.proofs.Common.{ℕ, ◌≤◌, List, length, ◌∙◌, subst, sym}
+use Rattle.std.proofs.Common.{ℕ, ◌≤◌, List, length, Option, IsSome, ◌∙◌, subst, sym}
+use Rattle.std.specs.Prelude.{OnOk}
 use Rattle.pss_recovery.specs.inner.Blanks.{IsMade, first_root}
 use Rattle.pss_recovery.proofs.Blank.{made_stands}
 use Rattle.pss_recovery.proofs.NewStore.{new_store}
@@ -20,3 +21,6 @@ returns-in-Ok-clause-silent g c = silent_still g.W.Station.now g.W.Station.histo
 
 pub returns-in-Err-clause-silent : goal.returns-in-Err-clause-silent
 returns-in-Err-clause-silent g c = silent_still g.W.Station.now g.W.Station.history g.W.Station.speak_faults c.args.w.now c.len.new.self c.len.ensures.time c.len.ensures.now c.len.ensures.other
+
+pub returns-in-Ok-eq0-clause-told : goal.returns-in-Ok-eq0-clause-told
+returns-in-Ok-eq0-clause-told g c = subst (λ (o : Option (List ℕ)). OnOk c.write_new.result (IsSome o → IsSome (g.W.Station.content c.write_new.new.w))) c.len.ensures.content c.write_new.ensures.told

@@ -1,0 +1,45 @@
+-- What is spoken of a store that is refused.
+use Rattle.std.specs.Prelude.{ℕ, List, [], ◌∷◌, ◌++◌, codes, decimal, length, ◌<◌, None, Some, IfSome}
+use Rattle.std.specs.declared.option.Option.{Option}
+use Rattle.pss_base.specs.declared.damage.DamageKind.{DamageKind}
+use Rattle.pss_base.specs.declared.damage.DamageKind.TheVariants as kind
+use Rattle.pss_recovery.specs.declared.fault.MountFault.{MountFault}
+use Rattle.pss_recovery.specs.declared.fault.MountFault.TheVariants.{NotAStore, ShapeDiffers, Damaged, DiskFault, NoMemory}
+
+-- the name of a kind of damage
+abbrev pub kind_text : DamageKind → List ℕ
+kind_text kind.Root = codes "Root"
+kind_text kind.Page = codes "Page"
+kind_text kind.Entry = codes "Entry"
+kind_text kind.Serial = codes "Serial"
+kind_text kind.Record = codes "Record"
+kind_text kind.Ref = codes "Ref"
+kind_text kind.Key = codes "Key"
+kind_text kind.Packing = codes "Packing"
+kind_text kind.Total = codes "Total"
+kind_text kind.Journal = codes "Journal"
+kind_text kind.Change = codes "Change"
+
+-- a store is to be made in a file that has octets
+abbrev pub not_empty_line : List ℕ
+not_empty_line = codes "store NotEmpty" ++ 10 ∷ []
+
+-- the file has octets
+abbrev pub IsFilled : Option (List ℕ) → Type 0
+IsFilled held = IfSome held (λ octets. 0 < length octets)
+
+-- the shape of the store is not that of the schema, first at this home
+abbrev pub shape_line : ℕ → List ℕ
+shape_line home = codes "store ShapeDiffers " ++ decimal home ++ 10 ∷ []
+
+-- this is wrong at this place of the file
+abbrev pub damaged_line : ℕ → DamageKind → List ℕ
+damaged_line at k = codes "store Damaged " ++ decimal at ++ codes " " ++ kind_text k ++ 10 ∷ []
+
+-- the line of a store that is not mounted; none where the disk failed or memory was wanting
+abbrev pub refusal_of : MountFault → Option (List ℕ)
+refusal_of NotAStore = Some (codes "store NotAStore" ++ 10 ∷ [])
+refusal_of (ShapeDiffers home) = Some (shape_line home.0)
+refusal_of (Damaged at k) = Some (damaged_line at k)
+refusal_of DiskFault = None
+refusal_of NoMemory = None

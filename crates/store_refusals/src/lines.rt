@@ -1,0 +1,76 @@
+// The line that is spoken of a store that is refused.
+ghost use Rattle.std.specs.Prelude.{◌≡◌, ◌++◌, codes, decimal, IfOk, OnOk};
+ghost use Rattle.store_refusals.specs.Lines.{damaged_line, kind_text, refusal_of, shape_line};
+
+use itoa::Buffer;
+use pss_base::{Bytes, DamageKind, NoMemory};
+use pss_recovery::MountFault;
+use std::alloc::Global;
+use type_layout::HomeNo;
+
+/// What is spoken where a store is to be made in a file that has octets.
+pub const NOT_EMPTY: &[u8] = b"store NotEmpty\n";
+
+const NOT_A_STORE: &[u8] = b"store NotAStore\n";
+
+fn append_kind(line: &mut Bytes, kind: DamageKind) -> Result<(), NoMemory>
+    ensures { OnOk result (line.new ≡ line.old ++ kind_text kind) }
+{
+    match kind {
+        DamageKind::Root => line.extend(b"Root"),
+        DamageKind::Page => line.extend(b"Page"),
+        DamageKind::Entry => line.extend(b"Entry"),
+        DamageKind::Serial => line.extend(b"Serial"),
+        DamageKind::Record => line.extend(b"Record"),
+        DamageKind::Ref => line.extend(b"Ref"),
+        DamageKind::Key => line.extend(b"Key"),
+        DamageKind::Packing => line.extend(b"Packing"),
+        DamageKind::Total => line.extend(b"Total"),
+        DamageKind::Journal => line.extend(b"Journal"),
+        DamageKind::Change => line.extend(b"Change"),
+    }
+}
+
+// A text as a line of its own.
+fn line_of(alloc: Global, text: &[u8]) -> Result<Bytes, NoMemory>
+    ensures { IfOk result (λ line. line ≡ text.now) }
+{
+    let mut line = Bytes::new(alloc);
+    line.extend(text)?;
+    Ok(line)
+}
+
+fn print_shape(alloc: Global, home: HomeNo) -> Result<Bytes, NoMemory>
+    ensures { IfOk result (λ line. line ≡ shape_line home.0) }
+{
+    let mut line = line_of(alloc, b"store ShapeDiffers ")?;
+    line.extend(Buffer::new().format(home.0).as_bytes())?;
+    line.push(b'\n')?;
+    Ok(line)
+}
+
+fn print_damage(alloc: Global, at: u64, kind: DamageKind) -> Result<Bytes, NoMemory>
+    ensures { IfOk result (λ line. line ≡ damaged_line at kind) }
+{
+    let mut line = line_of(alloc, b"store Damaged ")?;
+    line.extend(Buffer::new().format(at).as_bytes())?;
+    line.push(b' ')?;
+    append_kind(&mut line, kind)?;
+    line.push(b'\n')?;
+    Ok(line)
+}
+
+/// The line that is spoken of a store that is not mounted, with its line feed: `store NotAStore`, `store ShapeDiffers HOME` or
+/// `store Damaged AT KIND`. None where it is not the store that is at fault: the disk failed, or there was no memory.
+pub fn print_refusal(alloc: Global, fault: MountFault) -> Result<Option<Bytes>, NoMemory>
+    ensures { IfOk result (λ line. line ≡ refusal_of fault) }
+{
+    let line = match fault {
+        MountFault::NotAStore => line_of(alloc, NOT_A_STORE)?,
+        MountFault::ShapeDiffers(home) => print_shape(alloc, home)?,
+        MountFault::Damaged(at, kind) => print_damage(alloc, at, kind)?,
+        MountFault::DiskFault => return Ok(None),
+        MountFault::NoMemory => return Ok(None),
+    };
+    Ok(Some(line))
+}

@@ -1,4 +1,5 @@
-"""Scripts up to the greatest numbers that are served. A case is its name, the schema's text, the lines of the script, and the replies."""
+"""Scripts up to the greatest numbers that are served. A case is its name, the schema's text, the lines of the script and the replies, and those of a
+second run over the store, or none."""
 
 CELLS = b"storagetype Cell{state long v;};storagehome Cells of Cell{};"
 KEYED = b"storagetype Cell{state long v;};storagehome Cells of Cell{key v;};"
@@ -11,6 +12,7 @@ MOST_SESSIONS = 64
 MOST_TRANSACTIONS = 64
 MOST_CHANGES = 256
 MOST_ENTRIES = 65535
+MOST_KEYS = 204800
 LONGEST_LINE = 65536
 MOST_OCTETS = 67108864
 # A record of 8,000 octets: one in front, three to the next place of four, a length of four, the letters and a zero octet.
@@ -97,16 +99,26 @@ def lines():
 
 
 def keys():
-    """A look-up by key among many objects, each made with a key of its own."""
-    most = 204800
+    """A look-up by key among many objects, each made with a key of its own, with a checkpoint on the way."""
     yield OPENED
-    for n in range(1, most + 1):
+    for n in range(1, MOST_KEYS + 1):
         yield created("Cells", n, n)
         if n % MOST_CHANGES == 0:
             yield "freeall s1", "OK"
             yield FLUSHED
-    yield "count s1 Cells", f"OK {most}"
-    yield f"find s1 Cells v {most}", f"OK i{most + 1} {pid(most)}"
+        if n == MOST_KEYS // 2:
+            yield "checkpoint", "OK"
+    yield "count s1 Cells", f"OK {MOST_KEYS}"
+    yield f"find s1 Cells v {MOST_KEYS}", f"OK i{MOST_KEYS + 1} {pid(MOST_KEYS)}"
+    yield "create s1 Cells 1", "DUPLICATE v"
+
+
+def keys_again():
+    """Each object is found by its key."""
+    yield OPENED
+    yield "count s1 Cells", f"OK {MOST_KEYS}"
+    for n in range(1, MOST_KEYS + 1):
+        yield f"findref s1 Cells v {n}", f"OK {pid(n)}"
     yield "create s1 Cells 1", "DUPLICATE v"
 
 
@@ -136,18 +148,36 @@ def octets():
     yield "count s1 Notes", f"OK {whole + 1}"
 
 
+def octets_again():
+    """The store is as full as before."""
+    whole = MOST_OCTETS // 8016
+    yield OPENED
+    yield "count s1 Notes", f"OK {whole + 1}"
+    yield 'create s1 Notes ""', f"OK i1 {pid(whole + 3)}"
+    yield "flush s1", "FULL"
+    yield "destroy s1 i1", "OK"
+    yield f"pid s1 {pid(1)}", f"OK i2 {pid(1)}"
+    yield "destroy s1 i2", "OK"
+    yield FLUSHED
+    yield "count s1 Notes", f"OK {whole}"
+
+
 CASES = [
-    ("64 sessions", CELLS, sessions),
-    ("64 transactions", CELLS, transactions),
-    ("256 changes", CELLS, changes),
-    ("65,535 entries", CELLS, entries),
-    ("lines of 65,536 bytes", CELLS, lines),
-    ("204,800 keys", KEYED, keys),
-    ("67,108,864 octets", NOTES, octets),
+    ("64 sessions", CELLS, sessions, None),
+    ("64 transactions", CELLS, transactions, None),
+    ("256 changes", CELLS, changes, None),
+    ("65,535 entries", CELLS, entries, None),
+    ("lines of 65,536 bytes", CELLS, lines, None),
+    ("204,800 keys", KEYED, keys, keys_again),
+    ("67,108,864 octets", NOTES, octets, octets_again),
 ]
 
 
+def texts(of):
+    """A script and its replies."""
+    return tuple("".join(f"{line}\n" for line in part).encode() for part in zip(*of()))
+
+
 def cases():
-    for name, schema, of in CASES:
-        script, replies = zip(*of())
-        yield name, schema, "".join(f"{line}\n" for line in script).encode(), "".join(f"{reply}\n" for reply in replies).encode()
+    for name, schema, of, again in CASES:
+        yield name, schema, texts(of), again and texts(again)

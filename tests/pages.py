@@ -184,7 +184,7 @@ def try_page(folder, path):
         blocks = BLOCK.findall(text)
     else:
         # A page of the manual: each of its examples is of a console.
-        blocks = [("console", block.replace("\\-", "-").replace("\\&", "")) for block in EXAMPLE.findall(text)]
+        blocks = [("console", block.replace("\\-", "-").replace("\\&", "").replace("\\e", "\\")) for block in EXAMPLE.findall(text)]
     for words, block in blocks:
         kind, _, name = words.partition(" ")
         if kind in NOT_TRIED:
@@ -200,11 +200,14 @@ def try_page(folder, path):
 
 
 def pages(folder):
-    for name, to in [("pssd", program), ("examples", examples)]:
-        os.symlink(os.path.abspath(to), os.path.join(folder, name))
+    """Each page has a folder of its own, in which the stores of its examples stay from one block to the next."""
     found = glob.glob(os.path.join(top, "*.md")) + glob.glob(os.path.join(top, "docs", "*"))
     for path in each("the pages", sorted(found)):
-        try_page(folder, path)
+        own = os.path.join(folder, os.path.basename(path))
+        os.mkdir(own)
+        for name, to in [("pssd", program), ("examples", examples)]:
+            os.symlink(os.path.abspath(to), os.path.join(own, name))
+        try_page(own, path)
 
 
 # ---- what the pages say of the crates
@@ -247,8 +250,7 @@ def tables(_):
     sentence = re.search(r"The program does not run ([^.]*)\.", text)
     seen = re.findall(r"`(\w+)`", sentence[1]) if sentence else []
     programs = {name for name in names if os.path.exists(os.path.join(top, "crates", name, "src", "main.rt"))}
-    # `pss_daemon` hands on what reads commands and prints replies, and the program runs neither yet.
-    run = below("pss_serving", dict(crates)) | {"pss_daemon"} | programs
+    run = below("pssd", dict(crates)) | programs
     tell("README.md has the crates that the program does not run", seen == [name for name in names if name not in run], seen)
     for folder, pattern in [("crates/NAME/must-fail/", "crates/*/must-fail/*.edit"), ("tests/edits/NAME/", "tests/edits/*/*.edit")]:
         row = re.search(rf"^\| `{folder}` \|[^|]*\| ([^|]*) \|$", text, re.M)

@@ -2,9 +2,8 @@
 import os
 import threading
 
-from running import USAGE, contents, cells, ended, examples, program, shortened, tell
+from running import USAGE, contents, cells, ended, examples, fresh, program, shortened, tell, written
 
-NOT_BUILT = b"not built\n"
 CELLS = b"storagetype Cell{state long v;};storagehome Cells of Cell{};"
 FIRST = b"open s1 basic rw\ncreate s1 Cells 7\nget s1 i1 v\n"
 REPLIES = b"OK\nOK i1 000000010000000000000001\nOK 7\n"
@@ -37,19 +36,23 @@ def expect_in(folder, words, status, spoken):
 
 
 def plans(folder):
-    """Each form, the places of the names in it, and words of no form. No file of the name of a store is there."""
+    """Each form, the places of the names in it, and words of no form."""
     for name in ("a.psdl", "check"):
         with open(os.path.join(folder, name), "wb") as file:
             file.write(contents(cells))
     checked = contents(os.path.join(examples, "cells.checked"))
     expect_in(folder, ["check", "a.psdl"], 0, checked)
     expect_in(folder, ["check", "check"], 0, checked)
+    expect_in(folder, ["run", "a.psdl", "a.store"], 6, b"")
+    expect_in(folder, ["init", "a.psdl", "a.store"], 0, b"")
     expect_in(folder, ["run", "a.psdl", "a.store"], 0, b"")
-    expect_in(folder, ["run", "a.store", "a.psdl"], 5, b"")
+    expect_in(folder, ["run", "a.store", "a.psdl"], 2, b"schema 3:1048516 S8 TooLong\n")
+    expect_in(folder, ["run", "none.psdl", "a.store"], 5, b"")
     expect_in(folder, ["run", "", ""], 5, b"")
-    expect_in(folder, ["init", "a.psdl", "a.store"], 9, NOT_BUILT)
-    for rounds in ("1", "10", "999", "1000"):
-        expect_in(folder, ["demo", rounds, "a.store"], 9, NOT_BUILT)
+    for rounds in (1, 2, 49, 50, 999, 1000):
+        replies = 9 * rounds + rounds // 50
+        expect_in(folder, ["demo", f"{rounds}", f"{rounds}.store"], 0, b"demo rounds %d replies %d ok %d count %d\n" % (rounds, replies, replies, rounds))
+        expect_in(folder, ["demo", f"{rounds}", f"{rounds}.store"], 3, b"store NotEmpty\n")
     for none in NONE:
         expect_in(folder, none, 1, USAGE)
 
@@ -91,7 +94,9 @@ def pieces(folder):
     """Whatever the pieces, a text is answered as when it comes as a whole."""
     checked = {CELLS: contents(os.path.join(examples, "cells.checked")), b"storagetype Cell {};": b"storagetype Cell {\n};\n--\n"}
     for text, status, spoken in PIECES:
+        store = os.path.join(folder, "cells.store")
         for size in (1, 2, 3, 7):
-            expect_through_pipe(folder, ["run", None, "cells.store"], text, size, status, spoken)
+            fresh(["run", written(folder, text), store])
+            expect_through_pipe(folder, ["run", None, store], text, size, status, spoken)
             check = (0, checked[text]) if text in checked else (status, spoken)
             expect_through_pipe(folder, ["check", None], text, size, *check)

@@ -80,9 +80,19 @@ def shortened(run):
     return status, spoken[-200:], complaint[-200:]
 
 
+def fresh(words):
+    """The words of a call; where they serve a script, once a new store was made. For a text that is refused there is none."""
+    if words[:1] == ["run"] and len(words) == 3:
+        schema, store = words[1:]
+        if os.path.exists(store):
+            os.unlink(store)
+        ended([program, "init", schema, store])
+    return words
+
+
 def expect(name, words, script, status, spoken):
-    """A run of the program over a script that is there as a whole."""
-    run = ended([program] + words, script)
+    """A run of the program over a script that is there as a whole, and over a new store."""
+    run = ended([program] + fresh(words), script)
     tell(name, run == (status, spoken, b""), shortened(run))
 
 

@@ -3,7 +3,7 @@ import itertools
 import os
 import re
 
-from running import USAGE, cells, contents, dialogue, each, ended, examples, program, shortened, tell
+from running import USAGE, cells, contents, dialogue, each, ended, examples, fresh, program, shortened, tell
 
 
 def is_answered(line):
@@ -18,7 +18,7 @@ def is_answered(line):
 
 def converse(name, words, script, spoken):
     """Writes a script line by line, each once the reply to the line in front of it was read."""
-    talk, why = dialogue(words)
+    talk, why = dialogue(fresh(words))
     if not talk:
         return tell(name, False, why)
     heard, reply = b"", b"-"
@@ -34,7 +34,7 @@ def converse(name, words, script, spoken):
 
 def exchange(name, words, parts):
     """Writes parts of a script. Each stands beside the replies that come before any more is written."""
-    talk, why = dialogue(words)
+    talk, why = dialogue(fresh(words))
     if not talk:
         return tell(name, False, why)
     heard = []
@@ -67,7 +67,7 @@ def exchanges(words):
 
 SCRIPT = b"open s basic rw\ncreate s Cells 7\nget s i1 v\n"
 REPLIES = b"OK\nOK i1 000000010000000000000001\nOK 7\n"
-STORE = b"what stood in the store\n"
+SHOWN = b"demo rounds 3 replies 27 ok 27 count 3\n"
 CLOSED = {0: "<&-", 1: ">&-", 2: "2>&-"}
 OPEN = {0: "<script", 1: ">spoken", 2: "2>complaint"}
 
@@ -88,7 +88,8 @@ def run_closed(folder, name, words, closed, status, spoken, script=SCRIPT):
 
 
 def run_each(folder, closed, checked):
-    """A run without standard input cannot read its script (5), one without standard output cannot speak (7)."""
+    """A run without standard input cannot read its script (5), one without standard output cannot speak (7). The store is as it was: no line
+    of the script commits."""
     run = ["run", "cells.psdl", "store"]
     reads, speaks = 0 not in closed, 1 not in closed
     run_closed(folder, "run", run, closed, *((5, b"") if not reads else (0, REPLIES) if speaks else (7, b"")))
@@ -98,14 +99,30 @@ def run_each(folder, closed, checked):
     run_closed(folder, "no schema file", ["run", "missing.psdl", "store"], closed, 5, b"")
 
 
+def make_each(folder, closed):
+    """A store is made whatever is closed, and has no octet of what is spoken; so is that of a demonstration."""
+    made = os.path.join(folder, "made")
+    run_closed(folder, "init", ["init", "cells.psdl", "made"], closed, 0, b"")
+    store = contents(made)
+    run_closed(folder, "init of a store", ["init", "cells.psdl", "made"], closed, *((3, b"store NotEmpty\n") if 1 not in closed else (7, b"")))
+    tell(f"made with {closed} closed", (len(store), contents(made)) == (4456448, store), len(store))
+    os.unlink(made)
+    run_closed(folder, "demo", ["demo", "3", "made"], closed, *((0, SHOWN) if 1 not in closed else (7, b"")))
+    tell(f"shown with {closed} closed", contents(made) == contents(os.path.join(folder, "shown")), "another store")
+    os.unlink(made)
+
+
 def closed_descriptors(folder):
     """Each descriptor alone, two of them, and all. No file that a run opens gets what it speaks."""
     put(folder, "cells.psdl", contents(cells))
-    put(folder, "store", STORE)
+    ended([program, "init", "cells.psdl", "store"], cwd=folder)
+    ended([program, "demo", "3", "shown"], cwd=folder)
+    store = contents(os.path.join(folder, "store"))
     checked = contents(os.path.join(examples, "cells.checked"))
     for size in (1, 2, 3):
         for closed in itertools.combinations((0, 1, 2), size):
             run_each(folder, closed, checked)
-    for name, before in [("cells.psdl", contents(cells)), ("store", STORE)]:
+            make_each(folder, closed)
+    for name, before in [("cells.psdl", contents(cells)), ("store", store)]:
         after = contents(os.path.join(folder, name))
         tell(f"{name} behind runs with closed descriptors", after == before, after[:200])

@@ -35,7 +35,7 @@ use Rattle.commit_calls.specs.Commits.{MayFlush, Follows}
 
 -- ---- full, or not
 
-unless_is : (S : Schema) (limits : Limits) (k : Kept) (n : OwnerNo) (owner : Owner) (e : Effect) (b : Bool) → get k.owners n.0 ≡ Some owner → is_over_full S limits k.catalog owner ≡ b → unless_full S limits k n e ≡ (if b then says reply.Full else does e reply.Done)
+pub unless_is : (S : Schema) (limits : Limits) (k : Kept) (n : OwnerNo) (owner : Owner) (e : Effect) (b : Bool) → get k.owners n.0 ≡ Some owner → is_over_full S limits k.catalog owner ≡ b → unless_full S limits k n e ≡ (if b then says reply.Full else does e reply.Done)
 unless_is S limits k n owner e b there is =
     ap (λ (o : Option Owner). given o (says reply.Done) (λ owner. if is_over_full S limits k.catalog owner then says reply.Full else does e reply.Done)) there
     ∙ ap (λ (b : Bool). if b then says reply.Full else does e reply.Done) is
@@ -119,12 +119,14 @@ module _ (c : Parts) (k : Kept) (at : IsAt c k) (name : List ℕ) where
     pub committing_is : decision c.schema c.limits k (command.Commit name) ≡ committing c.schema c.limits k n
     committing_is = for_found k name n named (committing c.schema c.limits k)
 
-    pub still_open : (session : Session) → first_open k.sessions n ≡ Some session → Comes c k (command.Commit name) (reply.StillOpen session.name) c
-    still_open session opened =
-        only_told c k at (command.Commit name) (reply.StillOpen session.name)
-        (committing_is ∙ ap (λ (o : Option Session). given o (if is_marked k n then does (RollsBack n) reply.RolledBack else unless_full c.schema c.limits k n (Commits n)) (λ session. says (reply.StillOpen session.name))) opened)
+    pub open_is : (session : Session) → first_open k.sessions n ≡ Some session → decision c.schema c.limits k (command.Commit name) ≡ says (reply.StillOpen session.name)
+    open_is session opened =
+        committing_is ∙ ap (λ (o : Option Session). given o (if is_marked k n then does (RollsBack n) reply.RolledBack else unless_full c.schema c.limits k n (Commits n)) (λ session. says (reply.StillOpen session.name))) opened
 
-    closed_is : first_open k.sessions n ≡ None → (b : Bool) → is_marked k n ≡ b → decision c.schema c.limits k (command.Commit name) ≡ (if b then does (RollsBack n) reply.RolledBack else unless_full c.schema c.limits k n (Commits n))
+    pub still_open : (session : Session) → first_open k.sessions n ≡ Some session → Comes c k (command.Commit name) (reply.StillOpen session.name) c
+    still_open session opened = only_told c k at (command.Commit name) (reply.StillOpen session.name) (open_is session opened)
+
+    pub closed_is : first_open k.sessions n ≡ None → (b : Bool) → is_marked k n ≡ b → decision c.schema c.limits k (command.Commit name) ≡ (if b then does (RollsBack n) reply.RolledBack else unless_full c.schema c.limits k n (Commits n))
     closed_is closed b is =
         committing_is
         ∙ ap (λ (o : Option Session). given o (if is_marked k n then does (RollsBack n) reply.RolledBack else unless_full c.schema c.limits k n (Commits n)) (λ session. says (reply.StillOpen session.name))) closed
@@ -133,16 +135,12 @@ module _ (c : Parts) (k : Kept) (at : IsAt c k) (name : List ℕ) where
     pub rolled_back : (d : Parts) → StayAs c d → first_open k.sessions n ≡ None → is_marked k n ≡ true → Stands d (without_transaction_of k n) → Comes c k (command.Commit name) reply.RolledBack d
     rolled_back d stay closed marked stands = comes c d k (command.Commit name) (RollsBack n) reply.RolledBack (closed_is closed true marked) stay stands
 
-    pub committed : (d : Parts) (r : Reply) → first_open k.sessions n ≡ None → is_marked k n ≡ false → Follows c k (unless_full c.schema c.limits k n (Commits n)) r d → Comes c k (command.Commit name) r d
-    committed d r closed marked f = follows_comes c d k (command.Commit name) (unless_full c.schema c.limits k n (Commits n)) r (closed_is closed false marked) f
-
   module _ (found : Found) (is : IsFound k name found) where
     pub flush_of_other : found.kind ≡ Transactional → Comes c k (command.Flush name) reply.Kind c
     flush_of_other kind = only_told c k at (command.Flush name) reply.Kind (in_state k name found is (λ s session. flushing c.schema c.limits k session) Transactional found.association kind refl)
 
-    pub flush_of_basic : (n : OwnerNo) (d : Parts) (r : Reply) → found.kind ≡ Basic n → Follows c k (unless_full c.schema c.limits k n (Flushes n)) r d → Comes c k (command.Flush name) r d
-    flush_of_basic n d r kind f =
-        follows_comes c d k (command.Flush name) (unless_full c.schema c.limits k n (Flushes n)) r (in_state k name found is (λ s session. flushing c.schema c.limits k session) (Basic n) found.association kind refl) f
+    pub basic_is : (n : OwnerNo) → found.kind ≡ Basic n → decision c.schema c.limits k (command.Flush name) ≡ unless_full c.schema c.limits k n (Flushes n)
+    basic_is n kind = in_state k name found is (λ s session. flushing c.schema c.limits k session) (Basic n) found.association kind refl
 
     pub may_flush : (n : OwnerNo) → found.kind ≡ Basic n → MayFlush k found.number n
     may_flush n kind = record { own = own_at c k at; session = is.session; there = is.there; kind = sym is.kind_is ∙ kind }

@@ -1,5 +1,5 @@
 -- Commits, and what comes of them.
-use Rattle.std.specs.Prelude.{◌≡◌, ◌<◌, ◌-◌, ◌^◌, Some, None, true}
+use Rattle.std.specs.Prelude.{◌≡◌, ◌<◌, ◌≤◌, ◌-◌, ◌^◌, Some, None, true}
 use Rattle.std.specs.FinMap.{get}
 use Rattle.pss_base.specs.declared.owner.OwnerNo.{OwnerNo}
 use Rattle.pss_base.specs.declared.session.SessionNo.{SessionNo}
@@ -9,6 +9,7 @@ use Rattle.pss_machine.specs.Sessions.{Session, first_open}
 use Rattle.pss_machine.specs.Kept.{Kept, is_transaction}
 use Rattle.pss_machine.specs.Effects.{Decision}
 use Rattle.pss_machine.specs.Moving.{moved}
+use Rattle.pss_recovery.specs.declared.parts.Parts.{Parts as Store}
 use Rattle.pss_copies.specs.Ruled.{AreOwned}
 use Rattle.connector_parts.specs.declared.parts.Parts.{Parts}
 use Rattle.connector_parts.specs.Stands.{Stands, StayAs}
@@ -45,3 +46,7 @@ pub record Follows (old : Parts) (k : Kept) (d : Decision) (reply : Reply) (new 
   pub reply_is : reply ≡ d.reply
   pub stay : StayAs old new
   pub stands : Stands new (moved k d.effect)
+
+-- the store has no next serial that was not given
+abbrev pub IsBehind : Parts → Store → Type 0
+IsBehind parts store = store.next ≤ parts.accounts.next

@@ -1,19 +1,28 @@
 // Transactions commit.
-ghost use Rattle.std.specs.Prelude.{◌≡◌, IfOk};
+ghost use Rattle.std.specs.Prelude.{◌≡◌, IfErr, IfOk, OnOk};
+ghost use Rattle.pss_base.specs.Causes.{HasCauseIf};
+ghost use Rattle.pss_base.specs.declared.stop.StoreStop.TheVariants as stop;
+ghost use Rattle.pss_disk.specs.Moments.{IsSettled};
+ghost use Rattle.page_format.specs.Faults.{is_disk_stop};
 ghost use Rattle.pss_machine.specs.declared.command.Command.TheVariants as command;
 ghost use Rattle.pss_machine.specs.declared.reply.Reply.TheVariants as reply;
 ghost use Rattle.pss_machine.specs.Kept.{Kept};
-ghost use Rattle.pss_machine.specs.Deciding.{is_marked, unless_full};
+ghost use Rattle.pss_machine.specs.Deciding.{decision, is_marked, unless_full};
 ghost use Rattle.pss_machine.specs.Effects.{Commits};
 ghost use Rattle.pss_machine.specs.Moving.{moved};
+ghost use Rattle.pss_recovery.specs.Silence.{IsSilent};
 ghost use Rattle.connector_parts.specs.Stands.{Stands, AnyAt, IsAt, StayAs, Comes};
 ghost use Rattle.commit_calls.specs.Ready.{MayMakeReady, IsReady};
-ghost use Rattle.commit_calls.specs.Commits.{MayCommit, MayApply, IsCalled, Follows};
+ghost use Rattle.commit_calls.specs.Commits.{MayCommit, MayApply, IsBehind, IsCalled, Follows};
+ghost use Rattle.commit_saving.specs.Saving.{BecomesSaved, IsSavedThroughout, StaysSaved, saved_by};
 
-use crate::ready::{Ready, make_ready};
+use crate::ready::Ready;
+use crate::storing::store_changes;
 use connector_parts::Parts;
-use pss_base::{Bytes, NoMemory, OwnerNo, SessionNo, Steps};
+use pss_base::{Bytes, NoMemory, OwnerNo, SessionNo, Steps, StoreStop};
+use pss_disk::Station;
 use pss_machine::Reply;
+use pss_recovery::Store;
 use std::sync::ledger::Ledger;
 
 // The transaction was marked to be rolled back.
@@ -48,16 +57,28 @@ fn apply<L: Ledger>(parts: &mut Parts, owner: OwnerNo, ready: Ready, steps: &mut
     parts.accounts.leave(owner, steps);
 }
 
-// A transaction that no session is active or suspended with commits what it changed.
-fn commit_changes<L: Ledger>(
+// A transaction that no session is active or suspended with commits what it changed: memory is made ready first, then the
+// changes are stored, and what follows takes no memory.
+fn commit_changes<L: Ledger, W: Station>(
     parts: &mut Parts,
+    store: &mut Store,
+    station: &mut W,
     owner: OwnerNo,
     steps: &mut Steps<L>,
-) -> Result<Reply, NoMemory>
-    requires { MayMakeReady parts.old owner }
-    ensures { IfOk result (λ reply. (m : MayMakeReady parts.old owner) → MayCommit m.kept owner → Follows parts.old m.kept (unless_full parts.old.schema parts.old.limits m.kept owner (Commits owner)) reply parts.new) }
+) -> Result<Reply, StoreStop>
+    requires ready { MayMakeReady parts.old owner }
+    requires behind { IsBehind parts.old store.old }
+    requires settled { IsSettled (W.content station.old) (W.now station.old) }
+    ensures follows { IfOk result (λ reply. (m : MayMakeReady parts.old owner) → MayCommit m.kept owner → Follows parts.old m.kept (unless_full parts.old.schema parts.old.limits m.kept owner (Commits owner)) reply parts.new) }
+    ensures saved { OnOk result ((m : MayMakeReady parts.old owner) → BecomesSaved W.content parts.old.schema m.kept (unless_full parts.old.schema parts.old.limits m.kept owner (Commits owner)).effect store.old store.new station.old station.new) }
+    ensures images { (m : MayMakeReady parts.old owner) → IsSavedThroughout W.content W.history parts.old.schema m.kept (unless_full parts.old.schema parts.old.limits m.kept owner (Commits owner)).effect store.old station.old station.new }
+    ensures memory { IfErr result (λ why. why ≡ stop.NoMemory → (m : MayMakeReady parts.old owner) → StaysSaved W.content W.history parts.old.schema m.kept store.old station.old station.new) }
+    ensures next { OnOk result ((m : MayMakeReady parts.old owner) → store.new.next ≡ saved_by m.kept store.old.next (unless_full parts.old.schema parts.old.limits m.kept owner (Commits owner)).effect) }
+    ensures settled { OnOk result (IsSettled (W.content station.new) (W.now station.new)) }
+    ensures silent { IsSilent W.now W.history W.speak_faults station.old station.new }
+    ensures cause { HasCauseIf (W.disk_faults station.old) (W.disk_faults station.new) (is_disk_stop result) }
 {
-    match make_ready(parts, owner)? {
+    match store_changes(parts, store, station, owner)? {
         Some(ready) => {
             apply(parts, owner, ready, steps);
             Ok(Reply::Done)
@@ -66,24 +87,40 @@ fn commit_changes<L: Ledger>(
     }
 }
 
-/// `commit T`: `OK`, `NOTRANSACTION`, `STILLOPEN`, `ROLLEDBACK` or `FULL`.
-pub fn commit<L: Ledger>(
+/// `commit T`: `OK`, `NOTRANSACTION`, `STILLOPEN`, `ROLLEDBACK` or `FULL`. Where it changed an object, `OK` comes when the store
+/// holds the changes, with the next serial.
+///
+/// At each moment each image stands for the objects before, with the next serial that was stored, or for those after. After
+/// `NoMemory` each stands for those before. After either error neither parts nor store are used again.
+pub fn commit<L: Ledger, W: Station>(
     parts: &mut Parts,
+    store: &mut Store,
+    station: &mut W,
     transaction: &Bytes,
     steps: &mut Steps<L>,
-) -> Result<Reply, NoMemory>
-    requires { AnyAt parts.old }
-    ensures { IfOk result (λ reply. (k : Kept) → IsAt parts.old k → Comes parts.old k (command.Commit transaction.now) reply parts.new) }
+) -> Result<Reply, StoreStop>
+    requires any { AnyAt parts.old }
+    requires behind { IsBehind parts.old store.old }
+    requires settled { IsSettled (W.content station.old) (W.now station.old) }
+    ensures comes { IfOk result (λ reply. (k : Kept) → IsAt parts.old k → Comes parts.old k (command.Commit transaction.now) reply parts.new) }
+    ensures saved { OnOk result ((k : Kept) → IsAt parts.old k → BecomesSaved W.content parts.old.schema k (decision parts.old.schema parts.old.limits k (command.Commit transaction.now)).effect store.old store.new station.old station.new) }
+    ensures images { (k : Kept) → IsAt parts.old k → IsSavedThroughout W.content W.history parts.old.schema k (decision parts.old.schema parts.old.limits k (command.Commit transaction.now)).effect store.old station.old station.new }
+    ensures memory { IfErr result (λ why. why ≡ stop.NoMemory → (k : Kept) → IsAt parts.old k → StaysSaved W.content W.history parts.old.schema k store.old station.old station.new) }
+    ensures next { OnOk result ((k : Kept) → IsAt parts.old k → store.new.next ≡ saved_by k store.old.next (decision parts.old.schema parts.old.limits k (command.Commit transaction.now)).effect) }
+    ensures settled { OnOk result (IsSettled (W.content station.new) (W.now station.new)) }
+    ensures silent { IsSilent W.now W.history W.speak_faults station.old station.new }
+    ensures cause { HasCauseIf (W.disk_faults station.old) (W.disk_faults station.new) (is_disk_stop result) }
 {
     let Some(owner) = parts.accounts.titles().find(transaction.as_slice()) else {
         return Ok(Reply::NoTransaction);
     };
     if let Some(session) = parts.attended.sessions().first_open(owner) {
-        return still_open(parts, session);
+        let told = still_open(parts, session)?;
+        return Ok(told);
     }
     if is_marked(parts, owner) {
         parts.finish(owner, steps);
         return Ok(Reply::RolledBack);
     }
-    commit_changes(parts, owner, steps)
+    commit_changes(parts, store, station, owner, steps)
 }

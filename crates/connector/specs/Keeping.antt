@@ -1,8 +1,13 @@
 -- What a connector keeps.
-use Rattle.std.specs.Prelude.{ℕ, Bool}
+use Rattle.std.specs.Prelude.{ℕ, ◌≡◌, ◌≤◌, Bool, List}
 use Rattle.type_layout.specs.declared.schema.Schema.{Schema}
 use Rattle.pss_machine.specs.declared.limits.Limits.{Limits}
 use Rattle.pss_machine.specs.Kept.{Kept}
+use Rattle.pss_catalog.specs.Catalog.{Catalog, IsGood}
+use Rattle.storage_home.specs.Kept.{IsKept}
+use Rattle.pss_recovery.specs.declared.mounting.Mounted.{Mounted}
+use Rattle.pss_recovery.specs.declared.parts.Parts.{Parts as Store}
+use Rattle.pss_recovery.specs.Mounted.{IsMounted}
 use Rattle.owner_accounts.specs.Reached.{IsReached}
 use Rattle.connector_parts.specs.Few as parts
 use Rattle.connector_parts.specs.Few.{AreFew}
@@ -17,6 +22,10 @@ schema_of c = c.parts.schema
 abbrev pub limits_of : Connector → Limits
 limits_of c = c.parts.limits
 
+-- what is known in memory of its store
+abbrev pub store_of : Connector → Store
+store_of c = c.store
+
 -- how many commands were performed
 abbrev pub performed_by : Connector → ℕ
 performed_by c = c.performed
@@ -29,14 +38,33 @@ is_live c = c.live
 abbrev pub AreWithin : Limits → Type 0
 AreWithin = parts.AreWithin
 
--- it stands for what the machine keeps, to which a run has come, and which counts no more than the commands that were performed
+-- it stands for what the machine keeps, to which a run has come, and which counts no more than the commands that were performed; and no
+-- serial is stored as the next one that was not given
 pub record Keeps (c : Connector) (k : Kept) : Type 0 where
   pub reached : IsReached (schema_of c) (limits_of c) k
   pub limited : AreWithin (limits_of c)
   pub stands : Stands c.parts k
   pub few : AreFew (performed_by c) k
+  pub behind : (store_of c).next ≤ k.next
 
 -- some machine keeps what it stands for
 pub record AnyKept (c : Connector) : Type 0 where
   pub kept : Kept
   pub keeps : Keeps c kept
+
+-- the content of its station stands for the objects that the machine keeps, with this as the next serial
+abbrev pub IsSaved : Connector → Kept → (saved : ℕ) → List ℕ → Type 0
+IsSaved c k saved content = IsMounted (schema_of c) k.catalog saved (store_of c) content
+
+-- ---- what is mounted
+
+-- these are its objects, which are a good catalog under its next serial
+pub record HasObjects (S : Schema) (M : Catalog) (mounted : Mounted) : Type 0 where
+  pub good : IsGood S M mounted.next
+  pub kept : IsKept S M mounted.homes
+  pub next_ : mounted.store.next ≡ mounted.next
+
+-- it has some
+pub record AnyObjects (S : Schema) (mounted : Mounted) : Type 0 where
+  pub catalog : Catalog
+  pub has : HasObjects S catalog mounted

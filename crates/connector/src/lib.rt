@@ -1,7 +1,8 @@
 //! Every command of a script as one call.
 //!
-//! A connector keeps the objects of one schema with their owners, and the sessions with their entries. A command is
-//! performed by the call that is named for it, in `session_calls`, `data_calls` or `commit_calls`.
+//! A connector keeps the objects of one schema with their owners, the sessions with their entries, and the store that holds
+//! what was committed. A command is performed by the call that is named for it, in `session_calls`, `data_calls` or
+//! `commit_calls`; a checkpoint by the store's own.
 #![tactic(auto)]
 
 mod connector;

@@ -6,42 +6,39 @@ use Rattle.pss_disk.specs.Moments.{Moment, Disk, Through}
 use Rattle.pss_disk.proofs.Passing.{weaker}
 use Rattle.line_service.specs.Spoken.{HasSpoken}
 use Rattle.line_service.specs.Turns.{IsWhole}
-use Rattle.pss_daemon.specs.Ends.{IsNoPlan, IsUnbuilt, IsCheck, IsRun, IsOther, SaidWhole, usage_line, not_built_line}
-use Rattle.pss_daemon.specs.declared.forms.Plan.{Plan}
-use Rattle.pss_daemon.specs.declared.forms.Plan.TheVariants.{Check, Init, Run, Demo}
+use Rattle.pss_daemon.specs.Ends.{IsCheck, IsDemo, IsInit, IsNoPlan, IsRun, SaidWhole, usage_line}
+use Rattle.pss_daemon.specs.Shows.{WholeShowing}
+use Rattle.pss_serving.specs.Making.{WholeMaking}
 use Rattle.pss_serving.specs.Outcomes.{OfText, WholeServing}
 use Rattle.pss_serving.specs.Spoken.{IsCut}
 use Rattle.pss_serving.specs.declared.status.Status.{Status}
 use Rattle.pss_serving.specs.declared.status.Status.TheVariants as status
 use Rattle.pss_serving.proofs.AtMoments.{whole_call, cut_call}
 
-module _ (words : List (List ℕ)) (schema script before after : Option (List ℕ)) (disk : Option Disk) (hist hist' : List Moment) where
+module _ (words : List (List ℕ)) (schema held script before after : Option (List ℕ)) (hist hist' : List Moment) where
   abbrev Whole : Option (List ℕ) → Type 0
-  Whole spoken = SaidWhole words schema script before spoken
+  Whole spoken = SaidWhole words schema held script before spoken
 
-  whole : (ending : Status) → Whole after → Through hist hist' (HasSpoken after disk) → Through hist hist' (λ m. Whole m.spoken ⊎ IsCut ending after m.spoken)
-  whole = whole_call hist hist' after disk Whole
+  -- the moments of a call have P or are cut; from P follows what the words ask for
+  by : (P : Option (List ℕ) → Type 0) (ending : Status) → ((spoken : Option (List ℕ)) → P spoken → Whole spoken)
+      → Through hist hist' (λ m. P m.spoken ⊎ IsCut ending after m.spoken) → Through hist hist' (λ m. Whole m.spoken ⊎ IsCut ending after m.spoken)
+  by P ending asked = weaker hist hist' (λ m. P m.spoken ⊎ IsCut ending after m.spoken) (λ m. Whole m.spoken ⊎ IsCut ending after m.spoken)
+      (λ m said. ⊎_elim (λ is. inl (asked m.spoken is)) (λ cut. inr cut) said)
 
-  pub usage_moments : IsNoPlan words → after ≡ append_known before usage_line → Through hist hist' (HasSpoken after disk) → Through hist hist' (λ m. Whole m.spoken ⊎ IsCut status.Usage after m.spoken)
-  usage_moments is told = whole status.Usage (inl (is, inr told))
+  pub usage_moments : (disk : Option Disk) → IsNoPlan words → after ≡ append_known before usage_line → Through hist hist' (HasSpoken after disk) → Through hist hist' (λ m. Whole m.spoken ⊎ IsCut status.Usage after m.spoken)
+  usage_moments disk is told = whole_call hist hist' after Whole disk status.Usage (inl (is, inr told))
 
-  pub unbuilt_moments : IsUnbuilt words → after ≡ append_known before not_built_line → Through hist hist' (HasSpoken after disk) → Through hist hist' (λ m. Whole m.spoken ⊎ IsCut status.NotBuilt after m.spoken)
-  unbuilt_moments is told = whole status.NotBuilt (inr (inl (is, inr told)))
-
-  pub cut_moments : Through hist hist' (HasSpoken after disk) → Through hist hist' (λ m. Whole m.spoken ⊎ IsCut status.SpeakFault after m.spoken)
-  cut_moments = cut_call hist hist' after disk Whole
+  pub cut_moments : (disk : Option Disk) → Through hist hist' (HasSpoken after disk) → Through hist hist' (λ m. Whole m.spoken ⊎ IsCut status.SpeakFault after m.spoken)
+  cut_moments = cut_call hist hist' after Whole
 
   pub check_moments : (ending : Status) → IsCheck words → Through hist hist' (λ m. OfText (λ told. IsWhole told before m.spoken) schema ⊎ IsCut ending after m.spoken) → Through hist hist' (λ m. Whole m.spoken ⊎ IsCut ending after m.spoken)
-  check_moments ending is = weaker hist hist' (λ m. OfText (λ told. IsWhole told before m.spoken) schema ⊎ IsCut ending after m.spoken) (λ m. Whole m.spoken ⊎ IsCut ending after m.spoken)
-      (λ m said. ⊎_elim (λ text. inl (inr (inr (inl (is, text))))) (λ cut. inr cut) said)
+  check_moments ending is = by (λ spoken. OfText (λ told. IsWhole told before spoken) schema) ending (λ spoken said. inr (inl (is, said)))
 
-  pub run_moments : (ending : Status) → IsRun words → Through hist hist' (λ m. WholeServing schema script before m.spoken ⊎ IsCut ending after m.spoken) → Through hist hist' (λ m. Whole m.spoken ⊎ IsCut ending after m.spoken)
-  run_moments ending is = weaker hist hist' (λ m. WholeServing schema script before m.spoken ⊎ IsCut ending after m.spoken) (λ m. Whole m.spoken ⊎ IsCut ending after m.spoken)
-      (λ m said. ⊎_elim (λ lines. inl (inr (inr (inr (is, lines))))) (λ cut. inr cut) said)
+  pub init_moments : (ending : Status) → IsInit words → Through hist hist' (λ m. WholeMaking schema before m.spoken ⊎ IsCut ending after m.spoken) → Through hist hist' (λ m. Whole m.spoken ⊎ IsCut ending after m.spoken)
+  init_moments ending is = by (λ spoken. WholeMaking schema before spoken) ending (λ spoken said. inr (inr (inl (is, said))))
 
--- a plan neither to check a text nor to serve a script is another one
-pub other_of : (plan : Plan) → ((schema : ℕ) → plan ≡ Check schema → ⊥) → ((schema store : ℕ) → plan ≡ Run schema store → ⊥) → IsOther plan
-other_of (Check schema) no_check none = no_check schema cc
-other_of (Init schema store) no_check none = tt
-other_of (Run schema store) no_check none = none schema store cc
-other_of (Demo rounds store) no_check none = tt
+  pub run_moments : (ending : Status) → IsRun words → Through hist hist' (λ m. WholeServing schema held script before m.spoken ⊎ IsCut ending after m.spoken) → Through hist hist' (λ m. Whole m.spoken ⊎ IsCut ending after m.spoken)
+  run_moments ending is = by (λ spoken. WholeServing schema held script before spoken) ending (λ spoken said. inr (inr (inr (inl (is, said)))))
+
+  pub demo_moments : (ending : Status) (is : IsDemo words) → Through hist hist' (λ m. WholeShowing is.0 held before m.spoken ⊎ IsCut ending after m.spoken) → Through hist hist' (λ m. Whole m.spoken ⊎ IsCut ending after m.spoken)
+  demo_moments ending is = by (λ spoken. WholeShowing is.0 held before spoken) ending (λ spoken said. inr (inr (inr (inr (is, said)))))

@@ -8,16 +8,14 @@ use Rattle.pss_daemon.specs.Forms.{IsPlanOf}
 use Rattle.pss_daemon.specs.declared.forms.Plan.{Plan}
 use Rattle.pss_daemon.specs.declared.forms.Plan.TheVariants.{Check, Init, Run, Demo}
 use Rattle.pss_serving.specs.Outcomes.{Call, EndsChecking, EndsServing, OfText, WholeServing}
+use Rattle.pss_serving.specs.Making.{EndsMaking, Made, WholeMaking}
+use Rattle.pss_daemon.specs.Shows.{EndsShowing, WholeShowing}
 use Rattle.pss_serving.specs.declared.status.Status.{Status}
 use Rattle.pss_serving.specs.declared.status.Status.TheVariants as status
 
 -- what is spoken where the words are none of the forms
 abbrev pub usage_line : List ℕ
 usage_line = codes "usage: pssd check SCHEMA | init SCHEMA STORE | run SCHEMA STORE | demo N STORE" ++ 10 ∷ []
-
--- what is spoken where what the words ask for is not built yet
-abbrev pub not_built_line : List ℕ
-not_built_line = codes "not built" ++ 10 ∷ []
 
 -- the words are none of the forms
 abbrev pub IsNoPlan : List (List ℕ) → Type 0
@@ -31,34 +29,37 @@ IsRun words = (schema : ℕ) × (store : ℕ) × IsPlanOf words (Run schema stor
 abbrev pub IsCheck : List (List ℕ) → Type 0
 IsCheck words = (schema : ℕ) × IsPlanOf words (Check schema)
 
--- a plan other than to check a text or to serve a script
-abbrev pub IsOther : Plan → Type 0
-IsOther (Check schema) = ⊥
-IsOther (Init schema store) = Unit {0}
-IsOther (Run schema store) = ⊥
-IsOther (Demo rounds store) = Unit {0}
+-- the words ask to make a store
+abbrev pub IsInit : List (List ℕ) → Type 0
+IsInit words = (schema : ℕ) × (store : ℕ) × IsPlanOf words (Init schema store)
 
--- the words ask for what is not built yet
-abbrev pub IsUnbuilt : List (List ℕ) → Type 0
-IsUnbuilt words = (plan : Plan) × IsPlanOf words plan × IsOther plan
+-- the words ask for a demonstration of so many rounds
+abbrev pub IsDemo : List (List ℕ) → Type 0
+IsDemo words = (rounds : ℕ) × (store : ℕ) × IsPlanOf words (Demo rounds store)
 
 -- a line was spoken, and the call ended with its status; or speech failed
 abbrev pub EndsTelling : (line : List ℕ) → (told ending : Status) → (before after : Option (List ℕ)) → Type 0
 EndsTelling line told ending before after =
     ((ending ≡ told) × (after ≡ append_known before line)) ⊎ ((ending ≡ status.SpeakFault) × SaidOf line before after)
 
+-- what it comes to where a store is to be made
+abbrev pub made_of : Call → Made
+made_of call = record { text = call.schema; before = call.before; after = call.after; held = call.held; holds = call.holds }
+
 -- How a call ends, by what its words ask for: what was spoken by then, and how often the schema's source had failed before and has now.
 abbrev pub Ends : Status → List (List ℕ) → Call → (old new : ℕ) → Type 0
 Ends ending words call old new =
     (IsNoPlan words × EndsTelling usage_line status.Usage ending call.before call.after)
-    ⊎ ((IsUnbuilt words × EndsTelling not_built_line status.NotBuilt ending call.before call.after)
     ⊎ ((IsCheck words × EndsChecking ending call.schema call.before call.after old new)
-    ⊎ (IsRun words × EndsServing ending call old new)))
+    ⊎ ((IsInit words × EndsMaking ending (made_of call) old new)
+    ⊎ ((IsRun words × EndsServing ending call old new)
+    ⊎ ((demo : IsDemo words) × EndsShowing demo.0 ending call))))
 
 -- whole replies were spoken of what there is to say
-abbrev pub SaidWhole : List (List ℕ) → (schema script before after : Option (List ℕ)) → Type 0
-SaidWhole words schema script before after =
+abbrev pub SaidWhole : List (List ℕ) → (schema held script before after : Option (List ℕ)) → Type 0
+SaidWhole words schema held script before after =
     (IsNoPlan words × IsWhole usage_line before after)
-    ⊎ ((IsUnbuilt words × IsWhole not_built_line before after)
     ⊎ ((IsCheck words × OfText (λ told. IsWhole told before after) schema)
-    ⊎ (IsRun words × WholeServing schema script before after)))
+    ⊎ ((IsInit words × WholeMaking schema before after)
+    ⊎ ((IsRun words × WholeServing schema held script before after)
+    ⊎ ((demo : IsDemo words) × WholeShowing demo.0 held before after))))

@@ -1,2 +1,4 @@
 pub mod Forms
+pub mod Shows
 pub mod Ends
+pub mod Complete

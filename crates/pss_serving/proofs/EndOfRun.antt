@@ -1,61 +1,94 @@
--- How a call of the service ends, where serving its script does.
-use Rattle.std.proofs.Common.{◌≡◌, ◌⊎◌, ⊎_elim, inl, inr, ℕ, List, None, Some, IfSome, IsTrue, take, refl, ap, ◌∙◌}
+-- How a call of the service ends, where its text is sound.
+use Rattle.std.proofs.Common.{◌≡◌, ◌∙◌, ◌⊎◌, ⊎_elim, inl, inr, ℕ, List, true, None, Some, IfSome, take, refl, ap, subst}
 use Rattle.std.specs.declared.option.Option.{Option}
 use Rattle.pss_base.specs.Causes.{HasCauseIf}
 use Rattle.pss_disk.specs.Moments.{Moment, Through}
 use Rattle.pss_disk.proofs.Passing.{weaker}
+use Rattle.type_layout.specs.declared.schema.Schema.{Schema}
 use Rattle.psdl_tree.specs.Trees.{Definitions}
+use Rattle.psdl_tree.specs.Views.{tree_view}
 use Rattle.psdl_names.specs.Declarations.{all_declarations}
 use Rattle.psdl_conditions.specs.Schemas.{schema}
 use Rattle.psdl_sound.specs.TextLaws.{TextsAreSound}
+use Rattle.psdl_syntax.specs.Syntax.{IsTextOf}
 use Rattle.pss_machine.specs.Limits.{standard}
-use Rattle.line_service.specs.Runs.{SaidByLines, lines_of, IsCut as IsCutThere, is_read_fault as read_failed, is_speak_fault as speech_failed, is_disk_fault as disk_failed}
-use Rattle.line_service.specs.declared.serving.Ending.{Ending}
-use Rattle.line_service.specs.declared.serving.Ending.TheVariants as ending
-use Rattle.script_service.specs.Turns.{turn_from, start, script_limits}
+use Rattle.line_service.specs.Runs.{lines_of}
+use Rattle.script_service.specs.Turns.{script_limits}
 use Rattle.script_service.specs.Rightful.{RunsAreRight}
-use Rattle.pss_serving.specs.Checked.{IsSound}
-use Rattle.pss_serving.specs.Counts.{Counts, HasCauses}
-use Rattle.pss_serving.specs.Endings.{status_of_ending}
-use Rattle.pss_serving.specs.Outcomes.{Call, OfServed, SaysIn, EndsServing, WholeServing, ScriptsAreRight, ends_before_script}
+use Rattle.pss_serving.specs.Checked.{HasFault, IsOneThing, IsSound}
+use Rattle.pss_serving.specs.Counts.{Counts, HasCauses, has_disk_failed, has_read_failed, has_speech_failed}
+use Rattle.pss_serving.specs.Found.{IsFound, IsOne}
+use Rattle.pss_serving.specs.Outcomes.{Call, EndsOverStore, EndsServing, IsAlwaysKept, IsKeptAt, IsKeptOver, IsOrWhole, ScriptsAreRight, WholeServing}
 use Rattle.pss_serving.specs.Spoken.{IsCut}
+use Rattle.pss_serving.specs.declared.reading.SoundText.{SoundText}
+use Rattle.pss_serving.specs.declared.reading.Checked.TheVariants as checked
+use Rattle.pss_serving.specs.declared.schema_fault.SchemaFault.{SchemaFault}
+use Rattle.pss_serving.specs.declared.status.Status.{Status}
+use Rattle.pss_serving.specs.declared.status.Status.TheVariants as status
+use Rattle.pss_serving.proofs.Since.{none_since}
 
-pub ends_of : (end : Ending) (call : Call) (old new : ℕ) → new ≡ old → OfServed (SaysIn end call) call.schema → EndsServing (status_of_ending end) call old new
-ends_of ending.End call old new same served = served
-ends_of ending.TooLong call old new same served = served
-ends_of ending.ReadFault call old new same served = inr (same, served)
-ends_of ending.DiskFault call old new same served = served
-ends_of ending.SpeakFault call old new same served = inr served
-ends_of ending.NoMemory call old new same served = inr served
+ends_under : (ending : Status) (call : Call) (tree : Definitions) (old new : ℕ) → new ≡ old → IfSome call.schema (λ bytes. IsSound bytes tree)
+    → EndsOverStore ending call (schema (all_declarations tree)) → EndsServing ending call old new
+ends_under status.Ok call tree old new same sound is = (tree, sound, is)
+ends_under status.ScriptTooLong call tree old new same sound is = (tree, sound, is)
+ends_under status.ReadFault call tree old new same sound is = inr (same, (tree, sound, is))
+ends_under status.StoreRefused call tree old new same sound is = ((tree, sound, is.0), is.1)
+ends_under status.SpeakFault call tree old new same sound is = inr (tree, sound, is)
+ends_under status.DiskFault call tree old new same sound is = ⊎_elim (λ quiet. inl quiet) (λ says. inr (tree, sound, says)) is
+ends_under status.NoMemory call tree old new same sound is = ⊎_elim (λ quiet. inl quiet) (λ says. inr (tree, sound, says)) is
+ends_under status.Usage call tree old new same sound is = absurd is
+ends_under status.SchemaRefused call tree old new same sound is = absurd is
 
--- the script was read
-pub not_before : (end : Ending) → IsTrue (ends_before_script (status_of_ending end)) → ⊥
-not_before ending.End before = cc
-not_before ending.TooLong before = cc
-not_before ending.ReadFault before = cc
-not_before ending.DiskFault before = cc
-not_before ending.SpeakFault before = cc
-not_before ending.NoMemory before = cc
+pub ends_of : (ending : Status) (call : Call) (tree : Definitions) (S : Schema) (old new : ℕ) → new ≡ old → IfSome call.schema (λ bytes. IsSound bytes tree) → S ≡ schema (all_declarations tree)
+    → EndsOverStore ending call S → EndsServing ending call old new
+ends_of ending call tree S old new same sound of is = ends_under ending call tree old new same sound (subst (λ (shape : Schema). EndsOverStore ending call shape) of is)
 
-pub causes_of : (end : Ending) (old new : Counts) → new.schema ≡ old.schema → HasCauseIf old.script new.script (read_failed end) → HasCauseIf old.speech new.speech (speech_failed end)
-    → HasCauseIf old.disk new.disk (disk_failed end) → HasCauses (status_of_ending end) old new
-causes_of ending.End old new same read speech disk = (same, read.kept refl, speech.kept refl, disk.kept refl)
-causes_of ending.TooLong old new same read speech disk = (same, read.kept refl, speech.kept refl, disk.kept refl)
-causes_of ending.ReadFault old new same read speech disk = inr (same, read.rose refl, speech.kept refl, disk.kept refl)
-causes_of ending.DiskFault old new same read speech disk = (same, read.kept refl, speech.kept refl, disk.rose refl)
-causes_of ending.SpeakFault old new same read speech disk = (same, read.kept refl, speech.rose refl, disk.kept refl)
-causes_of ending.NoMemory old new same read speech disk = (same, read.kept refl, speech.kept refl, disk.kept refl)
+pub causes_of : (ending : Status) (old new : Counts) → new.schema ≡ old.schema → HasCauseIf old.script new.script (has_read_failed ending)
+    → HasCauseIf old.speech new.speech (has_speech_failed ending) → HasCauseIf old.disk new.disk (has_disk_failed ending) → HasCauses ending old new
+causes_of status.Ok old new same read speech disk = (same, read.kept refl, speech.kept refl, disk.kept refl)
+causes_of status.Usage old new same read speech disk = (same, read.kept refl, speech.kept refl, disk.kept refl)
+causes_of status.SchemaRefused old new same read speech disk = (same, read.kept refl, speech.kept refl, disk.kept refl)
+causes_of status.StoreRefused old new same read speech disk = (same, read.kept refl, speech.kept refl, disk.kept refl)
+causes_of status.NoMemory old new same read speech disk = (same, read.kept refl, speech.kept refl, disk.kept refl)
+causes_of status.ReadFault old new same read speech disk = inr (same, read.rose refl, speech.kept refl, disk.kept refl)
+causes_of status.DiskFault old new same read speech disk = (same, read.kept refl, speech.kept refl, disk.rose refl)
+causes_of status.SpeakFault old new same read speech disk = (same, read.kept refl, speech.rose refl, disk.kept refl)
+causes_of status.ScriptTooLong old new same read speech disk = (same, read.kept refl, speech.kept refl, disk.kept refl)
 
-pub moments_of : (end : Ending) (tree : Definitions) (text script before after : Option (List ℕ)) (a b : List Moment) → IfSome text (λ bytes. IsSound bytes tree)
-    → Through a b (λ m. SaidByLines turn_from (start (schema (all_declarations tree)) standard) script_limits script before m.spoken ⊎ IsCutThere end after m.spoken)
-    → Through a b (λ m. WholeServing text script before m.spoken ⊎ IsCut (status_of_ending end) after m.spoken)
-moments_of end tree text script before after a b sound came =
-    weaker a b (λ m. SaidByLines turn_from (start (schema (all_declarations tree)) standard) script_limits script before m.spoken ⊎ IsCutThere end after m.spoken)
-    (λ m. WholeServing text script before m.spoken ⊎ IsCut (status_of_ending end) after m.spoken)
-    (λ m is. ⊎_elim (λ said. inl (inr (tree, sound, said))) (λ cut. inr (ap status_of_ending cut.0, cut.1)) is) came
+pub moments_of : (ending : Status) (tree : Definitions) (S : Schema) (text held script before after : Option (List ℕ)) (a b : List Moment) → IfSome text (λ bytes. IsSound bytes tree)
+    → S ≡ schema (all_declarations tree) → Through a b (λ m. IsOrWhole S held script before m.spoken ⊎ IsCut ending after m.spoken)
+    → Through a b (λ m. WholeServing text held script before m.spoken ⊎ IsCut ending after m.spoken)
+moments_of ending tree S text held script before after a b sound of came =
+    weaker a b (λ m. IsOrWhole S held script before m.spoken ⊎ IsCut ending after m.spoken) (λ m. WholeServing text held script before m.spoken ⊎ IsCut ending after m.spoken)
+    (λ m is. ⊎_elim (λ said. inl (⊎_elim (λ quiet. inl quiet) (λ whole. inr (inr (tree, sound, whole))) (subst (λ (shape : Schema). IsOrWhole shape held script before m.spoken) of said))) (λ cut. inr cut) is) came
 
--- a law of runs, whatever this one came to
+-- ---- what a crash may leave
+
+module _ (held script before : Option (List ℕ)) (a b : List Moment) (now : Moment) where
+  -- each sound tree of the text is the one that was read
+  pub kept_of : (text : Option (List ℕ)) (sound : SoundText) (S : Schema) → IsFound (checked.Sound sound) text → IsOne (checked.Sound sound) text → S ≡ sound.schema
+      → IsKeptOver S held script before a b now → IsAlwaysKept text held script before a b now
+  kept_of None sound S found one of kept = tt
+  kept_of (Some bytes) sound S found one of kept = λ tree is.
+      let text : IsTextOf (tree_view sound.tree) bytes = subst (IsTextOf (tree_view sound.tree)) found.2 found.0.0 in
+      let same : tree_view sound.tree ≡ tree = one.one_tree (tree_view sound.tree) tree text is.0 in
+      subst (λ (shape : Schema). IsKeptOver shape held script before a b now) (of ∙ found.1 ∙ ap (λ (t : Definitions). schema (all_declarations t)) same) kept
+
+  -- the text has no sound tree
+  pub kept_none : (text : Option (List ℕ)) (fault : SchemaFault) → IfSome text (λ bytes. HasFault bytes fault) → IfSome text IsOneThing → IsAlwaysKept text held script before a b now
+  kept_none None fault is one = tt
+  kept_none (Some bytes) fault is one = λ tree sound. absurd (one.never_both fault tree is sound)
+
+-- nothing came
+pub kept_still : (text held script before : Option (List ℕ)) (a : List Moment) (now : Moment) → IsAlwaysKept text held script before a a now
+kept_still None held script before a now = tt
+kept_still (Some bytes) None script before a now = λ tree is M next. tt
+kept_still (Some bytes) (Some octets) script before a now = λ tree is M next stands. none_since a now (IsKeptAt (schema (all_declarations tree)) M next true script before)
+
+-- ---- a law of runs, whatever this one came to
+
 pub always : TextsAreSound → RunsAreRight → ScriptsAreRight
 always sound right None script = tt
 always sound right (Some bytes) None = tt
-always sound right (Some bytes) (Some lines) = λ tree is n. right (schema (all_declarations tree)) standard (take n (lines_of script_limits lines)) (sound tree bytes is.0 is.1)
+always sound right (Some bytes) (Some lines) = λ tree is M next good n.
+    right (schema (all_declarations tree)) standard M next (take n (lines_of script_limits lines)) (sound tree bytes is.0 is.1) good

@@ -2,5 +2,10 @@ pub mod AtMoments
 pub mod Overlong
 pub mod Told
 pub mod Found
+pub mod OneThing
+pub mod Since
 pub mod Outcomes
+pub mod NewStores
+pub mod Served
+pub mod Refused
 pub mod EndOfRun

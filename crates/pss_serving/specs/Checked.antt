@@ -21,6 +21,11 @@ abbrev pub HasFault : List ℕ → SchemaFault → Type 0
 HasFault text (Syntax fault) = IsFault text fault.place fault.kind
 HasFault text (Check fault) = (tree : Definitions) × IsTextOf tree text × (first_fault (all_declarations tree) ≡ Some fault)
 
+-- A text has one tree at most, and where something is wrong with it, none that is sound.
+pub record IsOneThing (text : List ℕ) : Type 0 where
+  pub one_tree : (one other : Definitions) → IsTextOf one text → IsTextOf other text → one ≡ other
+  pub never_both : (fault : SchemaFault) (tree : Definitions) → HasFault text fault → IsSound text tree → ⊥
+
 -- what is spoken of a tree and a schema: the canonical text, a line between, and the shape of the records
 abbrev pub spoken_of : Definitions → Schema → List ℕ
 spoken_of tree schema = canonical tree ++ codes "--" ++ 10 ∷ [] ++ shape_text schema

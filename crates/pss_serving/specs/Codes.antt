@@ -8,9 +8,9 @@ abbrev pub code_of : Status → ℕ
 code_of status.Ok = 0
 code_of status.Usage = 1
 code_of status.SchemaRefused = 2
+code_of status.StoreRefused = 3
 code_of status.NoMemory = 4
 code_of status.ReadFault = 5
 code_of status.DiskFault = 6
 code_of status.SpeakFault = 7
 code_of status.ScriptTooLong = 8
-code_of status.NotBuilt = 9

@@ -1,5 +1,5 @@
 -- Which of the outside failed.
-use Rattle.std.specs.Prelude.{ℕ, ◌≡◌, ◌⊎◌}
+use Rattle.std.specs.Prelude.{ℕ, ◌≡◌, ◌⊎◌, Bool, true, false}
 use Rattle.pss_base.specs.Causes.{Rose}
 use Rattle.pss_serving.specs.declared.status.Status.{Status}
 use Rattle.pss_serving.specs.declared.status.Status.TheVariants as status
@@ -30,6 +30,20 @@ HasCauses status.DiskFault old new = (new.schema ≡ old.schema) × (new.script 
 HasCauses status.Ok old new = AreSame old new
 HasCauses status.Usage old new = AreSame old new
 HasCauses status.SchemaRefused old new = AreSame old new
+HasCauses status.StoreRefused old new = AreSame old new
 HasCauses status.NoMemory old new = AreSame old new
 HasCauses status.ScriptTooLong old new = AreSame old new
-HasCauses status.NotBuilt old new = AreSame old new
+
+-- ---- what failed, by how the call ended
+
+abbrev pub has_read_failed : Status → Bool
+has_read_failed status.ReadFault = true
+has_read_failed _ = false
+
+abbrev pub has_speech_failed : Status → Bool
+has_speech_failed status.SpeakFault = true
+has_speech_failed _ = false
+
+abbrev pub has_disk_failed : Status → Bool
+has_disk_failed status.DiskFault = true
+has_disk_failed _ = false

@@ -4,7 +4,7 @@ use Rattle.std.specs.declared.option.Option.{Option}
 use Rattle.psdl_tree.specs.Views.{tree_view}
 use Rattle.psdl_names.specs.Declarations.{all_declarations}
 use Rattle.psdl_conditions.specs.Schemas.{schema}
-use Rattle.pss_serving.specs.Checked.{IsSound, HasFault}
+use Rattle.pss_serving.specs.Checked.{HasFault, IsOneThing, IsSound}
 use Rattle.pss_serving.specs.declared.reading.Checked.{Checked}
 use Rattle.pss_serving.specs.declared.reading.Checked.TheVariants as checked
 
@@ -15,6 +15,13 @@ IsFound (checked.Sound sound) source =
 IsFound (checked.Refused fault) source = IfSome source (λ text. HasFault text fault)
 IsFound checked.ReadFault source = Unit {0}
 IsFound checked.NoMemory source = Unit {0}
+
+-- the text that came is one thing, where it was found what it is
+abbrev pub IsOne : Checked → Option (List ℕ) → Type 0
+IsOne (checked.Sound sound) source = IfSome source IsOneThing
+IsOne (checked.Refused fault) source = IfSome source IsOneThing
+IsOne checked.ReadFault source = Unit {0}
+IsOne checked.NoMemory source = Unit {0}
 
 -- the source failed
 abbrev pub has_failed : Checked → Bool

@@ -4,6 +4,7 @@ pub mod Spoken
 pub mod Checked
 pub mod Endings
 pub mod Outcomes
+pub mod Making
 pub mod Counts
 pub mod Found
 pub mod Codes

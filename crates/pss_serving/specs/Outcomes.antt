@@ -1,20 +1,28 @@
 -- How checking a text ends, and how serving a script over one does.
 use Rattle.std.specs.Prelude.{ℕ, ◌≡◌, ◌⊎◌, List, take, Bool, true, false, IfSome}
 use Rattle.std.specs.declared.option.Option.{Option}
+use Rattle.std.specs.declared.option.Option.TheVariants.{Some}
 use Rattle.std.specs.Io.KnownBytes.{append_known}
 use Rattle.pss_base.specs.Causes.{Rose}
-use Rattle.pss_disk.specs.Moments.{Moment}
+use Rattle.pss_disk.specs.Moments.{Disk, Moment}
+use Rattle.pss_catalog.specs.Catalog.{Catalog, IsGood}
+use Rattle.page_store.specs.Stores.{AllHave}
+use Rattle.pss_recovery.specs.declared.fault.MountFault.{MountFault}
+use Rattle.pss_recovery.specs.Mounts.{FromSync}
+use Rattle.pss_recovery.specs.Stands.{IsRefusal, Stands}
+use Rattle.store_refusals.specs.Lines.{refusal_of}
 use Rattle.type_layout.specs.declared.schema.Schema.{Schema}
 use Rattle.pss_machine.specs.Limits.{standard}
 use Rattle.psdl_tree.specs.Trees.{Definitions}
 use Rattle.psdl_names.specs.Declarations.{all_declarations}
 use Rattle.psdl_conditions.specs.Schemas.{schema}
-use Rattle.line_service.specs.Runs.{SaidByLines, Says, lines_of}
+use Rattle.line_service.specs.Runs.{Comes, SaidByLines, Says, lines_of}
 use Rattle.line_service.specs.Spoken.{SaidOf}
 use Rattle.line_service.specs.Turns.{IsWhole}
 use Rattle.line_service.specs.declared.serving.Ending.{Ending}
 use Rattle.line_service.specs.declared.serving.Ending.TheVariants as ending
-use Rattle.script_service.specs.Turns.{turn_from, start, script_limits, run_over}
+use Rattle.script_service.specs.Turns.{Running, turn_from, start, script_limits, run_over}
+use Rattle.script_service.specs.Keeping.{IsLeft, OnlyStandsFor, Passes}
 use Rattle.script_service.specs.Rightful.{IsRightful}
 use Rattle.pss_serving.specs.Checked.{IsSound, HasFault, checked_text}
 use Rattle.pss_serving.specs.Refusals.{refusal_line}
@@ -47,75 +55,151 @@ EndsChecking status.SpeakFault text before after old new = OfText (λ told. Said
 EndsChecking status.NoMemory text before after old new = after ≡ before
 EndsChecking status.Usage text before after old new = ⊥
 EndsChecking status.ScriptTooLong text before after old new = ⊥
-EndsChecking status.NotBuilt text before after old new = ⊥
+EndsChecking status.StoreRefused text before after old new = ⊥
 EndsChecking status.DiskFault text before after old new = ⊥
 
--- ---- scripts
+-- ---- calls over a store
 
--- what is to come of the schema and of the script at first, and of the script at last; what was spoken at first and at last
+-- what is to come of the schema and of the script at first, and of the script at last; what was spoken at first and at last; what the
+-- store's file has at first and at last, and what a crash may leave of it at last
 pub record Call : Type 0 where
   pub schema : Option (List ℕ)
   pub script : Option (List ℕ)
   pub left : Option (List ℕ)
   pub before : Option (List ℕ)
   pub after : Option (List ℕ)
+  pub held : Option (List ℕ)
+  pub holds : Option (List ℕ)
+  pub disk : Option Disk
 
 -- the same of sources and a station before a call and after it, by what these tell of themselves
-abbrev pub call_of : {P C W : Type 0} → (P → Option (List ℕ)) → (C → Option (List ℕ)) → (W → Moment) → P → (before after : C) → (before after : W) → Call
-call_of text_of left_of now schema script script_after station station_after = record {
+abbrev pub call_of : {P C W : Type 0} → (P → Option (List ℕ)) → (C → Option (List ℕ)) → (W → Moment) → (W → Option (List ℕ)) → P → (before after : C) → (before after : W) → Call
+call_of text_of left_of now content schema script script_after station station_after = record {
   schema = text_of schema;
   script = left_of script;
   left = left_of script_after;
   before = (now station).spoken;
   after = (now station_after).spoken;
+  held = content station;
+  holds = content station_after;
+  disk = (now station_after).disk;
 }
 
--- the script is served over the schema of its text, and this is so of that schema
+-- the text has this schema, and this is so of it
 abbrev pub OfServed : (Schema → Type 0) → Option (List ℕ) → Type 0
 OfServed Served text = OfTree (λ tree. Served (schema (all_declarations tree))) text
 
--- serving the lines of the script ends so, from the first state of the machine on
+-- The store stands for some objects and a next serial under the schema, and this is so of a machine that begins with them. What is stored
+-- is told where the store's file is.
+pub record OfStore (S : Schema) (P : Running → Type 0) (held : Option (List ℕ)) : Type 0 where
+  pub objects : Catalog
+  pub next : ℕ
+  pub is_told : Bool
+  pub good : IsGood S objects next
+  pub stands : IfSome held (λ octets. Stands S objects next octets × (is_told ≡ true))
+  pub begun : P (start S standard objects next is_told)
+
+-- the store is refused under the schema, and this is so of the line that tells why
+abbrev pub OfRefusal : Schema → (List ℕ → Type 0) → Option (List ℕ) → Type 0
+OfRefusal S Told held = (why : MountFault) × (line : List ℕ) × IfSome held (IsRefusal S why) × (refusal_of why ≡ Some line) × Told line
+
+-- ---- scripts
+
+-- serving the lines of the script ends so
 abbrev pub SaysIn : Ending → Call → Schema → Type 0
-SaysIn ending call S = Says turn_from (start S standard) script_limits ending (record { script = call.script; left = call.left; before = call.before; after = call.after }) (λ state. Unit {0})
+SaysIn ending call S = OfStore S (λ first. Says turn_from first script_limits ending (record { script = call.script; left = call.left; before = call.before; after = call.after }) (IsLeft call.holds call.disk)) call.held
 
 -- some first bytes were spoken of what there is to say
 abbrev pub SaidServing : Call → Type 0
-SaidServing call = OfFault (λ told. SaidOf told call.before call.after) call.schema ⊎ OfServed (SaysIn ending.SpeakFault call) call.schema
+SaidServing call =
+    OfFault (λ told. SaidOf told call.before call.after) call.schema
+    ⊎ OfServed (λ S. OfRefusal S (λ told. SaidOf told call.before call.after) call.held ⊎ SaysIn ending.SpeakFault call S) call.schema
 
--- whole replies were spoken of what there is to say
-abbrev pub WholeServing : (text script before after : Option (List ℕ)) → Type 0
-WholeServing text script before after =
-    OfFault (λ told. IsWhole told before after) text
-    ⊎ OfServed (λ S. SaidByLines turn_from (start S standard) script_limits script before after) text
+-- whole replies were spoken of what there is to say over a store
+abbrev pub WholeOver : Schema → (held script before after : Option (List ℕ)) → Type 0
+WholeOver S held script before after =
+    OfRefusal S (λ told. IsWhole told before after) held
+    ⊎ OfStore S (λ first. SaidByLines turn_from first script_limits script before after) held
 
--- How serving a script over a text ends: what was spoken by then, and how often the text's source had failed before and has now.
+-- the same, or nothing
+abbrev pub IsOrWhole : Schema → (held script before after : Option (List ℕ)) → Type 0
+IsOrWhole S held script before after = (after ≡ before) ⊎ WholeOver S held script before after
+
+-- nothing was spoken, or whole replies of what there is to say
+abbrev pub WholeServing : (text held script before after : Option (List ℕ)) → Type 0
+WholeServing text held script before after =
+    (after ≡ before)
+    ⊎ OfFault (λ told. IsWhole told before after) text
+    ⊎ OfServed (λ S. WholeOver S held script before after) text
+
+-- what is told where the store is not mounted
+abbrev pub TellsRefusal : Status → MountFault → (before after : Option (List ℕ)) → Type 0
+TellsRefusal status.StoreRefused why before after = (line : List ℕ) × (refusal_of why ≡ Some line) × (after ≡ append_known before line)
+TellsRefusal status.SpeakFault why before after = (line : List ℕ) × (refusal_of why ≡ Some line) × SaidOf line before after
+TellsRefusal status.NoMemory why before after = after ≡ before
+TellsRefusal _ why before after = ⊥
+
+-- how serving a script over a store ends, under a schema
+abbrev pub EndsOverStore : Status → Call → Schema → Type 0
+EndsOverStore status.Ok call S = SaysIn ending.End call S
+EndsOverStore status.ScriptTooLong call S = SaysIn ending.TooLong call S
+EndsOverStore status.ReadFault call S = SaysIn ending.ReadFault call S
+EndsOverStore status.StoreRefused call S = OfRefusal S (λ told. call.after ≡ append_known call.before told) call.held × (call.holds ≡ call.held)
+EndsOverStore status.SpeakFault call S = OfRefusal S (λ told. SaidOf told call.before call.after) call.held ⊎ SaysIn ending.SpeakFault call S
+EndsOverStore status.DiskFault call S = (call.after ≡ call.before) ⊎ SaysIn ending.DiskFault call S
+EndsOverStore status.NoMemory call S = (call.after ≡ call.before) ⊎ SaysIn ending.NoMemory call S
+EndsOverStore status.Usage call S = ⊥
+EndsOverStore status.SchemaRefused call S = ⊥
+
+-- How serving a script over a text and a store ends: what was spoken by then and what the store stands for, and how often the text's source
+-- had failed before and has now. Where text or store are refused, the store's file is as it was.
 abbrev pub EndsServing : Status → Call → (old new : ℕ) → Type 0
 EndsServing status.Ok call old new = OfServed (SaysIn ending.End call) call.schema
-EndsServing status.SchemaRefused call old new = OfFault (λ told. call.after ≡ append_known call.before told) call.schema
+EndsServing status.SchemaRefused call old new = OfFault (λ told. call.after ≡ append_known call.before told) call.schema × (call.holds ≡ call.held)
+EndsServing status.StoreRefused call old new = OfServed (λ S. OfRefusal S (λ told. call.after ≡ append_known call.before told) call.held) call.schema × (call.holds ≡ call.held)
 EndsServing status.ScriptTooLong call old new = OfServed (SaysIn ending.TooLong call) call.schema
-EndsServing status.ReadFault call old new = (Rose old new × (call.after ≡ call.before)) ⊎ ((new ≡ old) × OfServed (SaysIn ending.ReadFault call) call.schema)
+EndsServing status.ReadFault call old new = (Rose old new × (call.after ≡ call.before) × (call.holds ≡ call.held)) ⊎ ((new ≡ old) × OfServed (SaysIn ending.ReadFault call) call.schema)
 EndsServing status.SpeakFault call old new = SaidServing call
-EndsServing status.DiskFault call old new = OfServed (SaysIn ending.DiskFault call) call.schema
+EndsServing status.DiskFault call old new = (call.after ≡ call.before) ⊎ OfServed (SaysIn ending.DiskFault call) call.schema
 EndsServing status.NoMemory call old new = (call.after ≡ call.before) ⊎ OfServed (SaysIn ending.NoMemory call) call.schema
 EndsServing status.Usage call old new = ⊥
-EndsServing status.NotBuilt call old new = ⊥
 
--- What holds of the machine after every number of the lines that are served of a script, over the schema of a text without a fault: so
--- also after those that were taken, whichever way serving them ended.
+-- ---- what a crash may leave
+
+-- A moment of a call over a text and a store that stands for these objects and this next serial: each image stands for them; or some lines
+-- of the script were answered, and each image stands for what is kept and stored then, or after the line that is served.
+abbrev pub IsKeptAt : Schema → Catalog → ℕ → Bool → (script before : Option (List ℕ)) → Moment → Type 0
+IsKeptAt S M next is_told script before m =
+    ((m.spoken ≡ before) × AllHave (Stands S M next) m)
+    ⊎ Comes turn_from Passes OnlyStandsFor (start S standard M next is_told) script_limits script before m
+
+-- of each moment since the store's file was made sure of, over whatever the store stands for under the schema
+abbrev pub IsKeptOver : Schema → (held script before : Option (List ℕ)) → (history : List Moment) → (after : List Moment) → Moment → Type 0
+IsKeptOver S held script before history after now =
+    (M : Catalog) (next : ℕ) → IfSome held (λ octets. Stands S M next octets → FromSync history after now (IsKeptAt S M next true script before))
+
+-- the same, whatever the text
+abbrev pub IsAlwaysKept : (text held script before : Option (List ℕ)) → (history : List Moment) → (after : List Moment) → Moment → Type 0
+IsAlwaysKept text held script before history after now =
+    IfSome text (λ bytes. (tree : Definitions) → IsSound bytes tree → IsKeptOver (schema (all_declarations tree)) held script before history after now)
+
+-- What holds of the machine after every number of the lines that are served of a script, over the schema of a text without a fault and from
+-- each good catalog: so also after those that were taken, whichever way serving them ended.
 abbrev pub IsAlwaysRight : (text script : Option (List ℕ)) → Type 0
 IsAlwaysRight text script =
     IfSome text (λ bytes. IfSome script (λ lines. (tree : Definitions) → IsSound bytes tree
-    → (n : ℕ) → IsRightful (schema (all_declarations tree)) (run_over (schema (all_declarations tree)) standard (take n (lines_of script_limits lines)))))
+    → (M : Catalog) (next : ℕ) → IsGood (schema (all_declarations tree)) M next
+    → (n : ℕ) → IsRightful (schema (all_declarations tree)) M next (run_over (schema (all_declarations tree)) standard M next (take n (lines_of script_limits lines)))))
 
 -- so of every text and script
 abbrev pub ScriptsAreRight : Type 0
 ScriptsAreRight = (text script : Option (List ℕ)) → IsAlwaysRight text script
 
--- the call ended before the script was read: at the words, or at the schema
+-- the call ended before the script was read: at the words, at the schema, or at the store
 abbrev pub ends_before_script : Status → Bool
 ends_before_script status.Usage = true
 ends_before_script status.SchemaRefused = true
-ends_before_script status.NotBuilt = true
+ends_before_script status.StoreRefused = true
 ends_before_script status.Ok = false
 ends_before_script status.NoMemory = false
 ends_before_script status.ReadFault = false

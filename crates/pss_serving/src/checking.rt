@@ -1,11 +1,11 @@
 // A text is checked, and what it is is spoken.
-ghost use Rattle.std.specs.Prelude.{◌≡◌, ◌⊎◌, ℕ, IfOk};
+ghost use Rattle.std.specs.Prelude.{◌≡◌, ◌⊎◌, ℕ, IfOk, IfSome, IsTrue};
 ghost use Rattle.pss_base.specs.Causes.{HasCauseIf};
 ghost use Rattle.pss_disk.specs.Moments.{Through};
 ghost use Rattle.psdl_tree.specs.Views.{tree_view};
-ghost use Rattle.pss_serving.specs.Checked.{spoken_of};
+ghost use Rattle.pss_serving.specs.Checked.{IsOneThing, spoken_of};
 ghost use Rattle.pss_serving.specs.Counts.{HasCauses, counts_of};
-ghost use Rattle.pss_serving.specs.Outcomes.{EndsChecking, OfText};
+ghost use Rattle.pss_serving.specs.Outcomes.{EndsChecking, OfText, ends_before_script};
 ghost use Rattle.line_service.specs.Spoken.{HasSpoken};
 ghost use Rattle.line_service.specs.Turns.{IsWhole};
 ghost use Rattle.pss_serving.specs.Spoken.{IsCut};
@@ -51,6 +51,8 @@ fn tell<W: Station>(alloc: Global, sound: &SoundText, station: &mut W) -> Told
 /// Reads a schema's text and checks it, and speaks in one piece what it comes to, or its fault.
 pub fn tell_checked<P: Source, W: Station>(alloc: Global, schema: &mut P, station: &mut W) -> Status
     ensures ends { EndsChecking result (P.left schema.old) (W.now station.old).spoken (W.now station.new).spoken (P.faults schema.old) (P.faults schema.new) }
+    // The text is refused only where it is no sound one.
+    ensures one { IsTrue (ends_before_script result) → IfSome (P.left schema.old) IsOneThing }
     ensures causes { (script : ℕ) → HasCauses result
         (counts_of P.faults (λ n. n) W.speak_faults W.disk_faults schema.old script station.old)
         (counts_of P.faults (λ n. n) W.speak_faults W.disk_faults schema.new script station.new) }

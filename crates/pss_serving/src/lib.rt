@@ -1,8 +1,10 @@
-//! The service below its words: a schema's text is read and checked, and a script is served over it.
+//! The service below its words: a schema's text is read and checked; a store of its shape is made, or mounted, and a script is
+//! served over it.
 #![tactic(auto)]
 
 mod checking;
 mod laws;
+mod making;
 mod reading;
 mod refusal;
 mod running;
@@ -12,5 +14,6 @@ mod telling;
 
 pub use checking::tell_checked;
 pub use laws::scripts_are_right;
-pub use running::run_script;
+pub use making::{init_store, refuse_file};
+pub use running::{refuse_store, run_script};
 pub use status::Status;

@@ -3,11 +3,11 @@ ghost use Rattle.std.specs.Prelude.{◌≡◌, false, Some};
 ghost use Rattle.pss_base.specs.Causes.{HasCauseIf};
 ghost use Rattle.psdl_tree.specs.Views.{tree_view};
 ghost use Rattle.psdl_syntax.specs.Syntax.{IsTextOf};
-ghost use Rattle.pss_serving.specs.Found.{IsFound, has_failed};
+ghost use Rattle.pss_serving.specs.Found.{IsFound, IsOne, has_failed};
 
 use crate::schema_fault::SchemaFault;
 use psdl_check::{CheckKind, check};
-use psdl_syntax::{MOST_BYTES, SyntaxKind, parse};
+use psdl_syntax::{MOST_BYTES, SyntaxKind, a_text_has_one_fault, parse};
 use psdl_tree::Tree;
 use pss_base::{Bytes, ReadAll, Source, read_all};
 use std::alloc::Global;
@@ -54,8 +54,10 @@ fn check_tree(alloc: Global, text: Bytes, tree: Tree) -> Checked
 // What a text is.
 fn check_text(alloc: Global, text: Bytes) -> Checked
     ensures found { IsFound result (Some text) }
+    ensures one { IsOne result (Some text) }
     ensures fault { has_failed result ≡ false }
 {
+    a_text_has_one_fault();
     match parse(alloc, text.as_slice()) {
         Ok(tree) => check_tree(alloc, text, tree),
         Err(fault) => match fault.kind {
@@ -68,6 +70,7 @@ fn check_text(alloc: Global, text: Bytes) -> Checked
 /// Reads a text and checks it.
 pub fn read_checked<P: Source>(alloc: Global, schema: &mut P) -> Checked
     ensures found { IsFound result (P.left schema.old) }
+    ensures one { IsOne result (P.left schema.old) }
     ensures cause { HasCauseIf (P.faults schema.old) (P.faults schema.new) (has_failed result) }
 {
     match read_all(alloc, schema, MOST_READ) {

@@ -10,6 +10,8 @@ pub enum Status {
     Usage,
     /// The schema's text has a fault.
     SchemaRefused,
+    /// The store is refused: it is to be made in a file that has octets, or it is not mounted.
+    StoreRefused,
     /// There was no memory.
     NoMemory,
     /// The schema's source or the script's failed.
@@ -20,14 +22,12 @@ pub enum Status {
     SpeakFault,
     /// The script has more lines or bytes than are served.
     ScriptTooLong,
-    /// What the words ask for is not built yet.
-    NotBuilt,
 }
 
 impl Status {
     ghost use Rattle.pss_serving.specs.Codes.{code_of};
 
-    /// The exit status of the program, from 0 to 9.
+    /// The exit status of the program, from 0 to 8.
     pub fn code(self) -> u8
         ensures { result ≡ code_of self }
     {
@@ -35,12 +35,12 @@ impl Status {
             Status::Ok => 0,
             Status::Usage => 1,
             Status::SchemaRefused => 2,
+            Status::StoreRefused => 3,
             Status::NoMemory => 4,
             Status::ReadFault => 5,
             Status::DiskFault => 6,
             Status::SpeakFault => 7,
             Status::ScriptTooLong => 8,
-            Status::NotBuilt => 9,
         }
     }
 }

@@ -1,20 +1,19 @@
-//! The program: it sees to the standard streams, makes the service's words, opens the schema's file, and takes standard
-//! input as script and standard output as speech. All else is the service's.
+//! The program: it sees to the standard streams, makes the service's words, opens the schema's file and the store's, and takes
+//! standard input as script and standard output as speech. All else is the service's.
 #![tactic(auto)]
 
+mod files;
 mod streams;
 
+use crate::files::{open_schema, open_store};
 use crate::streams::fill_streams;
 use pss_base::{Bytes, NoMemory, StdSource};
-use pss_daemon::{Plan, Status, plan, pssd};
+use pss_daemon::{Status, pssd};
 use pss_disk::RealStation;
 use std::alloc::Global;
 use std::env::FillError;
-use std::fs;
-use std::fs::File;
 use std::process::ExitCode;
-use std::rt::{Env, Files};
-use std::str::from_utf8;
+use std::rt::Env;
 
 /// The first room for a word. It is doubled where the word is longer.
 const FIRST_ROOM: usize = 4096;
@@ -51,25 +50,6 @@ fn words(rt: &impl Env, alloc: Global) -> Result<Vec<Bytes>, NoMemory> {
     Ok(words)
 }
 
-// The file of a name, where it can be opened.
-fn open<R: Files>(rt: &R, name: &[u8]) -> Option<R::File> {
-    let Ok(name) = from_utf8(name) else {
-        return None;
-    };
-    fs::open(rt, name).ok()
-}
-
-// The schema's file, where the words name one that can be opened.
-fn open_schema<R: Files>(rt: &R, words: &[Bytes]) -> Option<R::File> {
-    let schema = match plan(words) {
-        Ok(Plan::Check { schema }) => schema,
-        Ok(Plan::Run { schema, .. }) => schema,
-        _ => return None,
-    };
-    let name = words.get(schema)?;
-    open(rt, name.as_slice())
-}
-
 fn run(rt: &HostRuntime) -> Result<Status, NoMemory> {
     let Ok(has_input) = fill_streams(rt) else {
         return Ok(Status::SpeakFault);
@@ -78,7 +58,7 @@ fn run(rt: &HostRuntime) -> Result<Status, NoMemory> {
     let words = words(rt, alloc)?;
     let mut schema = StdSource::new(open_schema(rt, &words));
     let mut script = StdSource::new(has_input.then_some(rt.stdin()));
-    let mut station: RealStation<File, _> = RealStation::new(None, rt.stdout());
+    let mut station = RealStation::new(open_store(rt, &words), rt.stdout());
     Ok(pssd(alloc, &words, &mut schema, &mut script, &mut station))
 }
 

@@ -3,3 +3,8 @@ pub mod Rights
 pub mod Short
 pub mod Told
 pub mod Ended
+pub mod Held
+pub mod Lines
+pub mod Between
+pub mod First
+pub mod Nothing

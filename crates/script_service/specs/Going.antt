@@ -1,11 +1,14 @@
 -- How a connector goes on by what lines say.
-use Rattle.std.specs.Prelude.{ℕ, ◌≡◌, ◌≤◌, ◌<◌, ◌+◌, ◌-◌, ◌^◌, true}
+use Rattle.std.specs.Prelude.{ℕ, ◌≡◌, ◌≤◌, ◌<◌, ◌+◌, ◌-◌, ◌^◌, true, List}
+use Rattle.std.specs.declared.option.Option.{Option}
+use Rattle.pss_disk.specs.Moments.{Disk}
 use Rattle.pss_machine.specs.Kept.{Kept}
 use Rattle.pss_machine.specs.Run.{Said}
 use Rattle.connector.specs.declared.connector.Connector.{Connector}
-use Rattle.connector.specs.Keeping.{Keeps, AnyKept, schema_of, limits_of, performed_by, is_live}
+use Rattle.connector.specs.Keeping.{Keeps, AnyKept, schema_of, limits_of, store_of, performed_by, is_live}
 use Rattle.script_service.specs.declared.daemon.Daemon.{Daemon}
 use Rattle.script_service.specs.Turns.{Running, kept_after}
+use Rattle.script_service.specs.Keeping.{IsHeld}
 
 -- it may perform a command
 pub record IsReady (c : Connector) : Type 0 where
@@ -38,6 +41,7 @@ connector_of daemon = daemon.connector
 abbrev pub served_by : Daemon → ℕ
 served_by daemon = daemon.served
 
--- it is in this state
-abbrev pub IsIn : Daemon → Running → Type 0
-IsIn daemon state = Serves (connector_of daemon) (served_by daemon) state
+-- it is in this state, over a disk with this content that may leave this after a crash
+pub record IsIn (daemon : Daemon) (state : Running) (content : Option (List ℕ)) (disk : Option Disk) : Type 0 where
+  pub serves : Serves (connector_of daemon) (served_by daemon) state
+  pub held : IsHeld state (store_of (connector_of daemon)) content disk

@@ -4,14 +4,16 @@ ghost use Rattle.pss_base.specs.Causes.{HasCauseIf};
 ghost use Rattle.pss_disk.specs.Moments.{Through};
 ghost use Rattle.line_service.specs.Turns.{IsLine, Speaks, SaidWhole, is_speak_fault, is_disk_fault};
 ghost use Rattle.script_service.specs.Turns.{Running, turn_from};
+ghost use Rattle.script_service.specs.Keeping.{Passes};
 ghost use Rattle.script_service.specs.Going.{IsIn, connector_of, served_by};
 
 use crate::replying::reply_to;
 use crate::saying::say;
 use connector::Connector;
 use line_service::{LineMachine, Turn};
-use pss_base::LineStep;
+use pss_base::{LineStep, StoreStop};
 use pss_disk::Station;
+use pss_recovery::a_mounted_store_stands;
 use std::alloc::Global;
 
 /// A connector, and how many lines were served by it.
@@ -36,16 +38,19 @@ impl Daemon {
     }
 
     /// Serves a line of at most 65,536 bytes, or one that was too long: what it says is performed, and its reply is spoken
-    /// in one call. After any answer but `Went` it is not called again. It serves at most 4,294,967,295 lines.
+    /// in one call, when the store holds what it committed. After any answer but `Went` it is not called again. It serves at most 4,294,967,295 lines.
     pub fn turn<W: Station>(&mut self, line: LineStep, station: &mut W) -> Turn
         requires line { IsLine line }
         requires few { served_by self.old < 4294967295 }
-        requires stands { (state : Running) × IsIn self.old state }
+        requires stands { (state : Running) × IsIn self.old state (W.content station.old) (W.now station.old).disk }
         ensures served { result ≡ Turn.Went → served_by self.new ≡ served_by self.old + 1 }
-        ensures went { result ≡ Turn.Went → (state : Running) → IsIn self.old state → IsIn self.new (turn_from state line).0 }
-        ensures speaks { (state : Running) → IsIn self.old state → Speaks result (turn_from state line).1 (W.now station.old).spoken (W.now station.new).spoken }
-        ensures moments { (state : Running) → IsIn self.old state → Through (W.history station.old) (W.history station.new)
-            (λ m. SaidWhole result (turn_from state line).1 (W.now station.old).spoken (W.now station.new).spoken m.spoken) }
+        ensures went { result ≡ Turn.Went → (state : Running) → IsIn self.old state (W.content station.old) (W.now station.old).disk
+            → IsIn self.new (turn_from state line).0 (W.content station.new) (W.now station.new).disk }
+        ensures speaks { (state : Running) → IsIn self.old state (W.content station.old) (W.now station.old).disk
+            → Speaks result (turn_from state line).1 (W.now station.old).spoken (W.now station.new).spoken }
+        ensures moments { (state : Running) → IsIn self.old state (W.content station.old) (W.now station.old).disk
+            → Through (W.history station.old) (W.history station.new)
+            (λ m. Passes state line (W.now station.old).spoken m × SaidWhole result (turn_from state line).1 (W.now station.old).spoken (W.now station.new).spoken m.spoken) }
         ensures speech { HasCauseIf (W.speak_faults station.old) (W.speak_faults station.new) (is_speak_fault result) }
         ensures disk { HasCauseIf (W.disk_faults station.old) (W.disk_faults station.new) (is_disk_fault result) }
     {
@@ -56,20 +61,22 @@ impl Daemon {
 impl LineMachine for Daemon {
     ghost State = { Running };
 
-    ghost is_in = { λ daemon state content disk. IsIn daemon state };
+    ghost is_in = { IsIn };
 
     ghost turn = { turn_from };
 
-    ghost passes = { λ state line before m. Unit {0} };
+    ghost passes = { Passes };
 
     ghost served = { served_by };
 
     fn serve_line<W: Station>(&mut self, line: &LineStep, station: &mut W) -> Turn {
+        a_mounted_store_stands();
         self.served += 1;
         match reply_to(self.alloc, &mut self.connector, line, station) {
             Ok(Some(reply)) => say(self.alloc, &reply, station),
             Ok(None) => Turn::Went,
-            Err(_) => Turn::NoMemory,
+            Err(StoreStop::DiskFault) => Turn::DiskFault,
+            Err(StoreStop::NoMemory) => Turn::NoMemory,
         }
     }
 }

@@ -1,4 +1,5 @@
-//! Serves the lines of a script by a connector: the command that a line says is performed, and its reply is spoken.
+//! Serves the lines of a script by a connector: the command that a line says is performed, and its reply is spoken. What was
+//! committed is in the store by then.
 #![tactic(auto)]
 
 mod daemon;
@@ -8,5 +9,6 @@ mod saying;
 mod serving;
 
 pub use daemon::Daemon;
-pub use laws::{lines_are_run, runs_are_right};
+pub use laws::{lines_are_run, runs_are_right, stored_is_between};
+pub use replying::reply_to;
 pub use serving::serve_script;

@@ -1,35 +1,61 @@
-use Rattle.std.proofs.Common.{refl}
+use Rattle.std.proofs.Common.{◌≡◌, refl, sym, subst}
+use Rattle.pss_base.specs.declared.stop.StoreStop.{StoreStop}
+use Rattle.pss_base.specs.declared.stop.StoreStop.TheVariants as stop
 use Rattle.pss_machine.specs.declared.command.Command.TheVariants as command
 use Rattle.pss_machine.specs.declared.reply.Reply.{Reply}
 use Rattle.pss_machine.specs.Kept.{Kept}
-use Rattle.pss_machine.specs.Deciding.{flushing, unless_full}
-use Rattle.pss_machine.specs.Effects.{Flushes}
+use Rattle.pss_machine.specs.Deciding.{decision, flushing, unless_full}
+use Rattle.pss_machine.specs.Effects.{Decision, Flushes}
+use Rattle.connector_parts.specs.Found.{IsFound}
 use Rattle.connector_parts.specs.Stands.{IsAt, Comes}
 use Rattle.connector_parts.proofs.Decisions.{no_session, found_as}
 use Rattle.connector_parts.proofs.Tellings.{if_ok}
 use Rattle.commit_calls.specs.Ready.{MayMakeReady}
 use Rattle.commit_calls.specs.Commits.{MayFlush, Follows}
-use Rattle.commit_calls.proofs.Outcomes.{flush_of_other, flush_of_basic, may_flush, flush_ready}
+use Rattle.commit_calls.proofs.Commitments.{if_err}
+use Rattle.commit_calls.proofs.Outcomes.{basic_is, flush_of_other, flush_ready, follows_comes, may_flush}
+use Rattle.commit_saving.specs.Saving.{BecomesSaved, IsSavedThroughout, StaysSaved, saved_by}
+use Rattle.commit_saving.proofs.Stored.{on_ok}
 use Rattle.commit_calls.proofs.flushing.flush.Goals as goal
 
-pub returns-in_default : goal.returns-in_default
-returns-in_default g c k at =
+pub returns-in_default-clause-comes : goal.returns-in_default-clause-comes
+returns-in_default-clause-comes g c k at =
     no_session c.args.parts.now k at c.args.name.now _ (command.Flush c.args.name.now) (λ s session. flushing c.args.parts.now.schema c.args.parts.now.limits k session) refl c.as_slice.ensures (c.in_default.ensures k at.stands)
 
-pub flush_changes-requires : goal.flush_changes-requires
-flush_changes-requires g c =
-    flush_ready c.args.parts.now c.requires.kept c.requires.at c.args.name.now c.in-Some.found (found_as c.requires.kept _ c.args.name.now c.in-Some.found c.as_slice.ensures (c.in-Some.ensures c.requires.kept c.requires.at.stands)) c.in-Basic.owner c.in-Basic.is
+pub flush_changes-requires-clause-ready : goal.flush_changes-requires-clause-ready
+flush_changes-requires-clause-ready g c =
+    flush_ready c.args.parts.now c.requires.any.kept c.requires.any.at c.args.name.now c.in-Some.found (found_as c.requires.any.kept _ c.args.name.now c.in-Some.found c.as_slice.ensures (c.in-Some.ensures c.requires.any.kept c.requires.any.at.stands)) c.in-Basic.owner c.in-Basic.is
 
 pub returns-in-Basic : goal.returns-in-Basic
 returns-in-Basic g c =
-    if_ok
-    (λ (told : Reply). (m : MayMakeReady c.args.parts.now c.in-Basic.owner) → MayFlush m.kept c.in-Some.found.number c.in-Basic.owner → Follows c.args.parts.now m.kept (unless_full c.args.parts.now.schema c.args.parts.now.limits m.kept c.in-Basic.owner (Flushes c.in-Basic.owner)) told c.flush_changes.new.parts)
-    (λ (told : Reply). (k : Kept) → IsAt c.args.parts.now k → Comes c.args.parts.now k (command.Flush c.args.name.now) told c.flush_changes.new.parts) c.flush_changes.result
-    (λ told h k at.
-    let is = found_as k _ c.args.name.now c.in-Some.found c.as_slice.ensures (c.in-Some.ensures k at.stands) in
-    flush_of_basic c.args.parts.now k at c.args.name.now c.in-Some.found is c.in-Basic.owner c.flush_changes.new.parts told c.in-Basic.is
-    (h (flush_ready c.args.parts.now k at c.args.name.now c.in-Some.found is c.in-Basic.owner c.in-Basic.is) (may_flush c.args.parts.now k at c.args.name.now c.in-Some.found is c.in-Basic.owner c.in-Basic.is)))
-    c.flush_changes.ensures
+    let content = g.W.Station.content in
+    let history = g.W.Station.history in
+    let parts = c.args.parts.now in
+    let name = c.args.name.now in
+    let found = c.in-Some.found in
+    let n = c.in-Basic.owner in
+    let new = c.flush_changes.new in
+    let result = c.flush_changes.result in
+    let is : (k : Kept) → IsAt parts k → IsFound k name found = λ k at. found_as k _ name found c.as_slice.ensures (c.in-Some.ensures k at.stands) in
+    let ready : (k : Kept) → IsAt parts k → MayMakeReady parts n = λ k at. flush_ready parts k at name found (is k at) n c.in-Basic.is in
+    let decided : (k : Kept) → IsAt parts k → decision parts.schema parts.limits k (command.Flush name) ≡ unless_full parts.schema parts.limits k n (Flushes n) = λ k at. basic_is parts k at name found (is k at) n c.in-Basic.is in
+    record {
+      comes = if_ok
+          (λ (told : Reply). (m : MayMakeReady parts n) → MayFlush m.kept found.number n → Follows parts m.kept (unless_full parts.schema parts.limits m.kept n (Flushes n)) told new.parts)
+          (λ (told : Reply). (k : Kept) → IsAt parts k → Comes parts k (command.Flush name) told new.parts) result
+          (λ told h k at. follows_comes parts new.parts k (command.Flush name) (unless_full parts.schema parts.limits k n (Flushes n)) told (decided k at) (h (ready k at) (may_flush parts k at name found (is k at) n c.in-Basic.is)))
+          c.flush_changes.ensures.follows;
+      saved = on_ok result (λ made k at. subst (λ (d : Decision). BecomesSaved content parts.schema k d.effect c.args.store.now new.store c.args.station.now new.station) (sym (decided k at)) (made (ready k at))) c.flush_changes.ensures.saved;
+      images = λ k at. subst (λ (d : Decision). IsSavedThroughout content history parts.schema k d.effect c.args.store.now c.args.station.now new.station) (sym (decided k at)) (c.flush_changes.ensures.images (ready k at));
+      memory = if_err
+          (λ (why : StoreStop). why ≡ stop.NoMemory → (m : MayMakeReady parts n) → StaysSaved content history parts.schema m.kept c.args.store.now c.args.station.now new.station)
+          (λ (why : StoreStop). why ≡ stop.NoMemory → (k : Kept) → IsAt parts k → StaysSaved content history parts.schema k c.args.store.now c.args.station.now new.station) result
+          (λ why stays is k at. stays is (ready k at)) c.flush_changes.ensures.memory;
+      next = on_ok result (λ is k at. subst (λ (d : Decision). new.store.next ≡ saved_by k c.args.store.now.next d.effect) (sym (decided k at)) (is (ready k at))) c.flush_changes.ensures.next;
+      settled = c.flush_changes.ensures.settled;
+      silent = c.flush_changes.ensures.silent;
+      cause = c.flush_changes.ensures.cause;
+    }
 
-pub returns-in-Transactional : goal.returns-in-Transactional
-returns-in-Transactional g c k at = flush_of_other c.args.parts.now k at c.args.name.now c.in-Some.found (found_as k _ c.args.name.now c.in-Some.found c.as_slice.ensures (c.in-Some.ensures k at.stands)) c.in-Transactional.is
+pub returns-in-Transactional-clause-comes : goal.returns-in-Transactional-clause-comes
+returns-in-Transactional-clause-comes g c k at = flush_of_other c.args.parts.now k at c.args.name.now c.in-Some.found (found_as k _ c.args.name.now c.in-Some.found c.as_slice.ensures (c.in-Some.ensures k at.stands)) c.in-Transactional.is

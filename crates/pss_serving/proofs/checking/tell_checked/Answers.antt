@@ -41,3 +41,6 @@ returns-in-SpeakFault-refuse-clause-moments g c = checking_cut _ _ _ _ _ _ c.ref
 pub returns-in-Refused-clause-moments : goal.returns-in-Refused-clause-moments
 returns-in-Refused-clause-moments g c =
     checking_whole _ _ _ _ _ _ status.NoMemory (inl (c.in-Refused.fault, c.in-Refused.ensures.found, inl c.in-NoMemory-refuse.ensures.told)) c.refuse.ensures.moments
+
+pub returns-in-Whole-refuse-clause-one : goal.returns-in-Whole-refuse-clause-one
+returns-in-Whole-refuse-clause-one g c = λ ended. c.in-Refused.ensures.one

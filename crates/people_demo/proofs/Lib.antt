@@ -1,0 +1,9 @@
+pub mod Added
+pub mod Soundness
+pub mod Lengths
+pub mod OneLine
+pub mod Onward
+pub mod Replied
+pub mod Beginning
+pub mod Shown
+pub mod Stopping

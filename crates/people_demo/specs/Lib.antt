@@ -1,0 +1,5 @@
+pub mod People
+pub mod Lines
+pub mod Tally
+pub mod Shows
+pub mod inner

@@ -1,0 +1,5 @@
+pub mod Short
+pub mod Showing
+pub mod Serving
+pub mod Begun
+pub mod Telling

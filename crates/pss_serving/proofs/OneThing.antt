@@ -1,0 +1,60 @@
+-- A text is one thing, by what reading it came to.
+use Rattle.std.proofs.Common.{◌≡◌, ◌∙◌, sym, subst, ℕ, ◌<◌, List, length, take, Some, None, IfSome, arith}
+use Rattle.std.specs.declared.option.Option.{Option}
+use Rattle.psdl_tree.specs.Trees.{Definitions}
+use Rattle.psdl_syntax.specs.Syntax.{HasNoTree, IsTextOf, most_bytes}
+use Rattle.psdl_names.specs.Declarations.{all_declarations}
+use Rattle.psdl_conditions.specs.Faults.{first_fault}
+use Rattle.pss_serving.specs.Checked.{HasFault, IsOneThing, IsSound}
+use Rattle.pss_serving.specs.Found.{IsOne}
+use Rattle.pss_serving.specs.declared.reading.Checked.{Checked}
+use Rattle.pss_serving.specs.declared.reading.Checked.TheVariants as checked
+use Rattle.pss_serving.specs.declared.schema_fault.SchemaFault.{SchemaFault}
+use Rattle.pss_serving.specs.declared.schema_fault.SchemaFault.TheVariants.{Syntax, Check}
+use Rattle.pss_serving.proofs.Found.{told}
+
+never : HasNoTree → (text : List ℕ) → ((one other : Definitions) → IsTextOf one text → IsTextOf other text → one ≡ other)
+    → (fault : SchemaFault) (tree : Definitions) → HasFault text fault → IsSound text tree → ⊥
+never no_tree text one (Syntax fault) tree is sound = no_tree text fault.place fault.kind tree is sound.0
+never no_tree text one (Check fault) tree is sound =
+    let same : is.0 ≡ tree = one is.0 tree is.1 sound.0 in
+    let none : first_fault (all_declarations is.0) ≡ None = subst (λ (t : Definitions). first_fault (all_declarations t) ≡ None) (sym same) sound.1 in
+    cc (is.2, none)
+
+-- it has this tree and no other
+pub of_tree : HasNoTree → (text : List ℕ) (tree : Definitions) → ((other : Definitions) → IsTextOf other text → tree ≡ other) → IsOneThing text
+of_tree no_tree text tree only =
+    let one : (a b : Definitions) → IsTextOf a text → IsTextOf b text → a ≡ b = λ a b is also. sym (only a is) ∙ only b also in
+    record { one_tree = one; never_both = never no_tree text one }
+
+-- it has no tree
+pub of_none : (text : List ℕ) → ((tree : Definitions) → IsTextOf tree text → ⊥) → IsOneThing text
+of_none text none = record { one_tree = λ one other is also. absurd (none one is); never_both = λ fault tree is sound. none tree sound.0 }
+
+-- whatever it was found to be
+pub any : (found : Checked) (text : List ℕ) → IsOneThing text → IsOne found (Some text)
+any (checked.Sound sound) text is = is
+any (checked.Refused fault) text is = is
+any checked.ReadFault text is = tt
+any checked.NoMemory text is = tt
+
+of_source : (found : Checked) (source : Option (List ℕ)) → IfSome source IsOneThing → IsOne found source
+of_source (checked.Sound sound) source is = is
+of_source (checked.Refused fault) source is = is
+of_source checked.ReadFault source is = tt
+of_source checked.NoMemory source is = tt
+
+-- all bytes that come were read
+pub whole_one : (found : Checked) (bytes : List ℕ) (source : Option (List ℕ)) → IfSome source (λ all. bytes ≡ all) → IsOne found (Some bytes) → IsOne found source
+whole_one (checked.Sound sound) bytes source is one = told IsOneThing bytes source one is
+whole_one (checked.Refused fault) bytes source is one = told IsOneThing bytes source one is
+whole_one checked.ReadFault bytes source is one = tt
+whole_one checked.NoMemory bytes source is one = tt
+
+over_limit : (n : ℕ) (all : List ℕ) → most_bytes < n → n < length all → IsOneThing all
+over_limit n all past over = of_none all (λ tree is. omega (arith, is.within))
+
+-- more bytes come than a text may have
+pub longer_one : (n : ℕ) (found : Checked) (bytes : List ℕ) (source : Option (List ℕ)) → most_bytes < n → IfSome source (λ all. (n < length all) × (bytes ≡ take n all)) → IsOne found source
+longer_one n found bytes None past is = of_source found None tt
+longer_one n found bytes (Some all) past is = of_source found (Some all) (over_limit n all past is.0)

@@ -16,6 +16,4 @@ pub use script_text::{CommandFault, print_reply, read_command};
 pub use service::pssd;
 
 #[cfg(test)]
-mod failures;
-#[cfg(test)]
 mod tests;

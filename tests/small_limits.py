@@ -7,7 +7,7 @@ import shutil
 from plain_lists import tried, workspace
 from running import here, lines_of, tell
 
-LIBRARIES = ["connector", "psdl_syntax", "psdl_check", "script_text", "case_lines"]
+LIBRARIES = ["connector", "pss_recovery", "psdl_syntax", "psdl_check", "script_text", "case_lines"]
 
 
 def small_limits(folder):

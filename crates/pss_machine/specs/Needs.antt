@@ -14,6 +14,7 @@ use Rattle.type_layout.specs.Types.{PlainValue}
 use Rattle.type_layout.specs.Keys.{key_bytes}
 use Rattle.type_layout.specs.Schemas.{given}
 use Rattle.pss_catalog.specs.Catalog.{Object, Catalog, references}
+use Rattle.std.specs.Hash as fed
 use Rattle.pss_machine.specs.declared.lock.Resource.{Resource}
 use Rattle.pss_machine.specs.declared.lock.Resource.TheVariants as resource
 use Rattle.pss_machine.specs.declared.lock.Mode.{Mode}
@@ -95,6 +96,12 @@ same_resource (resource.Object s) (resource.Object t) = s == t
 same_resource (resource.Key k bytes) (resource.Key l other) = k == l && bytes_eq bytes other
 same_resource (resource.Extent g) (resource.Extent h) = g == h
 same_resource _ _ = false
+
+-- what a resource feeds a hash: which of the three it is, and its parts
+abbrev pub hashed : Resource → fed.HashWrites
+hashed (resource.Object serial) = fed.u8 0 ++ fed.u64 serial
+hashed (resource.Key k bytes) = fed.u8 1 ++ (fed.u32 k ++ (bytes ∷ []))
+hashed (resource.Extent h) = fed.u8 2 ++ fed.u32 h
 
 -- both read, or both add and take away
 abbrev pub go_together : Mode → Mode → Bool

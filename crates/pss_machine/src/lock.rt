@@ -3,10 +3,11 @@ ghost use Rattle.std.specs.Prelude.{◌≡◌, ◌++◌, ◌∷◌, [], OnOk, On
 
 use pss_base::{Bytes, NoMemory};
 use std::alloc::Global;
+use std::hash::{Hash, Hasher};
 use std::marker::Model;
 
 /// What is locked.
-#[derive(PartialEq, Eq, Hash, Drop)]
+#[derive(PartialEq, Eq, Drop)]
 pub enum Resource {
     /// The object of a serial, whether or not there is one.
     Object(u64),
@@ -14,6 +15,36 @@ pub enum Resource {
     Key(u32, Bytes),
     /// Which objects the home of this number has.
     Extent(u32),
+}
+
+// The tables of locks hash each lock often, so a resource feeds few bytes.
+impl Hash for Resource {
+    ghost use Rattle.std.specs.Cmp.Rules.{hashing};
+    ghost use Rattle.std.proofs.Common.{rules};
+    ghost use Rattle.std.specs.Cmp.Lexicographic.{bytes_decides};
+    ghost use Rattle.pss_machine.specs.Needs.{hashed};
+
+    ghost hash_input = { hashed };
+
+    ghost respects_eq = { Prim.search (hashing, rules, bytes_decides) };
+
+    fn hash<H: Hasher>(&self, state: &mut H) {
+        match self {
+            Resource::Object(serial) => {
+                state.write_u8(0);
+                state.write_u64(*serial);
+            }
+            Resource::Key(key, bytes) => {
+                state.write_u8(1);
+                state.write_u32(*key);
+                state.write(bytes.as_slice());
+            }
+            Resource::Extent(home) => {
+                state.write_u8(2);
+                state.write_u32(*home);
+            }
+        }
+    }
 }
 
 /// How a resource is locked. Two modes go together where both are `S` or both are `M`.

@@ -1,5 +1,6 @@
 -- A hasher of bytes is std's hasher under another name.
 use Rattle.std.specs.Prelude.{ℕ, List, fold}
+use Rattle.std.specs.Hash.{le_bytes}
 use Rattle.std.specs.Hash.DefaultHasher as sip
 use Rattle.std.specs.declared.hash.DefaultHasher.{DefaultHasher}
 use Rattle.table_hash.specs.declared.byte_hasher.ByteHasher.{ByteHasher}
@@ -19,3 +20,7 @@ fed s b = hashing (sip.write_byte (plain s) b)
 -- the state after bytes
 abbrev pub fed_all : ByteHasher → List ℕ → ByteHasher
 fed_all s bytes = fold fed s bytes
+
+-- the state after the number i, of n bytes
+abbrev pub fed_number : ℕ → ByteHasher → ℕ → ByteHasher
+fed_number n s i = fed_all s (le_bytes n i)

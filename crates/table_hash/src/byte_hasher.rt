@@ -1,7 +1,8 @@
 // What `DefaultHasher` computes, at less cost for a byte.
-ghost use Rattle.std.specs.Prelude.{◌≡◌};
+ghost use Rattle.std.specs.Prelude.{◌≡◌, ◌≤◌, ◌+◌, length, take, drop};
+ghost use Rattle.std.specs.Hash.{le_bytes};
 ghost use Rattle.std.specs.Hash.DefaultHasher as sip;
-ghost use Rattle.table_hash.specs.Hashing.{plain, hashing, fed, fed_all};
+ghost use Rattle.table_hash.specs.Hashing.{plain, hashing, fed, fed_all, fed_number};
 
 use std::hash::Hasher;
 
@@ -55,6 +56,50 @@ impl ByteHasher {
             self.tail = 0;
         }
     }
+
+    // The word that the tail and the first bytes of i make goes in, and the last bytes of i are the tail.
+    #[inline(always)]
+    fn write_eight(&mut self, i: u64)
+        ensures { self.new ≡ fed_number 8 self.old i }
+    {
+        let held = 8 * (self.length % 8);
+        self.write_word(self.tail | i << held);
+        self.tail = i >> 8 >> (56 - held);
+        self.length = self.length.wrapping_add(8);
+    }
+
+    // Where the word has room for them all, its bytes wait in the tail.
+    #[inline(always)]
+    fn write_four(&mut self, i: u32)
+        ensures { self.new ≡ fed_number 4 self.old i }
+    {
+        let held = 8 * (self.length % 8);
+        let word = self.tail | (i as u64) << held;
+        self.length = self.length.wrapping_add(4);
+        if held < 32 {
+            self.tail = word;
+        } else {
+            self.write_word(word);
+            self.tail = (i as u64) >> (64 - held);
+        }
+    }
+}
+
+#[inline(always)]
+fn number_at(bytes: &[u8], at: usize) -> u64
+    requires { at + 8 ≤ length bytes.now }
+    ensures { le_bytes 8 result ≡ take 8 (drop at bytes.now) }
+{
+    u64::from_le_bytes([
+        bytes[at],
+        bytes[at + 1],
+        bytes[at + 2],
+        bytes[at + 3],
+        bytes[at + 4],
+        bytes[at + 5],
+        bytes[at + 6],
+        bytes[at + 7],
+    ])
 }
 
 impl Default for ByteHasher {
@@ -79,7 +124,12 @@ impl Hasher for ByteHasher {
 
     #[inline(always)]
     fn write(&mut self, bytes: &[u8]) {
-        for i in 0..bytes.len() {
+        let mut at = 0;
+        while bytes.len() - at >= 8 {
+            self.write_eight(number_at(bytes, at));
+            at += 8;
+        }
+        for i in at..bytes.len() {
             self.write_byte(bytes[i]);
         }
     }
@@ -87,6 +137,21 @@ impl Hasher for ByteHasher {
     #[inline(always)]
     fn write_u8(&mut self, i: u8) {
         self.write_byte(i);
+    }
+
+    #[inline(always)]
+    fn write_u32(&mut self, i: u32) {
+        self.write_four(i);
+    }
+
+    #[inline(always)]
+    fn write_u64(&mut self, i: u64) {
+        self.write_eight(i);
+    }
+
+    #[inline(always)]
+    fn write_usize(&mut self, i: usize) {
+        self.write_eight(i as u64);
     }
 
     fn finish(&self) -> u64 {

@@ -3,7 +3,7 @@ ghost use Rattle.std.specs.Prelude.{◌≡◌, None, OnOk, OnErr, true};
 ghost use Rattle.std.specs.FinMap as map;
 ghost use Rattle.std.specs.FinSet as set;
 
-use crate::slots::{Slot, Slots, add, empty, read, remove, write};
+use crate::slots::{Slot, Slots, add, empty, find, read, remove, write};
 use pss_base::NoMemory;
 use std::alloc::Global;
 use std::marker::Model;
@@ -45,7 +45,7 @@ impl KeyIndex {
     pub fn find(&self, key: &[u8]) -> Option<u64>
         ensures { result ≡ map.get self.now.held key.now }
     {
-        match read(&self.slots, key) {
+        match find(&self.slots, key) {
             Some(slot) => slot.serial(),
             None => None,
         }

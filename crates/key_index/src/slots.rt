@@ -1,11 +1,12 @@
 // The tables behind an index: a slot for each key that is held, reserved or both.
-ghost use Rattle.std.specs.Prelude.{◌≡◌, [], Some, None, true, OnOk, OnErr, IsSome};
+ghost use Rattle.std.specs.Prelude.{◌≡◌, [], Some, None, true, OnOk, OnErr, IfSome, IsSome};
 ghost use Rattle.key_index.specs.Slots.{slot_at, long_slot, slots_of, bytes_of, Turns};
 
 use crate::short::{ShortKey, short_of};
 use indexmap::IndexMap;
 use pss_base::NoMemory;
 use std::alloc::Global;
+use std::cell::Cell;
 use std::hash::BuildHasherDefault;
 use table_hash::ByteHasher;
 
@@ -63,6 +64,9 @@ type Table<K> = IndexMap<K, Slot, BuildHasherDefault<ByteHasher>>;
 pub struct Slots {
     short: Table<ShortKey>,
     long: Table<Vec<u8>>,
+    // The place behind that of the short key found last, where the next one is looked for first: keys are often asked for in the
+    // order in which they were put. It may be any number.
+    ahead: Cell<usize>,
 }
 
 pub fn empty(alloc: Global) -> Slots
@@ -71,6 +75,7 @@ pub fn empty(alloc: Global) -> Slots
     Slots {
         short: IndexMap::with_hasher(alloc, BuildHasherDefault::new()),
         long: IndexMap::with_hasher(alloc, BuildHasherDefault::new()),
+        ahead: Cell::new(0),
     }
 }
 
@@ -81,6 +86,52 @@ pub fn read(slots: &Slots, key: &[u8]) -> Option<Slot>
     match short_of(key) {
         Some(short) => slots.short.get(&short).copied(),
         None => slots.long.get(key).copied(),
+    }
+}
+
+/// The slot of a key, as `read` answers it. Short keys that are found in the order of the table are not hashed.
+pub fn find(slots: &Slots, key: &[u8]) -> Option<Slot>
+    ensures { result ≡ slot_at key.now (slots_of slots.now) }
+{
+    match short_of(key) {
+        Some(short) => find_short(&slots.short, &slots.ahead, &short),
+        None => slots.long.get(key).copied(),
+    }
+}
+
+fn find_short(table: &Table<ShortKey>, ahead: &Cell<usize>, key: &ShortKey) -> Option<Slot>
+    ensures { result ≡ slot_at key.now table.now.entries }
+{
+    let next = ahead.get();
+    match slot_there(table, next, key) {
+        Some(slot) => {
+            ahead.set(next.wrapping_add(1));
+            Some(slot)
+        }
+        None => look_up(table, ahead, key),
+    }
+}
+
+// The slot at a place of the table, where this key stands there.
+fn slot_there(table: &Table<ShortKey>, place: usize, key: &ShortKey) -> Option<Slot>
+    ensures { IfSome result (λ slot. slot_at key.now table.now.entries ≡ Some slot) }
+{
+    match table.get_index(place) {
+        Some((there, slot)) if there == key => Some(*slot),
+        _ => None,
+    }
+}
+
+// The slot that a key has by its hash. The next one is looked for behind it.
+fn look_up(table: &Table<ShortKey>, ahead: &Cell<usize>, key: &ShortKey) -> Option<Slot>
+    ensures { result ≡ slot_at key.now table.now.entries }
+{
+    match table.get_full(key) {
+        Some((place, _, slot)) => {
+            ahead.set(place.wrapping_add(1));
+            Some(*slot)
+        }
+        None => None,
     }
 }
 

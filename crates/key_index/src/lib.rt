@@ -1,7 +1,8 @@
 //! Which object has a key: a finite map from key bytes to serials, and beside it a finite set of
 //! reserved keys. What was reserved can be put without memory.
 //!
-//! A key of at most 24 bytes lies in its table, so that a look-up reads no other place for it; a longer one lies on the heap.
+//! A key of at most 24 bytes lies in its table, so that a look-up reads no other place for it; a longer one lies on the heap. A short
+//! key is looked for behind the one found last before it is hashed: keys asked for in the order in which they were put stand there.
 //!
 //! Keys are bytes that strangers choose. A table hashes them by SipHash-1-3 under a key that is fixed and known, since a
 //! secret one takes random bytes from the operating system, and that call can fail. It has groups of 12 places, one for at

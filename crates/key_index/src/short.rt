@@ -3,7 +3,6 @@ ghost use Rattle.std.specs.Prelude.{◌≡◌, ◌∷◌, [], true, false, IfSom
 ghost use Rattle.std.proofs.Common.{ap};
 ghost use Rattle.std.specs.Cmp.{partial_equiv_from_equiv};
 ghost use Rattle.std.specs.Cmp.Lexicographic.{nat_list_eq_equiv, bytes_decides};
-ghost use Rattle.std.specs.Hash as fed;
 ghost use Rattle.std.specs.Str.{bytes_eq};
 ghost use Rattle.key_index.specs.Slots.{is_short};
 
@@ -58,12 +57,13 @@ impl Eq for ShortKey {
     ghost laws = { nat_list_eq_equiv };
 }
 
+// One write of all bytes: a table hashes a key often.
 impl Hash for ShortKey {
-    ghost hash_input = { fed.slice fed.u8 };
+    ghost hash_input = { λ k. k ∷ [] };
 
-    ghost respects_eq = { λ x y same. ap (fed.slice fed.u8) ((bytes_decides x y).0 same) };
+    ghost respects_eq = { λ x y same. ap (λ k. k ∷ []) ((bytes_decides x y).0 same) };
 
     fn hash<H: Hasher>(&self, state: &mut H) {
-        self.bytes.hash(state);
+        state.write(self.bytes.as_slice());
     }
 }

@@ -4,7 +4,7 @@ ghost use Rattle.pss_base.specs.Causes.{HasCauseIf};
 ghost use Rattle.pss_base.specs.declared.stop.StoreStop.TheVariants as stop;
 ghost use Rattle.pss_disk.specs.Moments.{IsSettled};
 ghost use Rattle.page_format.specs.Faults.{is_disk_stop};
-ghost use Rattle.pss_machine.specs.declared.command.Command.TheVariants as command;
+ghost use Rattle.pss_machine.specs.declared.command.Command.TheVariants as commands;
 ghost use Rattle.pss_base.specs.declared.lines.LineStep.TheVariants as line_step;
 ghost use Rattle.line_service.specs.Turns.{IsLine};
 ghost use Rattle.pss_machine.specs.Kept.{Kept};
@@ -14,18 +14,45 @@ ghost use Rattle.pss_recovery.specs.Silence.{IsSilent};
 ghost use Rattle.commit_saving.specs.Saving.{BecomesSaved, IsSavedThroughout, StaysSaved};
 ghost use Rattle.script_text.specs.Meaning as meaning;
 ghost use Rattle.connector.specs.Keeping.{Keeps, schema_of, limits_of, store_of};
+ghost use Rattle.connector.specs.Rests.{HasShortRest};
 ghost use Rattle.script_service.specs.Turns.{effect_of, told_by};
 ghost use Rattle.script_service.specs.Going.{IsReady, Goes};
 
 use connector::Connector;
 use pss_base::{LineStep, StoreStop};
 use pss_disk::Station;
-use pss_machine::Reply;
+use pss_machine::{Command, Reply};
 use script_text::{CommandFault, read_command};
 use std::alloc::Global;
 
 /// The column that is told of a line which is too long: that of its first byte too many.
 const TOO_LONG: u32 = 65537;
+
+// Performs what a line says, and tells the reply.
+fn reply_to_command<W: Station>(
+    connector: &mut Connector,
+    command: &Command,
+    station: &mut W,
+) -> Result<Option<Reply>, StoreStop>
+    requires rest { HasShortRest command.now }
+    requires ready { IsReady connector.old }
+    requires settled { IsSettled (W.content station.old) (W.now station.old) }
+    ensures reply { IfOk result (λ reply. (k : Kept) → Keeps connector.old k
+        → reply ≡ reply_of (schema_of connector.old) (limits_of connector.old) k (Says command.now)) }
+    ensures goes { OnOk result (Goes (Says command.now) connector.old connector.new) }
+    ensures saved { OnOk result ((k : Kept) → Keeps connector.old k → BecomesSaved W.content (schema_of connector.old) k (effect_of (schema_of connector.old) (limits_of connector.old) k (Says command.now)) (store_of connector.old) (store_of connector.new) station.old station.new) }
+    ensures images { (k : Kept) → Keeps connector.old k → IsSavedThroughout W.content W.history (schema_of connector.old) k (effect_of (schema_of connector.old) (limits_of connector.old) k (Says command.now)) (store_of connector.old) station.old station.new }
+    ensures memory { IfErr result (λ why. why ≡ stop.NoMemory → (k : Kept) → Keeps connector.old k → StaysSaved W.content W.history (schema_of connector.old) k (store_of connector.old) station.old station.new) }
+    ensures emptied { command.now ≡ commands.Checkpoint → OnOk result (IfSome (W.content station.new) HasNoRecord) }
+    ensures settled { OnOk result (IsSettled (W.content station.new) (W.now station.new)) }
+    ensures silent { IsSilent W.now W.history W.speak_faults station.old station.new }
+    ensures cause { HasCauseIf (W.disk_faults station.old) (W.disk_faults station.new) (is_disk_stop result) }
+{
+    match connector.perform(command, station) {
+        Ok(reply) => Ok(Some(reply)),
+        Err(stop) => Err(stop),
+    }
+}
 
 // The reply to a line by its text, if it has one.
 fn reply_to_text<W: Station>(
@@ -43,7 +70,7 @@ fn reply_to_text<W: Station>(
     ensures saved { OnOk result ((k : Kept) → Keeps connector.old k → BecomesSaved W.content (schema_of connector.old) k (effect_of (schema_of connector.old) (limits_of connector.old) k (meaning.meaning text.now)) (store_of connector.old) (store_of connector.new) station.old station.new) }
     ensures images { (k : Kept) → Keeps connector.old k → IsSavedThroughout W.content W.history (schema_of connector.old) k (effect_of (schema_of connector.old) (limits_of connector.old) k (meaning.meaning text.now)) (store_of connector.old) station.old station.new }
     ensures memory { IfErr result (λ why. why ≡ stop.NoMemory → (k : Kept) → Keeps connector.old k → StaysSaved W.content W.history (schema_of connector.old) k (store_of connector.old) station.old station.new) }
-    ensures emptied { (meaning.meaning text.now) ≡ Says command.Checkpoint → OnOk result (IfSome (W.content station.new) HasNoRecord) }
+    ensures emptied { (meaning.meaning text.now) ≡ Says commands.Checkpoint → OnOk result (IfSome (W.content station.new) HasNoRecord) }
     ensures still { (meaning.meaning text.now) ≡ Silent → station.new ≡ station.old }
     ensures settled { OnOk result (IsSettled (W.content station.new) (W.now station.new)) }
     ensures silent { IsSilent W.now W.history W.speak_faults station.old station.new }
@@ -51,10 +78,12 @@ fn reply_to_text<W: Station>(
 {
     match read_command(alloc, text) {
         Ok(None) => Ok(None),
-        Ok(Some(command)) => match connector.perform(&command, station) {
-            Ok(reply) => Ok(Some(reply)),
-            Err(stop) => Err(stop),
-        },
+        Ok(Some(command)) => {
+            let reply = reply_to_command(connector, &command, station);
+            // Here and not at the end: so its many forms are not taken apart among the clauses above.
+            drop(command);
+            reply
+        }
         Err(CommandFault::Column(column)) => Ok(Some(Reply::Err(column))),
         Err(CommandFault::NoMemory) => Err(StoreStop::NoMemory),
     }
@@ -76,7 +105,7 @@ pub fn reply_to<W: Station>(
     ensures saved { OnOk result ((k : Kept) → Keeps connector.old k → BecomesSaved W.content (schema_of connector.old) k (effect_of (schema_of connector.old) (limits_of connector.old) k (told_by line.now)) (store_of connector.old) (store_of connector.new) station.old station.new) }
     ensures images { (k : Kept) → Keeps connector.old k → IsSavedThroughout W.content W.history (schema_of connector.old) k (effect_of (schema_of connector.old) (limits_of connector.old) k (told_by line.now)) (store_of connector.old) station.old station.new }
     ensures memory { IfErr result (λ why. why ≡ stop.NoMemory → (k : Kept) → Keeps connector.old k → StaysSaved W.content W.history (schema_of connector.old) k (store_of connector.old) station.old station.new) }
-    ensures emptied { (told_by line.now) ≡ Says command.Checkpoint → OnOk result (IfSome (W.content station.new) HasNoRecord) }
+    ensures emptied { (told_by line.now) ≡ Says commands.Checkpoint → OnOk result (IfSome (W.content station.new) HasNoRecord) }
     ensures still { (told_by line.now) ≡ Silent → station.new ≡ station.old }
     ensures settled { OnOk result (IsSettled (W.content station.new) (W.now station.new)) }
     ensures silent { IsSilent W.now W.history W.speak_faults station.old station.new }

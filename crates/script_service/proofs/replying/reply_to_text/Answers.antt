@@ -4,8 +4,8 @@ use Rattle.script_service.proofs.Nothing.{passes_silent, passes_wrong, stays_sil
 use Rattle.script_service.proofs.Short.{short_rest}
 use Rattle.script_service.proofs.replying.reply_to_text.Goals as goal
 
-pub perform-requires-clause-rest : goal.perform-requires-clause-rest
-perform-requires-clause-rest g c = short_rest c.args.text.now c.in-Ok-Some.command c.requires.short (rw c.in-Ok-Some.field-0-is at c.in-Ok-Some.ensures.reads).0
+pub reply_to_command-reply-requires-clause-rest : goal.reply_to_command-reply-requires-clause-rest
+reply_to_command-reply-requires-clause-rest g c = short_rest c.args.text.now c.in-Ok-Some.command c.requires.short (rw c.in-Ok-Some.field-0-is at c.in-Ok-Some.ensures.reads).0
 
 -- ---- a line that says no command
 

@@ -1,11 +1,15 @@
 -- Entries are packed one after another.
-use Rattle.std.proofs.Common.{ℕ, suc, ◌≡◌, ◌≢◌, ◌+◌, ◌<◌, ◌≤◌, List, [], ◌∷◌, ◌++◌, All, refl, sym, ap, ◌∙◌, subst, arith, append_assoc, append-nil}
-use Rattle.page_format.specs.Objects.{HasRecord, entries_of, entry_of}
+use Rattle.std.proofs.Common.{ℕ, zero, suc, ◌≡◌, ◌≢◌, ◌+◌, ◌-◌, ◌<◌, ◌≤◌, List, [], ◌∷◌, ◌++◌, length, take, drop, get_or, refl, sym, ap, ◌∙◌, subst, arith, append_assoc, append-nil}
+use Rattle.std.proofs.Math.Seq.{take-length, take-suc}
+use Rattle.std.proofs.lemmas.List.{drop-append-le, drop-take, length-take-le}
+use Rattle.std.specs.List.{slice_range}
+use Rattle.pss_base.specs.declared.put.Put.{Put}
+use Rattle.page_format.specs.Objects.{entries_left, entry_left}
 use Rattle.page_format.specs.Written.{AreStorable, IsStorable}
 use Rattle.page_format.specs.Pages.{Entry}
 use Rattle.page_format.specs.Packing.{AreClosed, AreFilled, HasNoRoom, IsFilled, IsPacking, entries_on, size_of, used_by}
-use Rattle.page_format.specs.declared.objects.Stored.{Stored}
-use Rattle.page_format.specs.inner.Packing.{ArePackedSoFar}
+use Rattle.page_format.specs.declared.packing.Filling.{Filling}
+use Rattle.page_format.specs.inner.Packing.{AreFilledUpTo, ArePackedSoFar}
 
 pub used_by-append : (es fs : List Entry) → used_by (es ++ fs) ≡ used_by es + used_by fs
 used_by-append [] fs = omega arith
@@ -100,32 +104,72 @@ packed_nothing es closed last used so_far none =
       closed = subst AreClosed (sym no_pages) tt;
     }
 
--- the packer after an entry that went into the last page, or into one more
-pub packed_put : (es : List Entry) (closed closed' : List (List Entry)) (last last' : List Entry) (used used' size : ℕ) (e : Entry) → size ≡ size_of e → closed' ≡ closed → last' ≡ last ++ e ∷ [] → used' ≡ used + size → used + size ≤ 16344 → ArePackedSoFar es closed last used
-    → ArePackedSoFar (es ++ e ∷ []) closed' last' used'
-packed_put es closed closed' last last' used used' size e size_ closed_ last_ used_ fits so_far =
-    let there = packed_there es closed last used e so_far (omega (arith, size_, fits)) in
-    let used_now : used + size_of e ≡ used' = omega (arith, size_, used_) in
-    subst (λ (ps : List (List Entry)). ArePackedSoFar (es ++ e ∷ []) ps last' used') (sym closed_)
-    (subst (λ (l : List Entry). ArePackedSoFar (es ++ e ∷ []) closed l used') (sym last_) (subst (λ (n : ℕ). ArePackedSoFar (es ++ e ∷ []) closed (last ++ e ∷ []) n) used_now there))
+-- the changes from one up to another, with one more
+left-append : (puts more : List Put) → entries_left (puts ++ more) ≡ entries_left puts ++ entries_left more
+left-append [] more = refl
+left-append (put ∷ puts) more = ap (λ l. entry_left put ∷ l) (left-append puts more)
 
-pub packed_begun : (es : List Entry) (closed closed' : List (List Entry)) (last last' : List Entry) (used used' size : ℕ) (e : Entry) → size ≡ size_of e → closed' ≡ closed ++ last ∷ [] → last' ≡ e ∷ [] → used' ≡ size → size ≤ 8016 → 16344 < used + size → ArePackedSoFar es closed last used
-    → ArePackedSoFar (es ++ e ∷ []) closed' last' used'
-packed_begun es closed closed' last last' used used' size e size_ closed_ last_ used_ short full so_far =
-    let next = packed_next es closed last used e so_far (omega (arith, size_, short)) (omega (arith, size_, full)) in
-    let used_now : size_of e ≡ used' = omega (arith, size_, used_) in
-    subst (λ (ps : List (List Entry)). ArePackedSoFar (es ++ e ∷ []) ps last' used') (sym closed_)
-    (subst (λ (l : List Entry). ArePackedSoFar (es ++ e ∷ []) (closed ++ last ∷ []) l used') (sym last_) (subst (λ (n : ℕ). ArePackedSoFar (es ++ e ∷ []) (closed ++ last ∷ []) (e ∷ []) n) used_now next))
+taken_one : (puts : List Put) (k : ℕ) (put : Put) → k < length puts → put ≡ get_or puts k put → take (k + 1) puts ≡ take k puts ++ put ∷ []
+taken_one puts k put lt is = ap (λ (n : ℕ). take n puts) (let h : k + 1 ≡ suc k = omega arith in h) ∙ take-suc puts k put lt ∙ ap (λ (x : Put). take k puts ++ x ∷ []) (sym is)
 
-pub entries_of-append : (os ps : List (ℕ × Stored)) → entries_of (os ++ ps) ≡ entries_of os ++ entries_of ps
-entries_of-append [] ps = refl
-entries_of-append (o ∷ os) ps = ap (λ l. entry_of o ∷ l) (entries_of-append os ps)
+range_is : (puts : List Put) (start k : ℕ) → start ≤ k → slice_range puts start k ≡ drop start (take k puts)
+range_is puts start k le = sym (ap (λ (n : ℕ). drop start (take n puts)) (let h : k ≡ start + (k - start) = omega (arith, le) in h) ∙ drop-take start (k - start) puts)
 
-pub all_rest : (o : ℕ × Stored) (os all : List (ℕ × Stored)) → all ≡ o ∷ os → All (λ o. HasRecord o.1.octets) all → HasRecord o.1.octets × All (λ o. HasRecord o.1.octets) os
-all_rest o os all e right =
-    let h : All (λ o. HasRecord o.1.octets) (o ∷ os) = subst (All (λ o. HasRecord o.1.octets)) e right in
-    (h 0 o (omega arith), λ k d lt. h (suc k) d (omega (arith, lt)))
+range_one : (puts : List Put) (start k : ℕ) (put : Put) → start ≤ k → k < length puts → put ≡ get_or puts k put → slice_range puts start (k + 1) ≡ slice_range puts start k ++ put ∷ []
+range_one puts start k put le lt is =
+    range_is puts start (k + 1) (omega (arith, le)) ∙ ap (drop start) (taken_one puts k put lt is) ∙ drop-append-le start (take k puts) (put ∷ []) (let h = length-take-le k puts (omega (arith, lt)) in omega (arith, h, le)) ∙ ap (λ l. l ++ put ∷ []) (sym (range_is puts start k le))
 
-pub storable-append : (es : List Entry) (e : Entry) → AreStorable es → IsStorable e → AreStorable (es ++ e ∷ [])
-storable-append [] e are is = (is, tt)
-storable-append (x ∷ es) e are is = (are.0, storable-append es e are.1 is)
+range_begun : (puts : List Put) (k : ℕ) (put : Put) → k < length puts → put ≡ get_or puts k put → slice_range puts k (k + 1) ≡ put ∷ []
+range_begun puts k put lt is = range_one puts k k put (omega arith) lt is ∙ ap (λ l. l ++ put ∷ []) (ap (λ (n : ℕ). take n (drop k puts)) (let h : k - k ≡ 0 = omega arith in h))
+
+-- the first page after an entry that went into it
+pub filled_none : (puts : List Put) → AreFilledUpTo puts [] (record { start = 0; end = 0; used = 0 })
+filled_none puts = record { begun = omega arith; packed = packed_none }
+
+pub filled_put : (puts : List Put) (closed : List (List Entry)) (filling : Filling) (put : Put) (size : ℕ) → size ≡ size_of (entry_left put) → filling.end < length puts → put ≡ get_or puts filling.end put → filling.used + size ≤ 16344 → AreFilledUpTo puts closed filling
+    → AreFilledUpTo puts closed (record { start = filling.start; end = filling.end + 1; used = filling.used + size })
+filled_put puts closed filling put size size_ lt is fits so_far =
+    let k = filling.end in
+    let e = entry_left put in
+    let there = packed_there (entries_left (take k puts)) closed (entries_left (slice_range puts filling.start k)) filling.used e so_far.packed (omega (arith, size_, fits)) in
+    record {
+      begun = omega (arith, so_far.begun);
+      packed =
+          subst (λ (es : List Entry). ArePackedSoFar es closed (entries_left (slice_range puts filling.start (k + 1))) (filling.used + size)) (sym (left-append (take k puts) (put ∷ [])) ∙ ap entries_left (sym (taken_one puts k put lt is)))
+          (subst (λ (l : List Entry). ArePackedSoFar (entries_left (take k puts) ++ e ∷ []) closed l (filling.used + size)) (sym (left-append (slice_range puts filling.start k) (put ∷ [])) ∙ ap entries_left (sym (range_one puts filling.start k put so_far.begun lt is)))
+          (subst (λ (n : ℕ). ArePackedSoFar (entries_left (take k puts) ++ e ∷ []) closed (entries_left (slice_range puts filling.start k) ++ e ∷ []) (filling.used + n)) (sym size_) there));
+    }
+
+-- the pages after an entry with which another one was begun
+pub filled_begun : (puts : List Put) (closed new : List (List Entry)) (filling : Filling) (put : Put) (size : ℕ) → size ≡ size_of (entry_left put) → size ≤ 8016 → new ≡ closed ++ entries_left (slice_range puts filling.start filling.end) ∷ [] → filling.end < length puts
+    → put ≡ get_or puts filling.end put → 16344 < filling.used + size → AreFilledUpTo puts closed filling → AreFilledUpTo puts new (record { start = filling.end; end = filling.end + 1; used = size })
+filled_begun puts closed new filling put size size_ short new_ lt is full so_far =
+    let k = filling.end in
+    let e = entry_left put in
+    let next = packed_next (entries_left (take k puts)) closed (entries_left (slice_range puts filling.start k)) filling.used e so_far.packed (omega (arith, size_, short)) (omega (arith, size_, full)) in
+    record {
+      begun = omega arith;
+      packed =
+          subst (λ (es : List Entry). ArePackedSoFar es new (entries_left (slice_range puts k (k + 1))) size) (sym (left-append (take k puts) (put ∷ [])) ∙ ap entries_left (sym (taken_one puts k put lt is)))
+          (subst (λ (l : List Entry). ArePackedSoFar (entries_left (take k puts) ++ e ∷ []) new l size) (ap entries_left (sym (range_begun puts k put lt is)))
+          (subst (λ (n : ℕ). ArePackedSoFar (entries_left (take k puts) ++ e ∷ []) new (e ∷ []) n) (sym size_)
+          (subst (λ (ps : List (List Entry)). ArePackedSoFar (entries_left (take k puts) ++ e ∷ []) ps (e ∷ []) (size_of e)) (sym new_) next)));
+    }
+
+-- the pages of all changes
+pub filled_all : (puts : List Put) (closed new : List (List Entry)) (filling : Filling) → filling.end ≡ length puts → new ≡ closed ++ entries_left (slice_range puts filling.start (length puts)) ∷ [] → 0 < filling.used → AreFilledUpTo puts closed filling → IsPacking (entries_left puts) new
+filled_all puts closed new filling end new_ some so_far =
+    let packed = subst (λ (n : ℕ). ArePackedSoFar (entries_left (take n puts)) closed (entries_left (slice_range puts filling.start n)) filling.used) end so_far.packed in
+    let whole = subst (λ (l : List Put). ArePackedSoFar (entries_left l) closed (entries_left (slice_range puts filling.start (length puts))) filling.used) (take-length puts) packed in
+    subst (IsPacking (entries_left puts)) (sym new_) (packed_all (entries_left puts) closed _ filling.used whole some)
+
+pub filled_nothing : (puts : List Put) (closed : List (List Entry)) (filling : Filling) → filling.end ≡ length puts → filling.used ≡ 0 → AreFilledUpTo puts closed filling → IsPacking (entries_left puts) closed
+filled_nothing puts closed filling end none so_far =
+    let packed = subst (λ (n : ℕ). ArePackedSoFar (entries_left (take n puts)) closed (entries_left (slice_range puts filling.start filling.end)) filling.used) end so_far.packed in
+    packed_nothing (entries_left puts) closed _ filling.used (subst (λ (l : List Put). ArePackedSoFar (entries_left l) closed (entries_left (slice_range puts filling.start filling.end)) filling.used) (take-length puts) packed) none
+
+-- the entry of one of the changes
+pub storable_at : (puts : List Put) (i : ℕ) (put : Put) → AreStorable (entries_left puts) → i < length puts → put ≡ get_or puts i put → IsStorable (entry_left put)
+storable_at [] i put are lt is = absurd (omega (arith, lt))
+storable_at (x ∷ puts) zero put are lt is = subst (λ (y : Put). IsStorable (entry_left y)) (sym is) are.0
+storable_at (x ∷ puts) (suc i) put are lt is = storable_at puts i put are.1 (omega (arith, lt)) is

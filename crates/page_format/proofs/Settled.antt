@@ -1,4 +1,4 @@
--- What changes leave of objects, while it is packed by rising serial.
+-- What changes leave of objects, while they are settled by rising serial.
 use Rattle.std.proofs.Common.{ℕ, suc, ◌≡◌, ◌==◌, ◌+◌, ◌<◌, ◌≤◌, ◌&&◌, All, Bool, true, false, cond, T, List, [], ◌∷◌, length, ◌++◌, map, Some, None, IfSome, refl, sym, ap, ◌∙◌, subst, arith}
 use Rattle.std.proofs.lemmas.Bool.{true≢false}
 use Rattle.std.proofs.lemmas.Bool.Decides.{nat_tests}
@@ -8,15 +8,12 @@ use Rattle.std.specs.FinMap.Entries.{below_all, find, is_sorted, same_entries}
 use Rattle.std.specs.Ordering.{is_lt, nat_cmp}
 use Rattle.std.specs.declared.option.Option.{Option}
 use Rattle.pss_base.specs.declared.put.Put.{Put}
-use Rattle.page_format.specs.Objects.{HasRecord, IsRightPut, entries_of, entry_of, left_by, over, stored_of}
+use Rattle.page_format.specs.Objects.{HasRecord, IsRightPut, entries_left, entries_of, entry_left, left_by, over, stored_of}
 use Rattle.page_format.specs.Pages.{Entry}
-use Rattle.page_format.specs.Written.{IsStorable}
+use Rattle.page_format.specs.Written.{AreStorable, IsStorable}
 use Rattle.page_format.specs.declared.objects.Stored.{Stored}
-use Rattle.page_format.specs.declared.packing.Packer.{Packer}
 use Rattle.page_format.specs.declared.settling.Settling.{Settling}
-use Rattle.page_format.specs.inner.Packing.{ArePackedSoFar}
-use Rattle.page_format.specs.inner.Settling.{AreAbove, AreBelow, AreEmitted, AreOthersPacked, ArePacked, AreRising, IsSettling, object_at}
-use Rattle.page_format.proofs.Filling.{storable-append}
+use Rattle.page_format.specs.inner.Settling.{AreAbove, AreBefore, AreBelow, AreOthersSettled, AreRising, AreSettled, IsSettling, object_at}
 use Rattle.page_format.proofs.Leaving.{get-more, tie}
 
 below_more : (s t : ℕ) (es : List Entry) → s ≤ t → AreBelow s es → AreBelow t es
@@ -53,23 +50,36 @@ object_more q (x ∷ es) e below = by (q == x.serial) refl (q == e.serial) refl 
     by false apart true is ih = ih ∙ ap (λ c. cond c (Some (stored_of e).1) (object_at q es)) is
     by false apart false other ih = ih ∙ ap (λ c. cond c (Some (stored_of e).1) (object_at q es)) other
 
--- the packer after an object, or without one
-emitted_one : (es : List Entry) (e : Entry) (next : ℕ) (packer new : Packer) → AreEmitted es e.serial packer → e.serial < next → IsStorable e → ArePackedSoFar (es ++ e ∷ []) new.closed.items new.last new.used → AreEmitted (es ++ e ∷ []) next new
-emitted_one es e next packer new are lt storable packed = record {
-  packed = packed;
-  storable = storable-append es e are.storable storable;
-  rising = rising_one es e are.rising are.below;
-  below = below_one next es e (below_more e.serial next es (omega (arith, lt)) are.below) lt;
-}
+-- changes that were settled, with one more
+storable-append : (puts : List Put) (put : Put) → AreStorable (entries_left puts) → IsStorable (entry_left put) → AreStorable (entries_left (puts ++ put ∷ []))
+storable-append [] put are is = (is, tt)
+storable-append (x ∷ puts) put are is = (are.0, storable-append puts put are.1 is)
 
-emitted_later : (es : List Entry) (s next : ℕ) (packer : Packer) → AreEmitted es s packer → s ≤ next → AreEmitted es next packer
-emitted_later es s next packer are le = record { packed = are.packed; storable = are.storable; rising = are.rising; below = below_more s next es le are.below }
+left-append : (puts : List Put) (put : Put) → entries_left (puts ++ put ∷ []) ≡ entries_left puts ++ entry_left put ∷ []
+left-append [] put = refl
+left-append (x ∷ puts) put = ap (λ l. entry_left x ∷ l) (left-append puts put)
 
-pub settling_nothing : (s : Settling) → s.serial ≡ 0 → s.left ≡ None → ArePackedSoFar [] s.packer.closed.items s.packer.last s.packer.used → IsSettling [] s
-settling_nothing s first none packed = record {
-  es = [];
-  emitted = record { packed = packed; storable = tt; rising = tt; below = tt };
-  all = λ q. finite.get-empty nat_cmp q ∙ by (q == s.serial) ∙ ap (λ (o : Option Stored). cond (q == s.serial) o None) (sym none);
+before_one : (settled : List Put) (put : Put) (serial next : ℕ) → AreBefore settled serial → serial ≤ put.serial → put.serial < next → IsStorable (entry_left put) → AreBefore (settled ++ put ∷ []) next
+before_one settled put serial next are le lt storable =
+    let es = entries_left settled in
+    let e = entry_left put in
+    let below = below_more serial e.serial es le are.below in
+    record {
+      storable = storable-append settled put are.storable storable;
+      rising = subst AreRising (sym (left-append settled put)) (rising_one es e are.rising below);
+      below = subst (AreBelow next) (sym (left-append settled put)) (below_one next es e (below_more e.serial next es (omega (arith, lt)) below) lt);
+    }
+
+before_later : (settled : List Put) (s next : ℕ) → AreBefore settled s → s ≤ next → AreBefore settled next
+before_later settled s next are le = record { storable = are.storable; rising = are.rising; below = below_more s next (entries_left settled) le are.below }
+
+object_one : (q : ℕ) (settled : List Put) (put : Put) → AreBelow put.serial (entries_left settled) → object_at q (entries_left (settled ++ put ∷ [])) ≡ cond (q == put.serial) (Some (stored_of (entry_left put)).1) (object_at q (entries_left settled))
+object_one q settled put below = ap (object_at q) (left-append settled put) ∙ object_more q (entries_left settled) (entry_left put) below
+
+pub settling_nothing : (s : Settling) → s.serial ≡ 0 → s.left ≡ None → s.settled ≡ [] → IsSettling [] s
+settling_nothing s first none empty = record {
+  before = subst (λ (l : List Put). AreBefore l s.serial) (sym empty) (record { storable = tt; rising = tt; below = tt });
+  all = λ q. finite.get-empty nat_cmp q ∙ by (q == s.serial) ∙ ap (λ (o : Option Stored). cond (q == s.serial) o None) (sym none) ∙ ap (λ (l : List Put). cond (q == s.serial) s.left (object_at q (entries_left l))) (sym empty);
   right = subst (λ (o : Option Stored). IfSome o (λ left. HasRecord left.octets)) (sym none) tt;
 }
   where
@@ -77,49 +87,46 @@ settling_nothing s first none packed = record {
     by true = refl
     by false = refl
 
--- what is left of the object that comes next is packed
-pub packed_left : (puts : List Put) (s : Settling) (stored : Stored) (new : Packer) (next : ℕ) → s.left ≡ Some stored → IsStorable (entry_of (s.serial, stored)) → s.serial < next → IsSettling puts s
-    → ((es : List Entry) → ArePackedSoFar es s.packer.closed.items s.packer.last s.packer.used → ArePackedSoFar (es ++ entry_of (s.serial, stored) ∷ []) new.closed.items new.last new.used) → ArePacked puts next new
-packed_left puts s stored new next is storable lt so_far packed =
-    let e = entry_of (s.serial, stored) in
-    record {
-      es = so_far.es ++ e ∷ [];
-      emitted = emitted_one so_far.es e next s.packer new so_far.emitted lt storable (packed so_far.es so_far.emitted.packed);
-      all = λ q. so_far.all q ∙ ap (λ (o : Option Stored). cond (q == s.serial) o (object_at q so_far.es)) is ∙ sym (object_more q so_far.es e so_far.emitted.below);
-    }
+-- what is left of the object that comes next is settled
+pub settled_left : (puts : List Put) (s : Settling) (stored : Stored) (put : Put) (new : List Put) (next : ℕ) → s.left ≡ Some stored → put ≡ record { home = stored.home; serial = s.serial; bytes = Some stored.octets } → IsStorable (entry_left put) → s.serial < next → IsSettling puts s
+    → new ≡ s.settled ++ put ∷ [] → AreSettled puts next new
+settled_left puts s stored put new next is put_ storable lt so_far new_ =
+    let p : Put = record { home = stored.home; serial = s.serial; bytes = Some stored.octets } in
+    subst (AreSettled puts next) (sym (new_ ∙ ap (λ (x : Put). s.settled ++ x ∷ []) put_)) (record {
+      before = before_one s.settled p s.serial next so_far.before (omega arith) lt (subst (λ (x : Put). IsStorable (entry_left x)) put_ storable);
+      all = λ q. so_far.all q ∙ ap (λ (o : Option Stored). cond (q == s.serial) o (object_at q (entries_left s.settled))) is ∙ sym (object_one q s.settled p so_far.before.below);
+    })
 
 -- nothing is left of it
 no_object : (s : ℕ) (es : List Entry) → AreBelow s es → object_at s es ≡ None
 no_object s [] below = refl
 no_object s (e ∷ es) below = ap (λ b. cond b (Some (stored_of e).1) (object_at s es)) (same_false e.serial s below.0) ∙ no_object s es below.1
 
-pub packed_gone : (puts : List Put) (s : Settling) (next : ℕ) → s.left ≡ None → s.serial < next → IsSettling puts s → ArePacked puts next s.packer
-packed_gone puts s next none lt so_far = record {
-  es = so_far.es;
-  emitted = emitted_later so_far.es s.serial next s.packer so_far.emitted (omega (arith, lt));
-  all = λ q. so_far.all q ∙ ap (λ (o : Option Stored). cond (q == s.serial) o (object_at q so_far.es)) none ∙ by q (q == s.serial) refl;
+pub settled_gone : (puts : List Put) (s : Settling) (next : ℕ) → s.left ≡ None → s.serial < next → IsSettling puts s → AreSettled puts next s.settled
+settled_gone puts s next none lt so_far = record {
+  before = before_later s.settled s.serial next so_far.before (omega (arith, lt));
+  all = λ q. so_far.all q ∙ ap (λ (o : Option Stored). cond (q == s.serial) o (object_at q (entries_left s.settled))) none ∙ by q (q == s.serial) refl;
 }
   where
-    alike : (q : ℕ) → (q == s.serial) ≡ true → None ≡ object_at q so_far.es
-    alike q is = sym (no_object s.serial so_far.es so_far.emitted.below) ∙ ap (λ (k : ℕ). object_at k so_far.es) (equal q s.serial is)
+    alike : (q : ℕ) → (q == s.serial) ≡ true → None ≡ object_at q (entries_left s.settled)
+    alike q is = sym (no_object s.serial (entries_left s.settled) so_far.before.below) ∙ ap (λ (k : ℕ). object_at k (entries_left s.settled)) (equal q s.serial is)
       where
         equal : (a b : ℕ) → (a == b) ≡ true → b ≡ a
         equal a b e = grind (arith, nat_tests)
 
-    by : (q : ℕ) (b : Bool) → (q == s.serial) ≡ b → cond b None (object_at q so_far.es) ≡ object_at q so_far.es
+    by : (q : ℕ) (b : Bool) → (q == s.serial) ≡ b → cond b None (object_at q (entries_left s.settled)) ≡ object_at q (entries_left s.settled)
     by q true is = alike q is
     by q false other = refl
 
 -- another object comes next
-pub others_after : (puts : List Put) (serial : ℕ) (packer : Packer) → ArePacked puts serial packer → AreOthersPacked puts serial packer
-others_after puts serial packer are = record { es = are.es; emitted = are.emitted; others = λ q other. are.all q }
+pub others_after : (puts : List Put) (serial : ℕ) (settled : List Put) → AreSettled puts serial settled → AreOthersSettled puts serial settled
+others_after puts serial settled are = record { before = are.before; others = λ q other. are.all q }
 
 -- the same object comes next
-pub others_still : (puts : List Put) (s : Settling) (serial : ℕ) → serial ≡ s.serial → IsSettling puts s → AreOthersPacked puts serial s.packer
+pub others_still : (puts : List Put) (s : Settling) (serial : ℕ) → serial ≡ s.serial → IsSettling puts s → AreOthersSettled puts serial s.settled
 others_still puts s serial same so_far = record {
-  es = so_far.es;
-  emitted = emitted_later so_far.es s.serial serial s.packer so_far.emitted (omega (arith, same));
-  others = λ q other. so_far.all q ∙ ap (λ b. cond b s.left (object_at q so_far.es)) (ap (λ (n : ℕ). q == n) (sym same) ∙ other);
+  before = before_later s.settled s.serial serial so_far.before (omega (arith, same));
+  others = λ q other. so_far.all q ∙ ap (λ b. cond b s.left (object_at q (entries_left s.settled))) (ap (λ (n : ℕ). q == n) (sym same) ∙ other);
 }
 
 -- a change was taken
@@ -127,20 +134,31 @@ right_left : (home : ℕ) (bytes : Option (List ℕ)) → IfSome bytes HasRecord
 right_left home None is = tt
 right_left home (Some octets) is = is
 
-pub settling_more : (puts : List Put) (put : Put) (new : Settling) → new.serial ≡ put.serial → new.left ≡ left_by put.home put.bytes → IsRightPut put → AreOthersPacked puts put.serial new.packer → IsSettling (puts ++ put ∷ []) new
+pub settling_more : (puts : List Put) (put : Put) (new : Settling) → new.serial ≡ put.serial → new.left ≡ left_by put.home put.bytes → IsRightPut put → AreOthersSettled puts put.serial new.settled → IsSettling (puts ++ put ∷ []) new
 settling_more puts put new same left right are = record {
-  es = are.es;
-  emitted = emitted_later are.es put.serial new.serial new.packer are.emitted (omega (arith, same));
+  before = before_later new.settled put.serial new.serial are.before (omega (arith, same));
   all = λ q.
-      get-more puts put q ∙ by q (q == put.serial) refl ∙ ap (λ (n : ℕ). cond (q == n) (left_by put.home put.bytes) (object_at q are.es)) (sym same) ∙ ap (λ (o : Option Stored). cond (q == new.serial) o (object_at q are.es)) (sym left);
+      get-more puts put q ∙ by q (q == put.serial) refl ∙ ap (λ (n : ℕ). cond (q == n) (left_by put.home put.bytes) (object_at q (entries_left new.settled))) (sym same) ∙ ap (λ (o : Option Stored). cond (q == new.serial) o (object_at q (entries_left new.settled))) (sym left);
   right = subst (λ (o : Option Stored). IfSome o (λ left. HasRecord left.octets)) (sym left) (right_left put.home put.bytes right);
 }
   where
-    by : (q : ℕ) (b : Bool) → (q == put.serial) ≡ b → cond b (left_by put.home put.bytes) (finite.get (over finite.empty puts) q) ≡ cond b (left_by put.home put.bytes) (object_at q are.es)
+    by : (q : ℕ) (b : Bool) → (q == put.serial) ≡ b → cond b (left_by put.home put.bytes) (finite.get (over finite.empty puts) q) ≡ cond b (left_by put.home put.bytes) (object_at q (entries_left new.settled))
     by q true is = refl
     by q false other = are.others q other
 
--- the objects that changes leave are those that were packed
+-- changes that are settled as they stand, with one more
+pub settled_none : (serial : ℕ) → AreSettled [] serial []
+settled_none serial = record { before = record { storable = tt; rising = tt; below = tt }; all = λ q. finite.get-empty nat_cmp q }
+
+pub settled_one : (puts : List Put) (put : Put) (serial : ℕ) → put.bytes ≡ Some (entry_left put).octets → serial < put.serial → IsStorable (entry_left put) → AreSettled puts (serial + 1) puts → AreSettled (puts ++ put ∷ []) (put.serial + 1) (puts ++ put ∷ [])
+settled_one puts put serial some lt storable are = record {
+  before = before_one puts put (serial + 1) (put.serial + 1) are.before (omega (arith, lt)) (omega arith) storable;
+  all = λ q.
+      get-more puts put q ∙ ap (λ (o : Option (List ℕ)). cond (q == put.serial) (left_by put.home o) (finite.get (over finite.empty puts) q)) some ∙ ap (cond (q == put.serial) (Some (stored_of (entry_left put)).1)) (are.all q)
+      ∙ sym (object_one q puts put (below_more (serial + 1) put.serial (entries_left puts) (omega (arith, lt)) are.before.below));
+}
+
+-- the objects that changes leave are those that were settled
 both : (a b : Bool) → T a → T b → T (a && b)
 both true b p q = q
 both false b p q = p
@@ -167,11 +185,12 @@ entries_stored : (es : List Entry) → entries_of (map stored_of es) ≡ es
 entries_stored [] = refl
 entries_stored (e ∷ es) = ap (λ l. e ∷ l) (entries_stored es)
 
-pub objects_are : (puts : List Put) (serial : ℕ) (packer : Packer) (are : ArePacked puts serial packer) → are.es ≡ entries_of (finite.entries (over finite.empty puts))
-objects_are puts serial packer are =
+pub objects_are : (puts : List Put) (serial : ℕ) (settled : List Put) → AreSettled puts serial settled → entries_left settled ≡ entries_of (finite.entries (over finite.empty puts))
+objects_are puts serial settled are =
     let m = over finite.empty puts in
-    sym (entries_stored are.es) ∙ ap entries_of
-    (sym (same_entries nat_cmp nat_cmp_total finite.nat_cmp-IsAntisymmetric (finite.entries m) (map stored_of are.es) (finite.entries_sorted m) (sorted_of are.es are.emitted.rising) (λ q. sym (finite.get-entries m q) ∙ are.all q ∙ sym (found_alike q are.es))))
+    let es = entries_left settled in
+    sym (entries_stored es) ∙ ap entries_of
+    (sym (same_entries nat_cmp nat_cmp_total finite.nat_cmp-IsAntisymmetric (finite.entries m) (map stored_of es) (finite.entries_sorted m) (sorted_of es are.before.rising) (λ q. sym (finite.get-entries m q) ∙ are.all q ∙ sym (found_alike q es))))
 
 pub right_rest : (put : Put) (puts all : List Put) → all ≡ put ∷ puts → All IsRightPut all → IsRightPut put × All IsRightPut puts
 right_rest put puts all e right =

@@ -2,9 +2,11 @@
 use Rattle.std.proofs.Common.{ℕ, zero, suc, ◌≡◌, ◌+◌, ◌-◌, ◌*◌, ◌<◌, ◌≤◌, List, [], ◌∷◌, ◌++◌, length, take, replicate, get_or, flat_map, refl, sym, ap, ◌∙◌, subst, arith, append-nil, append_assoc, length-append}
 use Rattle.std.proofs.lemmas.List.{length-replicate}
 use Rattle.std.specs.Int.{to_be_bytes, w32, w64}
+use Rattle.pss_base.specs.declared.put.Put.{Put}
+use Rattle.page_format.specs.Objects.{entries_left, entry_left}
 use Rattle.page_format.specs.Pages.{Entry, page_magic, page_zeros}
 use Rattle.page_format.specs.Roots.{root_magic}
-use Rattle.page_format.specs.Written.{AreStorable, AreWritable, IsStorable, IsWritable, entries_octets, entry_octets, list_octets, page_octets, pages_octets, root_octets, whole_page}
+use Rattle.page_format.specs.Written.{AreStorable, AreWritable, IsWritable, entries_octets, entry_octets, list_octets, page_octets, pages_octets, root_octets, whole_page}
 use Rattle.page_format.specs.declared.new_page.NewPage.{NewPage}
 use Rattle.page_format.specs.declared.root.Root.{Root}
 use Rattle.page_format.specs.inner.Buffers.{Filled}
@@ -42,10 +44,18 @@ module _ {X : Type 0} (f : X → List ℕ) where
   put_next xs i x b c d ys lt at before e same =
       put_more b c d (flat_map f (take i xs)) ys (f x) before e same ∙ ap (and_then b) (sym (next_taken xs i x lt at) ∙ ap (λ (n : ℕ). flat_map f (take n xs)) (let h : suc i ≡ i + 1 = omega arith in h))
 
-pub storable_at : (es : List Entry) (i : ℕ) (e : Entry) → AreStorable es → i < length es → e ≡ get_or es i e → IsStorable e
-storable_at [] i e ok lt at = absurd (omega (arith, lt))
-storable_at (x ∷ es) zero e ok lt at = subst IsStorable (sym at) ok.0
-storable_at (x ∷ es) (suc i) e ok lt at = storable_at es i e ok.1 (omega (arith, lt)) at
+-- the entry that a change leaves, among those that changes leave
+pub left_at : (puts : List Put) (i : ℕ) (put : Put) → i < length puts → put ≡ get_or puts i put → entry_left put ≡ get_or (entries_left puts) i (entry_left put)
+left_at [] i put lt at = absurd (omega (arith, lt))
+left_at (x ∷ puts) zero put lt at = ap entry_left at
+left_at (x ∷ puts) (suc i) put lt at = left_at puts i put (omega (arith, lt)) at
+
+pub length-left : (puts : List Put) → length (entries_left puts) ≡ length puts
+length-left [] = refl
+length-left (x ∷ puts) = omega (arith, length-left puts)
+
+pub there_left : (puts : List Put) (i : ℕ) → i < length puts → i < length (entries_left puts)
+there_left puts i lt = omega (arith, lt, length-left puts)
 
 pub writable_at : (ps : List NewPage) (i : ℕ) (p : NewPage) → AreWritable ps → i < length ps → p ≡ get_or ps i p → IsWritable p
 writable_at [] i p ok lt at = absurd (omega (arith, lt))

@@ -29,6 +29,17 @@ entries_of os = map entry_of os
 abbrev pub stored_of : Entry → ℕ × Stored
 stored_of e = (e.serial, record { home = e.home; octets = e.octets })
 
+-- the octets that a change leaves, what it leaves as an entry, and what changes leave
+abbrev pub octets_left : Option (List ℕ) → List ℕ
+octets_left None = []
+octets_left (Some octets) = octets
+
+abbrev pub entry_left : Put → Entry
+entry_left put = record { home = put.home; serial = put.serial; octets = octets_left put.bytes }
+
+abbrev pub entries_left : List Put → List Entry
+entries_left puts = map entry_left puts
+
 -- the objects that stand in entries: of two for one serial the first counts
 abbrev pub by_serial : List Entry → Objects
 by_serial es = from_entries (map stored_of es)

@@ -2,10 +2,15 @@
 use Rattle.std.specs.Prelude.{ℕ, zero, suc, ◌≡◌, ◌≢◌, ◌+◌, ◌<◌, ◌≤◌, List, [], ◌∷◌, ◌++◌, length, map, slice_index, Some, MatchOption, ⊤}
 use Rattle.pss_base.specs.declared.put.Put.{Put}
 use Rattle.std.specs.declared.option.Option.{Option}
-pub use Rattle.page_format.specs.declared.entry.Entry.{Entry}
 use Rattle.pss_disk.specs.Octets.{octets_in}
 use Rattle.pss_disk.specs.Parts.{Stands, number4, number8}
 use Rattle.page_format.specs.Places.{slot_start}
+
+-- an object as it stands in a page: the number of its storage home, its serial, and the octets of its record
+pub record Entry : Type 0 where
+  pub home : ℕ
+  pub serial : ℕ
+  pub octets : List ℕ
 
 -- PSSPAGE1
 abbrev pub page_magic : List ℕ

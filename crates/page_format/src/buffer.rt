@@ -43,6 +43,7 @@ impl Buffer {
     }
 
     /// Puts octets behind those that are there.
+    #[inline(always)]
     pub fn put(&mut self, octets: &[u8])
         requires { length self.old.octets + length octets.now ≤ self.old.size }
         ensures { self.new ≡ record { size = self.old.size; octets = self.old.octets ++ octets.now } }

@@ -4,7 +4,7 @@
 
 mod buffer;
 mod current;
-mod entry;
+mod entries;
 mod fault;
 mod free;
 mod gathered;
@@ -29,7 +29,7 @@ mod spelling;
 mod stop;
 
 pub use buffer::Buffer;
-pub use entry::{Entries, Entry};
+pub use entries::Entries;
 pub use fault::{PageFault, RootFault};
 pub use free::free_slots;
 pub use gathered::Gathered;
@@ -38,10 +38,10 @@ pub use laws::{a_store_stays, pages_are_one_thing, roots_are_one_thing};
 pub use marks::{flags, mark};
 pub use new_page::NewPage;
 pub use objects::Stored;
-pub use packing::size_of;
+pub use packing::{pack, size_of};
 pub use places::Places;
 pub use root::Root;
 pub use roots::read_root;
-pub use settling::pack;
+pub use settling::settle;
 pub use slots::Slots;
 pub use spelling::{put_pages, put_root, put_slots};

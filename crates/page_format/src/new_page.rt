@@ -1,9 +1,9 @@
 // Pages that are to be written.
-use crate::entry::Entries;
+use crate::entries::Entries;
 
 /// A page to be written: its slot and its entries.
 #[derive(Drop)]
-pub struct NewPage {
+pub struct NewPage<'a> {
     pub slot: u32,
-    pub entries: Entries,
+    pub entries: Entries<'a>,
 }

@@ -1,113 +1,123 @@
 // Entries are packed into pages.
-ghost use Rattle.std.specs.Prelude.{ℕ, ◌≡◌, ◌+◌, ◌/◌, ◌≤◌, List, [], ◌∷◌, ◌++◌, length, All, IfOk, OnOk};
-ghost use Rattle.page_format.specs.Pages.{Entry as Object};
+ghost use Rattle.std.specs.Prelude.{◌≡◌, ◌+◌, ◌/◌, ◌<◌, ◌≤◌, ◌++◌, ◌∷◌, [], length, slice_index_or, slice_range, IfOk, OnOk};
+ghost use Rattle.page_format.specs.Objects.{entries_left, entry_left};
 ghost use Rattle.page_format.specs.Packing.{IsPacking, OnlyLastIsSmall, size_of, used_by};
-ghost use Rattle.page_format.specs.Objects.{HasRecord, entries_of, entry_of};
-ghost use Rattle.page_format.specs.Written.{AreStorable, IsStorable};
-ghost use Rattle.page_format.specs.inner.Packing.{ArePackedSoFar};
+ghost use Rattle.page_format.specs.Written.{AreStorable};
+ghost use Rattle.page_format.specs.inner.Packing.{AreFilledUpTo};
 
-use crate::entry::{Entries, Entry};
+use crate::entries::Entries;
 use crate::layout::{MOST_USED, RECORD};
-use pss_base::NoMemory;
+use pss_base::{NoMemory, Put};
 use std::alloc::Global;
-use std::mem;
 
-/// Pages that are filled with entries, one after another.
-#[derive(Drop)]
-pub struct Packer {
-    alloc: Global,
-    /// The pages that are closed.
-    pub closed: Vec<Entries>,
-    /// The entries of the page that is being filled.
-    pub last: Entries,
-    /// How many octets they use.
+/// The page that is being filled: it has the entries from one change up to another one, and uses so many octets.
+#[derive(Clone, Copy)]
+pub struct Filling {
+    pub start: usize,
+    pub end: usize,
     pub used: u32,
 }
 
-/// No pages yet. It takes no memory.
-pub fn no_pages(alloc: Global) -> Packer
-    ensures { ArePackedSoFar [] result.closed.items result.last result.used }
+/// The record that a change leaves; no octets where it removes its object.
+#[inline(always)]
+pub fn record_of(put: &Put) -> &[u8]
+    ensures { result.now ≡ (entry_left put.now).octets }
 {
-    Packer {
-        alloc,
-        closed: Vec::new(alloc),
-        last: Entries::new(alloc),
-        used: 0,
+    match &put.bytes {
+        Some(octets) => octets.as_slice(),
+        None => &[],
     }
 }
 
 /// The octets that an entry takes.
-pub fn size_of(entry: &Entry) -> u32
-    requires { length entry.now.octets ≤ 8000 }
-    ensures { result ≡ size_of entry.now }
+pub fn size_of(put: &Put) -> u32
+    requires { length (entry_left put.now).octets ≤ 8000 }
+    ensures { result ≡ size_of (entry_left put.now) }
 {
-    (RECORD + entry.octets.as_slice().len()) as u32
+    (RECORD + record_of(put).len()) as u32
 }
 
-impl Packer {
-    /// Puts an entry behind those that are packed. Where the page that is being filled has no room for it, that page is
-    /// closed and another one begun. After `NoMemory` the packer is of no more use.
-    pub fn add(&mut self, entry: Entry) -> Result<(), NoMemory>
-        requires short { length entry.octets ≤ 8000 }
-        requires used { self.old.used ≤ 16344 }
-        ensures used { self.new.used ≤ 16344 }
-        ensures packed { OnOk result ((es : List Object) → ArePackedSoFar es self.old.closed.items self.old.last self.old.used → ArePackedSoFar (es ++ entry ∷ []) self.new.closed.items self.new.last self.new.used) }
-    {
-        let size = size_of(&entry);
-        if self.used + size > MOST_USED {
-            self.begin(entry, size)
-        } else {
-            self.put(entry, size)
-        }
-    }
+// Closes the page that is being filled, and begins one with the entry that comes next, which takes so many octets.
+fn begin<'a>(
+    pages: &mut Vec<Entries<'a>>,
+    puts: &'a [Put],
+    filling: Filling,
+    size: u32,
+) -> Result<Filling, NoMemory>
+    requires there { filling.end < length puts.now }
+    requires begun { filling.start ≤ filling.end }
+    ensures closed { OnOk result (pages.new.items ≡ pages.old.items ++ entries_left (slice_range puts.now filling.start filling.end) ∷ []) }
+    ensures filling { IfOk result (λ new. new ≡ record { start = filling.end; end = filling.end + 1; used = size }) }
+{
+    pages.push(Entries::of(&puts[filling.start..filling.end]))?;
+    Ok(Filling {
+        start: filling.end,
+        end: filling.end + 1,
+        used: size,
+    })
+}
 
-    // Closes the page that is being filled, and begins one with this entry.
-    fn begin(&mut self, entry: Entry, size: u32) -> Result<(), NoMemory>
-        requires { size ≤ 8016 }
-        ensures closed { OnOk result (self.new.closed.items ≡ self.old.closed.items ++ self.old.last ∷ []) }
-        ensures last { OnOk result (self.new.last ≡ entry ∷ []) }
-        ensures used { OnOk result (self.new.used ≡ size) }
-        ensures most { self.new.used ≤ 8016 }
-    {
-        match self.close() {
-            Ok(()) => self.put(entry, size),
-            Err(stop) => Err(stop),
-        }
+// Puts the entry that comes next behind those that are packed. Where the page that is being filled has no room for it, that
+// page is closed and another one begun.
+fn add<'a>(
+    pages: &mut Vec<Entries<'a>>,
+    puts: &'a [Put],
+    filling: Filling,
+    put: &Put,
+) -> Result<Filling, NoMemory>
+    requires there { filling.end < length puts.now }
+    requires next { put.now ≡ slice_index_or puts.now filling.end put.now }
+    requires short { length (entry_left put.now).octets ≤ 8000 }
+    requires so_far { AreFilledUpTo puts.now pages.old.items filling }
+    ensures filled { IfOk result (AreFilledUpTo puts.now pages.new.items) }
+    ensures end { IfOk result (λ new. new.end ≡ filling.end + 1) }
+{
+    let size = size_of(put);
+    if filling.used + size > MOST_USED {
+        return begin(pages, puts, filling, size);
     }
+    Ok(Filling {
+        start: filling.start,
+        end: filling.end + 1,
+        used: filling.used + size,
+    })
+}
 
-    // Puts an entry into the page that is being filled.
-    fn put(&mut self, entry: Entry, size: u32) -> Result<(), NoMemory>
-        requires { self.old.used + size ≤ 16344 }
-        ensures closed { self.new.closed.items ≡ self.old.closed.items }
-        ensures last { OnOk result (self.new.last ≡ self.old.last ++ entry ∷ []) }
-        ensures used { self.new.used ≡ self.old.used + size }
-    {
-        self.used += size;
-        self.last.push(entry)
+// Closes the last page, where it has entries.
+fn finish<'a>(
+    mut pages: Vec<Entries<'a>>,
+    puts: &'a [Put],
+    filling: Filling,
+) -> Result<Vec<Entries<'a>>, NoMemory>
+    requires filled { AreFilledUpTo puts.now pages.items filling }
+    requires all { filling.end ≡ length puts.now }
+    ensures { IfOk result (λ all. IsPacking (entries_left puts.now) all.items) }
+{
+    if filling.used == 0 {
+        return Ok(pages);
     }
+    pages.push(Entries::of(&puts[filling.start..]))?;
+    Ok(pages)
+}
 
-    // Closes the page that is being filled, and begins one without entries.
-    fn close(&mut self) -> Result<(), NoMemory>
-        ensures closed { OnOk result (self.new.closed.items ≡ self.old.closed.items ++ self.old.last ∷ []) }
-        ensures last { self.new.last ≡ [] }
-        ensures used { self.new.used ≡ 0 }
-    {
-        let page = mem::replace(&mut self.last, Entries::new(self.alloc));
-        self.used = 0;
-        self.closed.push(page)?;
-        Ok(())
+/// Packs the entries that changes leave into pages.
+pub fn pack(alloc: Global, puts: &[Put]) -> Result<Vec<Entries<'_>>, NoMemory>
+    requires { AreStorable (entries_left puts.now) }
+    ensures packed { IfOk result (λ pages. IsPacking (entries_left puts.now) pages.items) }
+    ensures large { IfOk result (λ pages. OnlyLastIsSmall pages.items) }
+    ensures few { IfOk result (λ pages. length pages.items ≤ used_by (entries_left puts.now) / 8328 + 1) }
+{
+    let mut pages = Vec::new(alloc);
+    let mut filling = Filling {
+        start: 0,
+        end: 0,
+        used: 0,
+    };
+    for put in puts {
+        filling = match add(&mut pages, puts, filling, put) {
+            Ok(filling) => filling,
+            Err(stop) => return Err(stop),
+        };
     }
-
-    /// Closes the last page, where it has entries, and answers all of them.
-    pub fn finish(mut self) -> Result<Vec<Entries>, NoMemory>
-        ensures { (es : List Object) → ArePackedSoFar es self.closed.items self.last self.used → IfOk result (λ pages. IsPacking es pages.items) }
-    {
-        if self.used == 0 {
-            return Ok(self.closed);
-        }
-        match self.close() {
-            Ok(()) => Ok(self.closed),
-            Err(stop) => Err(stop),
-        }
-    }
+    finish(pages, puts, filling)
 }

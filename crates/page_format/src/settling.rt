@@ -1,22 +1,19 @@
-// What changes leave of objects is packed.
-ghost use Rattle.std.specs.Prelude.{ℕ, ◌≡◌, ◌+◌, ◌/◌, ◌<◌, ◌≤◌, List, [], ◌∷◌, ◌++◌, length, All, IfOk, OnOk};
+// What changes leave of objects, by rising serial.
+ghost use Rattle.std.specs.Prelude.{ℕ, ◌≡◌, ◌<◌, ◌≤◌, List, [], ◌∷◌, ◌++◌, All, IfOk, IsTrue, OnOk, Some};
 ghost use Rattle.std.specs.FinMap.{empty, entries};
 ghost use Rattle.pss_base.specs.declared.put.Put.{Put as Change};
-ghost use Rattle.page_format.specs.Objects.{HasRecord, IsRightPut, entries_of, entry_of, left_by, over};
-ghost use Rattle.page_format.specs.Packing.{IsPacking, OnlyLastIsSmall, used_by};
+ghost use Rattle.page_format.specs.Objects.{HasRecord, IsRightPut, entries_left, entries_of, entry_left, left_by, over};
 ghost use Rattle.page_format.specs.Written.{AreStorable, IsStorable};
-ghost use Rattle.page_format.specs.inner.Settling.{AreInOrder, AreOthersPacked, ArePacked, Climbs, IsSettling};
+ghost use Rattle.page_format.specs.inner.Settling.{AreInOrder, AreOthersSettled, AreSettled, Climbs, IsSettling};
 
-use crate::entry::{Entries, Entry};
 use crate::objects::Stored;
-use crate::packing::{Packer, no_pages};
-use pss_base::{Bytes, NoMemory, Put};
+use pss_base::{Bytes, NoMemory, Put, Puts};
 use std::alloc::Global;
 
-/// The objects that were packed, and what the changes so far leave of the one with this serial, which comes next.
+/// The objects that were settled, and what the changes so far leave of the one with this serial, which comes next.
 #[derive(Drop)]
 pub struct Settling {
-    packer: Packer,
+    settled: Puts,
     serial: u64,
     left: Option<Stored>,
 }
@@ -27,7 +24,7 @@ fn nothing(alloc: Global) -> Settling
     ensures serial { result.serial ≡ 0 }
 {
     Settling {
-        packer: no_pages(alloc),
+        settled: Puts::new(alloc),
         serial: 0,
         left: None,
     }
@@ -43,16 +40,16 @@ fn left_by(home: u32, bytes: Option<Bytes>) -> Option<Stored>
     }
 }
 
-// An object with its serial.
-fn entry_of(serial: u64, stored: Stored) -> Entry
+// The change that leaves an object.
+fn put_of(serial: u64, stored: Stored) -> Put
     requires { HasRecord stored.octets }
-    ensures entry { result ≡ entry_of (serial, stored) }
-    ensures storable { IsStorable result }
+    ensures put { result ≡ record { home = stored.home; serial = serial; bytes = Some stored.octets } }
+    ensures storable { IsStorable (entry_left result) }
 {
-    Entry {
+    Put {
         home: stored.home,
         serial,
-        octets: stored.octets,
+        bytes: Some(stored.octets),
     }
 }
 
@@ -79,11 +76,11 @@ impl Settling {
         }
     }
 
-    // Lets the object with this serial come next, and packs the one before it.
+    // Lets the object with this serial come next, and settles the one before it.
     fn turn_to(&mut self, serial: u64) -> Result<(), NoMemory>
         requires so_far { (puts : List Change) × IsSettling puts self.old }
         requires later { self.old.serial ≤ serial }
-        ensures others { OnOk result ((puts : List Change) → IsSettling puts self.old → AreOthersPacked puts serial self.new.packer) }
+        ensures others { OnOk result ((puts : List Change) → IsSettling puts self.old → AreOthersSettled puts serial self.new.settled) }
         ensures serial { OnOk result (self.new.serial ≡ serial) }
     {
         if serial == self.serial {
@@ -98,25 +95,25 @@ impl Settling {
         }
     }
 
-    // Packs the object that comes next, where there is one.
+    // Settles the object that comes next, where there is one.
     fn release(&mut self) -> Result<(), NoMemory>
         requires { (puts : List Change) × IsSettling puts self.old }
-        ensures { OnOk result ((puts : List Change) (next : ℕ) → self.old.serial < next → IsSettling puts self.old → ArePacked puts next self.new.packer) }
+        ensures { OnOk result ((puts : List Change) (next : ℕ) → self.old.serial < next → IsSettling puts self.old → AreSettled puts next self.new.settled) }
     {
         match self.left.take() {
-            Some(stored) => self.packer.add(entry_of(self.serial, stored)),
+            Some(stored) => self.settled.push(put_of(self.serial, stored)),
             None => Ok(()),
         }
     }
 
-    // The pages of all objects.
-    fn finish(mut self) -> Result<Vec<Entries>, NoMemory>
+    // All objects.
+    fn finish(mut self) -> Result<Vec<Put>, NoMemory>
         requires { (puts : List Change) × IsSettling puts self }
-        ensures packed { (puts : List Change) → IsSettling puts self → IfOk result (λ pages. IsPacking (entries_of (entries (over empty puts))) pages.items) }
-        ensures storable { (puts : List Change) → IsSettling puts self → OnOk result (AreStorable (entries_of (entries (over empty puts)))) }
+        ensures settled { (puts : List Change) → IsSettling puts self → IfOk result (λ settled. entries_left settled.items ≡ entries_of (entries (over empty puts))) }
+        ensures storable { (puts : List Change) → IsSettling puts self → IfOk result (λ settled. AreStorable (entries_left settled.items)) }
     {
         match self.release() {
-            Ok(()) => self.packer.finish(),
+            Ok(()) => Ok(self.settled.into_vec()),
             Err(stop) => Err(stop),
         }
     }
@@ -130,12 +127,12 @@ fn sort(changes: &mut Vec<Put>) -> Result<(), NoMemory>
     Ok(())
 }
 
-// Packs what sorted changes leave of objects.
-fn settle(alloc: Global, changes: Vec<Put>) -> Result<Vec<Entries>, NoMemory>
+// Settles sorted changes.
+fn settle_sorted(alloc: Global, changes: Vec<Put>) -> Result<Vec<Put>, NoMemory>
     requires climbing { Climbs 0 changes.items }
     requires right { All IsRightPut changes.items }
-    ensures packed { IfOk result (λ pages. IsPacking (entries_of (entries (over empty changes.items))) pages.items) }
-    ensures storable { OnOk result (AreStorable (entries_of (entries (over empty changes.items)))) }
+    ensures settled { IfOk result (λ settled. entries_left settled.items ≡ entries_of (entries (over empty changes.items))) }
+    ensures storable { IfOk result (λ settled. AreStorable (entries_left settled.items)) }
 {
     let mut settling = nothing(alloc);
     for put in changes {
@@ -147,16 +144,54 @@ fn settle(alloc: Global, changes: Vec<Put>) -> Result<Vec<Entries>, NoMemory>
     settling.finish()
 }
 
-/// Packs what changes, made one after the other, leave of objects into pages by rising serial.
-pub fn pack(alloc: Global, mut changes: Vec<Put>) -> Result<Vec<Entries>, NoMemory>
+// Whether a change leaves a record, and its serial is above one.
+fn is_next(put: &Put, serial: u64) -> bool
+    requires { IsRightPut put.now }
+    ensures above { IsTrue result → serial < put.now.serial }
+    ensures left { IsTrue result → put.now.bytes ≡ Some (entry_left put.now).octets }
+    ensures storable { IsTrue result → IsStorable (entry_left put.now) }
+{
+    let _home = put.home;
+    serial < put.serial && put.bytes.is_some()
+}
+
+// Whether changes are settled as they stand: by rising serial, one of each object, and each leaves a record.
+fn are_settled(changes: &[Put]) -> bool
+    requires { All IsRightPut changes.now }
+    ensures settled { IsTrue result → entries_left changes.now ≡ entries_of (entries (over empty changes.now)) }
+    ensures storable { IsTrue result → AreStorable (entries_left changes.now) }
+{
+    let mut last = 0;
+    for put in changes {
+        if !is_next(put, last) {
+            return false;
+        }
+        last = put.serial;
+    }
+    true
+}
+
+// Sorts and settles changes.
+fn settle_anew(alloc: Global, mut changes: Vec<Put>) -> Result<Vec<Put>, NoMemory>
     requires { All IsRightPut changes.items }
-    ensures packed { IfOk result (λ pages. IsPacking (entries_of (entries (over empty changes.items))) pages.items) }
-    ensures storable { OnOk result (AreStorable (entries_of (entries (over empty changes.items)))) }
-    ensures large { IfOk result (λ pages. OnlyLastIsSmall pages.items) }
-    ensures few { IfOk result (λ pages. length pages.items ≤ used_by (entries_of (entries (over empty changes.items))) / 8328 + 1) }
+    ensures settled { IfOk result (λ settled. entries_left settled.items ≡ entries_of (entries (over empty changes.items))) }
+    ensures storable { IfOk result (λ settled. AreStorable (entries_left settled.items)) }
 {
     match sort(&mut changes) {
-        Ok(()) => settle(alloc, changes),
+        Ok(()) => settle_sorted(alloc, changes),
         Err(stop) => Err(stop),
+    }
+}
+
+/// What changes, made one after the other, leave of objects, by rising serial. Where they stand so already, none is moved.
+pub fn settle(alloc: Global, changes: Vec<Put>) -> Result<Vec<Put>, NoMemory>
+    requires { All IsRightPut changes.items }
+    ensures settled { IfOk result (λ settled. entries_left settled.items ≡ entries_of (entries (over empty changes.items))) }
+    ensures storable { IfOk result (λ settled. AreStorable (entries_left settled.items)) }
+{
+    if are_settled(&changes) {
+        Ok(changes)
+    } else {
+        settle_anew(alloc, changes)
     }
 }

@@ -1,46 +1,48 @@
 // Pages and roots as octets.
 ghost use Rattle.std.specs.Prelude.{◌≡◌, ◌++◌, ◌+◌, ◌*◌, ◌<◌, ◌≤◌, ◌^◌, length};
+ghost use Rattle.page_format.specs.Objects.{entries_left, entry_left};
 ghost use Rattle.page_format.specs.Written.{AreStorable, AreWritable, IsStorable, IsWritable, entries_octets, entry_octets, list_octets, pages_octets, root_octets, whole_page};
 
 use crate::buffer::Buffer;
-use crate::entry::Entry;
-use crate::layout::{MOST_USED, PAGE_MAGIC, PAGE_ZEROS, RECORD, ROOT_MAGIC};
+use crate::layout::{MOST_USED, PAGE_MAGIC, PAGE_ZEROS, ROOT_MAGIC};
 use crate::new_page::NewPage;
+use crate::packing::{record_of, size_of};
 use crate::root::Root;
+use pss_base::Put;
 
 // Puts an entry behind what a buffer has.
-fn put_entry(buffer: &mut Buffer, entry: &Entry)
-    requires storable { IsStorable entry.now }
-    requires room { length buffer.old.octets + 16 + length entry.now.octets ≤ buffer.old.size }
-    ensures { buffer.new ≡ record { size = buffer.old.size; octets = buffer.old.octets ++ entry_octets entry.now } }
+fn put_entry(buffer: &mut Buffer, put: &Put)
+    requires storable { IsStorable (entry_left put.now) }
+    requires room { length buffer.old.octets + 16 + length (entry_left put.now).octets ≤ buffer.old.size }
+    ensures { buffer.new ≡ record { size = buffer.old.size; octets = buffer.old.octets ++ entry_octets (entry_left put.now) } }
 {
-    let octets = entry.octets.as_slice();
-    buffer.put(&entry.home.to_be_bytes());
+    let octets = record_of(put);
+    buffer.put(&put.home.to_be_bytes());
     buffer.put(&(octets.len() as u32).to_be_bytes());
-    buffer.put(&entry.serial.to_be_bytes());
+    buffer.put(&put.serial.to_be_bytes());
     buffer.put(octets);
 }
 
 // Puts entries behind what a buffer has.
-fn put_entries(buffer: &mut Buffer, entries: &[Entry])
-    requires storable { AreStorable entries.now }
-    requires room { length buffer.old.octets + length (entries_octets entries.now) ≤ buffer.old.size }
-    ensures { buffer.new ≡ record { size = buffer.old.size; octets = buffer.old.octets ++ entries_octets entries.now } }
+fn put_entries(buffer: &mut Buffer, puts: &[Put])
+    requires storable { AreStorable (entries_left puts.now) }
+    requires room { length buffer.old.octets + length (entries_octets (entries_left puts.now)) ≤ buffer.old.size }
+    ensures { buffer.new ≡ record { size = buffer.old.size; octets = buffer.old.octets ++ entries_octets (entries_left puts.now) } }
 {
-    for entry in entries {
-        put_entry(buffer, entry);
+    for put in puts {
+        put_entry(buffer, put);
     }
 }
 
 // How many octets entries take.
-fn used_by(entries: &[Entry]) -> u32
-    requires storable { AreStorable entries.now }
-    requires short { length (entries_octets entries.now) ≤ 16344 }
-    ensures { result ≡ length (entries_octets entries.now) }
+fn used_by(puts: &[Put]) -> u32
+    requires storable { AreStorable (entries_left puts.now) }
+    requires short { length (entries_octets (entries_left puts.now)) ≤ 16344 }
+    ensures { result ≡ length (entries_octets (entries_left puts.now)) }
 {
     let mut used = 0;
-    for entry in entries {
-        used += (RECORD + entry.octets.as_slice().len()) as u32;
+    for put in puts {
+        used += size_of(put);
     }
     used
 }

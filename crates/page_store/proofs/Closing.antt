@@ -13,7 +13,7 @@ use Rattle.page_format.specs.Laws.{AreSame}
 use Rattle.page_format.specs.Places.{area_start, slot_end, slot_start}
 use Rattle.page_format.specs.Roots.{Follows, HasRoot, IsRoot, root_magic}
 use Rattle.page_store.specs.Stores.{AllHave, HasStore}
-use Rattle.page_format.specs.declared.entry.Entry.{Entry}
+use Rattle.page_format.specs.Pages.{Entry}
 use Rattle.page_format.specs.declared.root.Root.{Root}
 use Rattle.page_store.specs.inner.Gates.{IsAnywhere}
 use Rattle.page_format.proofs.Staying.{eight_same, pages_kept, root_kept, slot_inside, stands_same, store_kept}

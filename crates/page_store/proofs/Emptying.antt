@@ -9,7 +9,7 @@ use Rattle.pss_disk.specs.Parts.{octet_at}
 use Rattle.pss_disk.proofs.Parts.{agrees_at}
 use Rattle.pss_disk.proofs.Passing.{weaker}
 use Rattle.redo_journal.specs.Journal.{HasEpoch, IsClosed, IsOpen, journal_start}
-use Rattle.page_format.specs.declared.entry.Entry.{Entry}
+use Rattle.page_format.specs.Pages.{Entry}
 use Rattle.page_store.specs.Stores.{AllHave, HasStore, IsEmptied}
 use Rattle.page_format.specs.declared.root.Root.{Root}
 use Rattle.page_store.specs.inner.Gates.{IsAnywhere}

@@ -18,7 +18,7 @@ use Rattle.page_store.specs.Kept.{IsKept, Kept, rows_in}
 use Rattle.page_format.specs.Objects.{by_serial, over, stored_of}
 use Rattle.page_format.specs.Packing.{OnlyLastIsSmall, entries_on, is_among, used_by}
 use Rattle.page_format.specs.Pages.{AreGiven, IsPage, IsSmall, IsSmallOne, entries_in, octets_in_use, places_in, serials_of}
-use Rattle.page_format.specs.declared.entry.Entry.{Entry}
+use Rattle.page_format.specs.Pages.{Entry}
 use Rattle.page_store.specs.Placed.{is_noted, placed}
 use Rattle.page_format.specs.Places.{slot_start}
 use Rattle.page_store.specs.Switch.{HasPages, MayFollow, Next, Old, objects_of, places_of, slots_of, uses_of}
@@ -28,7 +28,7 @@ use Rattle.page_format.specs.declared.objects.Stored.{Stored}
 use Rattle.page_store.specs.declared.pages.planning.Plan.{Plan}
 use Rattle.page_store.specs.inner.Located.{Apart, at, located}
 use Rattle.page_store.specs.inner.Planned.{IsPlan, IsPlanned, next_of}
-use Rattle.page_store.specs.inner.Repacked.{AreRepacked}
+use Rattle.page_store.specs.inner.Repacked.{AreRepacked, IsRepacked}
 use Rattle.page_store.proofs.ByKey.{get_entries}
 use Rattle.page_store.proofs.Givens.{apart-append, apart_from, given_from}
 use Rattle.page_store.proofs.Located.{apart-unmap, at-map, slots_located, stored_located, touched_by}
@@ -176,7 +176,7 @@ module _ (old : Old) (kept : Kept) (next : ℕ) (c : List ℕ) (may : MayCheckpo
       objects_ = refl;
       given = given;
       large = large;
-      packed = λ j i less lt one two. last_alone plan.pages.items (subst OnlyLastIsSmall (sym is.packed_) re.large) j i less lt one;
+      packed = λ j i less lt one two. last_alone plan.pages.items (subst OnlyLastIsSmall (sym is.packed_) re.written.large) j i less lt one;
     }
 
     -- few slots are moved
@@ -286,3 +286,9 @@ pub kept_of : (old : Old) (kept : Kept) (next : ℕ) (plan : Plan) (three four :
 kept_of old kept next plan three four c image planned four_ has =
     subst (λ (k : Kept). IsKept plan.root k image) (sym four_)
     (record { area_ = refl; epoch_ = refl; shape_ = refl; slots_ = refl; places_ = planned.places_ ∙ ap finite.from_entries (sym has.places); small_ = small_after old (next_of kept plan c) c image plan.small planned.follow has planned.small_ })
+
+-- the same, of what is packed anew
+pub planned_left : (old : Old) (kept two three : Kept) (stay : List ℕ) (puts : List Put) (next : ℕ) (c : List ℕ) → IsRepacked kept two stay puts c → MayCheckpoint old kept next c → (packed : List (List Entry)) → AreRepacked (over (over finite.empty (rows_in c (repacked_slots kept))) kept.noted) packed
+    → (plan : Plan) → IsPlan two stay packed next plan → three ≡ record two { places = three.places } → ((q : ℕ) → finite.get three.places q ≡ placed plan.pages.items q (finite.get two.places q)) → IsPlanned old kept next plan three c
+planned_left old kept two three stay puts next c are may packed re plan is three_ laid =
+    planned_of old kept next c may (record kept { noted = []; room = 0 }) two three kept.noted refl refl (repacked_slots kept) stay refl are.stay_ are.taken.pages are.taken.places_ packed re plan is three_ laid

@@ -9,7 +9,7 @@ use Rattle.std.specs.Option.{option_or}
 use Rattle.std.specs.Ordering.{nat_cmp}
 use Rattle.page_format.specs.Objects.{entries_of, stored_of}
 use Rattle.page_format.specs.Pages.{AreGiven, serials_of}
-use Rattle.page_format.specs.declared.entry.Entry.{Entry}
+use Rattle.page_format.specs.Pages.{Entry}
 use Rattle.page_format.specs.declared.objects.Stored.{Stored}
 use Rattle.page_store.specs.inner.Located.{Apart, at}
 use Rattle.page_store.proofs.Located.{at-append}

@@ -12,7 +12,7 @@ use Rattle.std.specs.declared.option.Option.{Option}
 use Rattle.pss_base.specs.declared.put.Put.{Put}
 use Rattle.page_format.specs.Objects.{over, stored_of}
 use Rattle.page_format.specs.Pages.{entries_in, entries_of, places_in, put_of}
-use Rattle.page_format.specs.declared.entry.Entry.{Entry}
+use Rattle.page_format.specs.Pages.{Entry}
 use Rattle.page_store.specs.Placed.{is_noted}
 use Rattle.page_format.specs.Places.{slot_start}
 use Rattle.page_store.specs.Touched.{is_in, is_touched}

@@ -9,7 +9,7 @@ use Rattle.std.specs.declared.option.Option.{Option}
 use Rattle.pss_base.specs.declared.put.Put.{Put}
 use Rattle.page_format.specs.Objects.{by_serial, over, stored_of}
 use Rattle.page_format.specs.Pages.{entries_in, places_in, put_of}
-use Rattle.page_format.specs.declared.entry.Entry.{Entry}
+use Rattle.page_format.specs.Pages.{Entry}
 use Rattle.page_store.specs.Placed.{is_noted, is_object, placed}
 use Rattle.page_store.specs.Switch.{objects_of, places_of}
 use Rattle.page_format.specs.declared.new_page.NewPage.{NewPage}

@@ -12,7 +12,7 @@ use Rattle.page_store.specs.Checkpoints.{AreSomeOf, changed_octets, moved, octet
 use Rattle.page_format.specs.Objects.{Objects, entries_of, over, stored_of}
 use Rattle.page_format.specs.Packing.{is_among, size_of, used_by}
 use Rattle.page_format.specs.Pages.{IsPage, IsSmall, entries_in, entries_of as entries_on_page, octets_in_use, put_of}
-use Rattle.page_format.specs.declared.entry.Entry.{Entry}
+use Rattle.page_format.specs.Pages.{Entry}
 use Rattle.page_store.specs.Placed.{is_noted}
 use Rattle.page_format.specs.Places.{slot_start}
 use Rattle.page_format.specs.Roots.{HasRoot, IsWrongSlot, slot_in}

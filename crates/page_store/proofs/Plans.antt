@@ -6,21 +6,16 @@ use Rattle.std.proofs.lemmas.List.{take-append-drop}
 use Rattle.std.specs.List.{filter}
 use Rattle.page_store.specs.Checkpoints.{AreSomeOf}
 use Rattle.page_store.specs.Kept.{AreWithinLimits}
-use Rattle.page_format.specs.Packing.{AreLeastFree, entries_on, is_among, size_of, used_by}
-use Rattle.page_format.specs.declared.entry.Entry.{Entry}
+use Rattle.page_format.specs.Packing.{AreLeastFree, OnlyLastIsSmall, entries_on, is_among, size_of, used_by}
+use Rattle.page_format.specs.Pages.{Entry}
 use Rattle.page_format.specs.Roots.{IsWithinLimits}
 use Rattle.page_store.specs.Switch.{slots_of, uses_of}
-use Rattle.page_format.specs.Written.{AreStorable, AreWritable, IsStorable, IsWritable, entries_octets, entry_octets}
+use Rattle.page_format.specs.Written.{AreStorable, AreWritable, IsWritable, entries_octets, entry_octets}
 use Rattle.page_format.specs.declared.new_page.NewPage.{NewPage}
 use Rattle.page_store.specs.inner.Repacked.{MayBeWritten}
 use Rattle.page_format.proofs.EntryOctets.{length_entry}
 use Rattle.page_format.proofs.Filling.{used_by-append}
 use Rattle.page_store.proofs.Turned.{take_more}
-
-pub storable_at : (es : List Entry) (k : ℕ) (d : Entry) → AreStorable es → k < length es → IsStorable (get_or es k d)
-storable_at [] k d are lt = absurd (omega (arith, lt))
-storable_at (e ∷ es) zero d are lt = are.0
-storable_at (e ∷ es) (suc k) d are lt = storable_at es k d are.1 (omega (arith, lt))
 
 pub used_more : (es : List Entry) (k : ℕ) (d : Entry) → k < length es → used_by (take (k + 1) es) ≡ used_by (take k es) + size_of (get_or es k d)
 used_more es k d lt = ap used_by (take_more es k d lt) ∙ used_by-append (take k es) (get_or es k d ∷ []) ∙ (let e : used_by (take k es) + (size_of (get_or es k d) + 0) ≡ used_by (take k es) + size_of (get_or es k d) = omega arith in e)
@@ -62,13 +57,33 @@ storable_rest : (es fs : List Entry) → AreStorable (es ++ fs) → AreStorable 
 storable_rest [] fs are = are
 storable_rest (e ∷ es) fs are = storable_rest es fs are.1
 
+pub large_rest : (page : List Entry) (pages : List (List Entry)) → OnlyLastIsSmall (page ∷ pages) → OnlyLastIsSmall pages
+large_rest page [] are = tt
+large_rest page (next ∷ pages) are = are.1
+
+-- each page but the last has more than little in use
+pub large_at : (pages : List NewPage) (k : ℕ) → OnlyLastIsSmall (map (λ p. p.entries) pages) → k + 1 < length pages → 8328 < get_or (uses_of pages) k 0
+large_at [] k are lt = absurd (omega (arith, lt))
+large_at (p ∷ []) k are lt = absurd (omega (arith, lt))
+large_at (p ∷ q ∷ pages) zero are lt = omega (arith, are.0, length_entries p.entries)
+large_at (p ∷ q ∷ pages) (suc k) are lt = large_at (q ∷ pages) k are.1 (omega (arith, lt))
+
+pub large_all : (pages : List NewPage) (page : NewPage) → OnlyLastIsSmall (map (λ p. p.entries) pages) → page ≡ get_or pages (length pages - 1) page → 8328 < used_by page.entries → (k : ℕ) → k < length pages → 8328 < get_or (uses_of pages) k 0
+large_all pages page large is more k lt =
+    ⊎_elim (λ less. large_at pages k large less)
+    (λ last.
+    let same : k ≡ length pages - 1 = omega (arith, lt, last) in
+    let used = use_at pages (length pages - 1) page (omega (arith, lt)) in
+    let e = ap (λ (p : NewPage). used_by p.entries) is in
+    subst (λ (n : ℕ). 8328 < get_or (uses_of pages) n 0) (sym same) (omega (arith, used, e, more))) (cases_lt (k + 1) (length pages))
+
 pub writable_from : (pages : List NewPage) (packed : List (List Entry)) → map (λ p. p.entries) pages ≡ packed → MayBeWritten packed → ((k : ℕ) → k < length (slots_of pages) → get_or (slots_of pages) k 0 < 16384) → AreWritable pages
 writable_from [] packed same may below = tt
 writable_from (p ∷ pages) packed same may below =
     let here : MayBeWritten (map (λ (p : NewPage). p.entries) (p ∷ pages)) = subst MayBeWritten (sym same) may in
     let rest = map (λ (p : NewPage). p.entries) pages in (
       record { slot_ = below 0 (omega arith); storable = storable_first p.entries (entries_on rest) here.storable; short = (let e = length_entries p.entries in let f = here.filled.0.most in omega arith) },
-      writable_from pages rest refl (record { storable = storable_rest p.entries (entries_on rest) here.storable; filled = here.filled.1 }) (λ k lt. below (suc k) (omega (arith, lt))),
+      writable_from pages rest refl (record { storable = storable_rest p.entries (entries_on rest) here.storable; filled = here.filled.1; large = large_rest p.entries rest here.large }) (λ k lt. below (suc k) (omega (arith, lt))),
     )
 
 -- two lists of slots, one behind the other

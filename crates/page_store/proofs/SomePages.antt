@@ -14,10 +14,11 @@ use Rattle.pss_base.specs.declared.put.Put.{Put}
 use Rattle.page_format.specs.Objects.{by_serial, over, stored_of}
 use Rattle.page_format.specs.Packing.{AreClosed, AreFilled, AreLeastFree, entries_on}
 use Rattle.page_format.specs.Pages.{AreGiven, ArePacked, ArePages, IsPage, IsSmall, entries_in, serials_of}
-use Rattle.page_format.specs.declared.entry.Entry.{Entry}
+use Rattle.page_format.specs.Pages.{Entry}
 use Rattle.page_format.specs.Places.{slot_start}
 use Rattle.page_format.specs.declared.new_page.NewPage.{NewPage}
 use Rattle.page_format.specs.declared.objects.Stored.{Stored}
+use Rattle.page_format.specs.declared.root.Root.{Root}
 use Rattle.page_store.specs.Checkpoints.{ArePackedAnew, MayCheckpoint, kept_slots, repacked_slots}
 use Rattle.page_store.specs.Kept.{Kept, rows_in}
 use Rattle.page_store.specs.Switch.{Old, objects_of, slots_of}
@@ -25,11 +26,11 @@ use Rattle.page_store.specs.Touched.{is_repacked}
 use Rattle.page_store.specs.declared.pages.planning.Plan.{Plan}
 use Rattle.page_store.specs.inner.Located.{Apart, at}
 use Rattle.page_store.specs.inner.Planned.{IsNextRoot, IsPlan}
-use Rattle.page_store.specs.inner.Repacked.{AreRepacked}
+use Rattle.page_store.specs.inner.Repacked.{AreLeft, AreRepacked, AreTaken, IsRepacked}
 use Rattle.page_format.proofs.Filling.{used_by-append}
 use Rattle.page_format.proofs.Packed.{few_pages}
 use Rattle.page_store.proofs.ByKey.{get_entries}
-use Rattle.page_store.proofs.Following.{anew_is, apart, large, objects_packed, stay_is, touches}
+use Rattle.page_store.proofs.Following.{anew_is, apart, large, objects_packed, touches}
 use Rattle.page_store.proofs.Givens.{apart-append, given_from}
 use Rattle.page_store.proofs.Merged.{all_at, crossing, merged, part_apart, part_at}
 use Rattle.page_store.proofs.MovedSlots.{objects_weight, once_in, used_at_least}
@@ -116,7 +117,7 @@ module _ (old : Old) (kept : Kept) (next : ℕ) (c : List ℕ) (may : MayCheckpo
       (λ q. merged c kept.slots packs kept.noted apart_ touches_ xs re.same q ∙ ap (λ es. finite.get (over (by_serial es) kept.noted) q) (ap (entries_in c) may.kept_.slots_ ∙ may.store.objects_)) in
       let u = used_by-append stay xs in
       let a = used_at_least c (kept_slots kept) (whole_part (λ s. not (packs s))) (large old kept next c may) in
-      let b = few_pages packed re.large in
+      let b = few_pages packed re.written.large in
       omega (arith, w, u, a, b, may.sum)
 
 -- what a plan is laid out of, by the steps that lead to it
@@ -136,16 +137,22 @@ module _ (kept one two : Kept) (noted : List Put) (noted_ : noted ≡ kept.noted
           free = subst (λ (l : List ℕ). AreLeastFree l (length pages) (slots_of pages)) slots_ (subst (λ (n : ℕ). AreLeastFree two.slots n (slots_of pages)) many is.free);
         }
 
-    pub next_root_is : stay ≡ kept_slots (record one { noted = noted }) → IsNextRoot kept (kept_slots kept) plan.pages.items next plan.root
-    next_root_is stay_ =
-        let area_ : two.area ≡ kept.area = ap (λ (k : Kept). k.area) two_ ∙ ap (λ (k : Kept). k.area) one_ in
-        let epoch_ : two.epoch ≡ kept.epoch = ap (λ (k : Kept). k.epoch) two_ ∙ ap (λ (k : Kept). k.epoch) one_ in
-        let shape_ : two.shape ≡ kept.shape = ap (λ (k : Kept). k.shape) two_ ∙ ap (λ (k : Kept). k.shape) one_ in
-        record {
-          area_ = is.root_.area_ ∙ ap (λ (n : ℕ). 1 - n) area_;
-          given = subst (λ (n : ℕ). n < 2 ^ 64) epoch_ is.root_.given;
-          epoch_ = is.root_.epoch_ ∙ ap (λ (n : ℕ). (n + 1) % 2 ^ 64) epoch_;
-          next_ = is.root_.next_;
-          shape_ = is.root_.shape_ ∙ shape_;
-          slots_ = is.root_.slots_ ∙ ap (λ (l : List ℕ). l ++ slots_of plan.pages.items) (stay_is kept one two noted noted_ one_ stay stay_);
-        }
+-- the next root, of what was kept before its changes were taken
+pub next_root_left : (kept two : Kept) (stay : List ℕ) (pages : List NewPage) (next : ℕ) (root : Root) → AreTaken kept two → stay ≡ kept_slots kept → IsNextRoot two stay pages next root → IsNextRoot kept (kept_slots kept) pages next root
+next_root_left kept two stay pages next root taken stay_ is = record {
+  area_ = is.area_ ∙ ap (λ (k : Kept). 1 - k.area) taken.pages;
+  given = subst (λ (k : Kept). k.epoch < 2 ^ 64) taken.pages is.given;
+  epoch_ = is.epoch_ ∙ ap (λ (k : Kept). (k.epoch + 1) % 2 ^ 64) taken.pages;
+  next_ = is.next_;
+  shape_ = is.shape_ ∙ ap (λ (k : Kept). k.shape) taken.pages;
+  slots_ = is.slots_ ∙ ap (λ (l : List ℕ). l ++ slots_of pages) stay_;
+}
+
+-- the same, of what is packed anew
+pub packed_left : (kept two : Kept) (stay : List ℕ) (puts : List Put) (c : List ℕ) → IsRepacked kept two stay puts c → (packed : List (List Entry)) (next : ℕ) (plan : Plan) → IsPlan two stay packed next plan → AreRepacked (over (over finite.empty (rows_in c (repacked_slots kept))) kept.noted) packed
+    → ArePackedAnew kept plan.pages.items c
+packed_left kept two stay puts c are packed next plan is re =
+    packed_anew kept (record kept { noted = []; room = 0 }) two kept.noted refl refl are.taken.pages packed stay next plan is c (repacked_slots kept) refl re
+
+pub repacked_by : (kept two : Kept) (stay : List ℕ) (puts slice : List Put) (c : List ℕ) → AreTaken kept two → stay ≡ kept_slots kept → slice ≡ puts → AreLeft kept puts c → IsRepacked kept two stay slice c
+repacked_by kept two stay puts slice c taken stay_ same left = record { taken = taken; stay_ = stay_; left = subst (λ (ps : List Put). AreLeft kept ps c) (sym same) left }

@@ -10,7 +10,7 @@ use Rattle.pss_disk.proofs.Parts.{agrees_at}
 use Rattle.pss_disk.proofs.Passing.{weaker}
 use Rattle.redo_journal.specs.Journal.{IsClosed, journal_end}
 use Rattle.page_format.specs.Laws.{AreSame}
-use Rattle.page_format.specs.declared.entry.Entry.{Entry}
+use Rattle.page_format.specs.Pages.{Entry}
 use Rattle.page_format.specs.Places.{area_start, slot_end, slot_start}
 use Rattle.page_store.specs.Stores.{AllHave, HasStore, IsOldPlace}
 use Rattle.page_format.specs.declared.root.Root.{Root}

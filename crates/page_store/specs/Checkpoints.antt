@@ -11,7 +11,7 @@ use Rattle.page_store.specs.Kept.{IsKept, Kept, rows_in}
 use Rattle.page_format.specs.Objects.{Objects, by_serial, entries_of, over}
 use Rattle.page_format.specs.Packing.{AreLeastFree, IsPacking, is_among, used_by}
 use Rattle.page_format.specs.Pages.{serials_of}
-use Rattle.page_format.specs.declared.entry.Entry.{Entry}
+use Rattle.page_format.specs.Pages.{Entry}
 use Rattle.page_store.specs.Stores.{HasStore, IsEmptied, IsJournal}
 use Rattle.page_store.specs.Switch.{HasOld, IsWritten, Old, objects_of, slots_of, uses_of}
 use Rattle.page_store.specs.Touched.{is_repacked, is_touched}

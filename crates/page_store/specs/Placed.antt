@@ -4,7 +4,7 @@ use Rattle.std.specs.List.{list_any}
 use Rattle.std.specs.Map.{lookup}
 use Rattle.std.specs.declared.option.Option.{Option}
 use Rattle.pss_base.specs.declared.put.Put.{Put}
-use Rattle.page_format.specs.declared.entry.Entry.{Entry}
+use Rattle.page_format.specs.Pages.{Entry}
 use Rattle.page_format.specs.declared.new_page.NewPage.{NewPage}
 
 -- the slot under a serial

@@ -3,7 +3,7 @@ use Rattle.std.specs.Prelude.{ℕ, ◌≡◌, ◌⊎◌, ◌+◌, ◌<◌, ◌�
 use Rattle.pss_disk.specs.Moments.{IsImage, Moment}
 use Rattle.pss_disk.specs.Octets.{write}
 use Rattle.page_format.specs.Pages.{ArePages, entries_in}
-use Rattle.page_format.specs.declared.entry.Entry.{Entry}
+use Rattle.page_format.specs.Pages.{Entry}
 use Rattle.page_format.specs.Roots.{HasRoot}
 use Rattle.redo_journal.specs.Journal.{Ends, Holds, Position, journal_end, journal_start}
 use Rattle.page_format.specs.Places.{slot_end, slot_start}

@@ -2,7 +2,7 @@
 use Rattle.std.specs.Prelude.{ℕ, ◌≡◌, ◌≢◌, ◌⊎◌, ◌+◌, ◌%◌, ◌^◌, ◌<◌, ◌≤◌, List, [], ◌++◌, flat_map, length, map, slice_index}
 use Rattle.pss_disk.specs.Parts.{octet_at}
 use Rattle.page_format.specs.Pages.{AreGiven, IsSmall, entries_in, octets_in_use, places_in, serials_of}
-use Rattle.page_format.specs.declared.entry.Entry.{Entry}
+use Rattle.page_format.specs.Pages.{Entry}
 use Rattle.page_format.specs.Places.{area_start, slot_start}
 use Rattle.page_store.specs.Stores.{HasStore, IsEmptied, IsJournal}
 use Rattle.page_format.specs.Written.{entries_octets, with_pages, with_root}

@@ -7,7 +7,7 @@ ghost use Rattle.pss_disk.specs.Moments.{IsSettled, Through};
 ghost use Rattle.pss_disk.specs.Octets.{disk_end, write};
 ghost use Rattle.pss_disk.specs.Reading.{OnlyReads};
 ghost use Rattle.redo_journal.specs.Journal.{Holds, IsClosed, IsOpen, Position, journal_start};
-ghost use Rattle.page_format.specs.declared.entry.Entry.{Entry};
+ghost use Rattle.page_format.specs.Pages.{Entry};
 ghost use Rattle.page_format.specs.Places.{area_start};
 ghost use Rattle.page_store.specs.Stores.{AllHave, HasStore, IsEmptied, IsJournal, IsPrepared, IsSwitched};
 ghost use Rattle.page_format.specs.declared.root.Root.{Root};

@@ -1,11 +1,12 @@
 // New pages get their slots, and objects their places.
 ghost use Rattle.std.specs.Prelude.{ℕ, ◌≡◌, ◌≤◌, cond, Some, length, map, IfOk, OnOk};
+ghost use Rattle.page_format.specs.Objects.{entries_left};
 ghost use Rattle.page_store.specs.Placed.{is_object, placed, slot_under};
 ghost use Rattle.page_store.specs.Switch.{slots_of};
 
 use crate::slot_table::SlotTable;
-use page_format::{Entries, Entry, NewPage};
-use pss_base::NoMemory;
+use page_format::{Entries, NewPage};
+use pss_base::{NoMemory, Put};
 use std::alloc::Global;
 
 /// Puts the objects of new pages where these are.
@@ -40,33 +41,33 @@ fn last_serial(pages: &[NewPage]) -> u64 {
 }
 
 // The serial of an object, where there is one.
-fn serial_of(entry: Option<&Entry>) -> u64 {
-    match entry {
-        Some(entry) => entry.serial,
+fn serial_of(put: Option<&Put>) -> u64 {
+    match put {
+        Some(put) => put.serial,
         None => 0,
     }
 }
 
 // Puts objects into the page of a slot.
-fn place_entries(places: &mut SlotTable, slot: u32, entries: &[Entry]) -> Result<(), NoMemory>
-    ensures { OnOk result ((q : ℕ) → slot_under q places.new.entries ≡ cond (is_object q entries.now) (Some slot) (slot_under q places.old.entries)) }
+fn place_entries(places: &mut SlotTable, slot: u32, puts: &[Put]) -> Result<(), NoMemory>
+    ensures { OnOk result ((q : ℕ) → slot_under q places.new.entries ≡ cond (is_object q (entries_left puts.now)) (Some slot) (slot_under q places.old.entries)) }
 {
-    for entry in entries {
-        places.put(entry.serial, slot)?;
+    for put in puts {
+        places.put(put.serial, slot)?;
     }
     Ok(())
 }
 
 /// Gives pages their slots.
-pub fn new_pages(
+pub fn new_pages<'a>(
     alloc: Global,
-    pages: Vec<Entries>,
+    pages: Vec<Entries<'a>>,
     slots: &[u32],
-) -> Result<Vec<NewPage>, NoMemory>
+) -> Result<Vec<NewPage<'a>>, NoMemory>
     requires same { length pages.items ≡ length slots.now }
     requires few { length slots.now ≤ 16384 }
     ensures slots { IfOk result (λ new. slots_of new.items ≡ slots.now) }
-    ensures pages { IfOk result (λ new. map (λ page. page.entries) new.items ≡ pages.items) }
+    ensures pages { IfOk result (λ new. map (λ page. page.entries) new.items ≡ pages.entry.items) }
 {
     let mut new = Vec::new(alloc);
     let mut k = 0;

@@ -1,34 +1,34 @@
-// The objects in pages are packed anew, with changes over them.
+// The objects in pages with changes over them.
 ghost use Rattle.std.specs.Prelude.{ℕ, ◌≡◌, ◌++◌, ◌^◌, ◌<◌, length, slice_index, All, Err, IfOk, IfSome};
-ghost use Rattle.std.specs.FinMap.{empty};
+ghost use Rattle.std.specs.FinMap.{empty, entries};
 ghost use Rattle.pss_base.specs.Causes.{HasCauseIf};
 ghost use Rattle.pss_disk.specs.Reading.{OnlyReads};
 ghost use Rattle.page_store.specs.Kept.{rows_in};
-ghost use Rattle.page_format.specs.Objects.{IsRightPut, over};
+ghost use Rattle.page_format.specs.Objects.{IsRightPut, entries_left, entries_of, over};
 ghost use Rattle.page_format.specs.Pages.{ArePages};
+ghost use Rattle.page_format.specs.Written.{AreStorable};
 ghost use Rattle.page_store.specs.declared.stop.PlanStop.TheVariants.{Lost as AreLost};
 ghost use Rattle.page_store.specs.inner.Lost.{is_plan_disk_fault};
-ghost use Rattle.page_store.specs.inner.Repacked.{AreRepacked, MayBeWritten};
 
 use crate::rereading::reread;
 use crate::stop::PlanStop;
-use page_format::{Entries, pack};
+use page_format::settle;
 use pss_base::{NoMemory, Put, Puts};
 use pss_disk::Station;
 use std::alloc::Global;
 
-/// Reads the pages of these slots again, and packs the objects in them by rising serial, with changes made to them one after
-/// the other.
-pub fn repack<W: Station>(
+/// Reads the pages of these slots again, and answers what changes, made one after the other, leave of the objects in them, by
+/// rising serial.
+pub fn reread_with<W: Station>(
     alloc: Global,
     w: &mut W,
     slots: &[u32],
     noted: Vec<Put>,
-) -> Result<Vec<Entries>, PlanStop>
+) -> Result<Vec<Put>, PlanStop>
     requires below { (k : ℕ) → k < length slots.now → slice_index slots.now k < 16384 }
     requires noted { All IsRightPut noted.items }
-    ensures written { IfOk result (λ pages. MayBeWritten pages.items) }
-    ensures packed { IfOk result (λ pages. IfSome (W.content w.old) (λ c. AreRepacked (over (over empty (rows_in c slots.now)) noted.items) pages.items)) }
+    ensures storable { IfOk result (λ puts. AreStorable (entries_left puts.items)) }
+    ensures left { IfOk result (λ puts. IfSome (W.content w.old) (λ c. entries_left puts.items ≡ entries_of (entries (over (over empty (rows_in c slots.now)) noted.items)))) }
     ensures lost { result ≡ Err AreLost → IfSome (W.content w.old) (λ c. (next : ℕ) → next < 2 ^ 64 → ArePages next slots.now c → ⊥) }
     ensures reads { OnlyReads W.now W.content W.history W.speak_faults w.old w.new }
     ensures cause { HasCauseIf (W.disk_faults w.old) (W.disk_faults w.new) (is_plan_disk_fault result) }
@@ -37,20 +37,21 @@ pub fn repack<W: Station>(
         Ok(rows) => rows,
         Err(stop) => return Err(stop),
     };
-    match packed(alloc, rows, noted) {
-        Ok(pages) => Ok(pages),
+    match left_of(alloc, rows, noted) {
+        Ok(puts) => Ok(puts),
         Err(_) => Err(PlanStop::NoMemory),
     }
 }
 
-// Packs the objects of some rows, with changes made to them one after the other.
-fn packed(alloc: Global, rows: Puts, noted: Vec<Put>) -> Result<Vec<Entries>, NoMemory>
+// What changes, made one after the other, leave of the objects of some rows.
+fn left_of(alloc: Global, rows: Puts, noted: Vec<Put>) -> Result<Vec<Put>, NoMemory>
     requires rows { All IsRightPut rows }
     requires noted { All IsRightPut noted.items }
-    ensures { IfOk result (λ pages. AreRepacked (over (over empty rows) noted.items) pages.items) }
+    ensures storable { IfOk result (λ puts. AreStorable (entries_left puts.items)) }
+    ensures left { IfOk result (λ puts. entries_left puts.items ≡ entries_of (entries (over (over empty rows) noted.items))) }
 {
     match behind(rows.into_vec(), noted) {
-        Ok(changes) => pack(alloc, changes),
+        Ok(changes) => settle(alloc, changes),
         Err(stop) => Err(stop),
     }
 }

@@ -12,7 +12,7 @@ use Rattle.redo_journal.specs.Journal.{HasEpoch, IsClosed, IsReady, Position, jo
 use Rattle.page_format.specs.declared.root.Root.{Root}
 use Rattle.page_store.specs.Checkpoints.{HasMade, IsEitherStore, IsMade, MayCheckpoint}
 use Rattle.page_format.specs.Objects.{by_serial, over}
-use Rattle.page_format.specs.declared.entry.Entry.{Entry}
+use Rattle.page_format.specs.Pages.{Entry}
 use Rattle.page_format.specs.Pages.{AreGiven, entries_in, put_of, serials_of}
 use Rattle.page_store.specs.Stores.{AllHave}
 use Rattle.page_store.specs.Switch.{Old}

@@ -7,7 +7,7 @@ use Rattle.type_layout.specs.declared.schema.Schema.{Schema}
 use Rattle.pss_catalog.specs.Catalog.{Catalog, IsGood}
 use Rattle.page_format.specs.declared.root.Root.{Root}
 use Rattle.page_format.specs.Objects.{HasRecord, IsRightPut}
-use Rattle.page_format.specs.declared.entry.Entry.{Entry}
+use Rattle.page_format.specs.Pages.{Entry}
 use Rattle.page_format.specs.Pages.{AllFit, AreGiven, IsPage, behind_entry, entries_end, entries_from, entries_in, entries_of, put_of, record_length, serials_of}
 use Rattle.page_format.specs.Places.{area_start, slot_start}
 use Rattle.page_format.specs.Roots.{HasRoot}

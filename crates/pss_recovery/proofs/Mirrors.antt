@@ -12,7 +12,7 @@ use Rattle.pss_catalog.specs.Changes.{Change as Step, over as over_catalog, with
 use Rattle.pss_catalog.proofs.Uniqueness.{found_with, found_without}
 use Rattle.storage_home.specs.Applied.{IsState, IsStep}
 use Rattle.page_format.specs.Objects.{Objects, by_serial, over, stored_of, with_record}
-use Rattle.page_format.specs.declared.entry.Entry.{Entry}
+use Rattle.page_format.specs.Pages.{Entry}
 use Rattle.page_format.specs.Pages.{put_of}
 use Rattle.page_format.specs.declared.objects.Stored.{Stored}
 use Rattle.page_store.specs.inner.Located.{Apart, at, left_by}

@@ -13,7 +13,7 @@ use Rattle.page_format.specs.declared.root.Root.{Root}
 use Rattle.std.specs.FinMap as finite
 use Rattle.page_store.specs.Kept.{IsKept, Kept}
 use Rattle.page_format.specs.Laws.{AreSame}
-use Rattle.page_format.specs.declared.entry.Entry.{Entry}
+use Rattle.page_format.specs.Pages.{Entry}
 use Rattle.page_format.specs.Pages.{ArePages, IsSmallOne, entries_in, octets_in_use, put_of}
 use Rattle.page_format.specs.Places.{slot_start}
 use Rattle.page_format.specs.Roots.{HasRoot}

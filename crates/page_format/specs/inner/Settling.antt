@@ -1,17 +1,15 @@
--- What changes leave of objects, while it is packed by rising serial.
+-- What changes leave of objects, while they are settled by rising serial.
 use Rattle.std.specs.Prelude.{ℕ, ◌≡◌, ◌==◌, ◌<◌, ◌≤◌, cond, false, List, [], ◌∷◌, map, IfSome, ⊤}
 use Rattle.std.specs.FinMap.{empty, get}
 use Rattle.std.specs.List.Sorted.{IsPermutation}
 use Rattle.std.specs.Map.{lookup}
 use Rattle.std.specs.declared.option.Option.{Option}
 use Rattle.pss_base.specs.declared.put.Put.{Put}
-use Rattle.page_format.specs.Objects.{HasRecord, over, stored_of}
+use Rattle.page_format.specs.Objects.{HasRecord, entries_left, over, stored_of}
 use Rattle.page_format.specs.Pages.{Entry}
 use Rattle.page_format.specs.Written.{AreStorable}
 use Rattle.page_format.specs.declared.objects.Stored.{Stored}
-use Rattle.page_format.specs.declared.packing.Packer.{Packer}
 use Rattle.page_format.specs.declared.settling.Settling.{Settling}
-use Rattle.page_format.specs.inner.Packing.{ArePackedSoFar}
 
 -- no serial is lower than the one before it, and the first not lower than this one
 abbrev pub Climbs : ℕ → List Put → Type 0
@@ -43,28 +41,24 @@ abbrev pub AreRising : List Entry → Type 0
 AreRising [] = ⊤
 AreRising (e ∷ es) = AreAbove e.serial es × AreRising es
 
--- these objects were packed, and all are below this serial
-pub record AreEmitted (es : List Entry) (serial : ℕ) (packer : Packer) : Type 0 where
-  pub packed : ArePackedSoFar es packer.closed.items packer.last packer.used
-  pub storable : AreStorable es
-  pub rising : AreRising es
-  pub below : AreBelow serial es
+-- these were settled: objects by rising serial, all of them below this one
+pub record AreBefore (settled : List Put) (serial : ℕ) : Type 0 where
+  pub storable : AreStorable (entries_left settled)
+  pub rising : AreRising (entries_left settled)
+  pub below : AreBelow serial (entries_left settled)
 
--- all objects that changes leave were packed
-pub record ArePacked (puts : List Put) (serial : ℕ) (packer : Packer) : Type 0 where
-  pub es : List Entry
-  pub emitted : AreEmitted es serial packer
-  pub all : (q : ℕ) → get (over empty puts) q ≡ object_at q es
+-- all objects that changes leave were settled
+pub record AreSettled (puts : List Put) (serial : ℕ) (settled : List Put) : Type 0 where
+  pub before : AreBefore settled serial
+  pub all : (q : ℕ) → get (over empty puts) q ≡ object_at q (entries_left settled)
 
 -- all but the one with this serial
-pub record AreOthersPacked (puts : List Put) (serial : ℕ) (packer : Packer) : Type 0 where
-  pub es : List Entry
-  pub emitted : AreEmitted es serial packer
-  pub others : (q : ℕ) → (q == serial) ≡ false → get (over empty puts) q ≡ object_at q es
+pub record AreOthersSettled (puts : List Put) (serial : ℕ) (settled : List Put) : Type 0 where
+  pub before : AreBefore settled serial
+  pub others : (q : ℕ) → (q == serial) ≡ false → get (over empty puts) q ≡ object_at q (entries_left settled)
 
 -- all but the one that comes next, and this is left of it
 pub record IsSettling (puts : List Put) (s : Settling) : Type 0 where
-  pub es : List Entry
-  pub emitted : AreEmitted es s.serial s.packer
-  pub all : (q : ℕ) → get (over empty puts) q ≡ cond (q == s.serial) s.left (object_at q es)
+  pub before : AreBefore s.settled s.serial
+  pub all : (q : ℕ) → get (over empty puts) q ≡ cond (q == s.serial) s.left (object_at q (entries_left s.settled))
   pub right : IfSome s.left (λ left. HasRecord left.octets)

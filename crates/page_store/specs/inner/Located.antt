@@ -5,7 +5,7 @@ use Rattle.std.specs.declared.option.Option.{Option}
 pub use Rattle.page_format.specs.Objects.{after, left_by}
 use Rattle.page_format.specs.Objects.{stored_of}
 use Rattle.page_format.specs.Pages.{entries_of}
-use Rattle.page_format.specs.declared.entry.Entry.{Entry}
+use Rattle.page_format.specs.Pages.{Entry}
 use Rattle.page_format.specs.Places.{slot_start}
 use Rattle.page_format.specs.declared.objects.Stored.{Stored}
 

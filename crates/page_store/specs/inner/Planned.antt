@@ -5,7 +5,7 @@ use Rattle.page_store.specs.Checkpoints.{IsCheckpointed, IsSmallAmong, kept_slot
 use Rattle.page_store.specs.Kept.{Kept}
 use Rattle.page_format.specs.Packing.{AreLeastFree}
 use Rattle.page_format.specs.Pages.{entries_in, places_in}
-use Rattle.page_format.specs.declared.entry.Entry.{Entry}
+use Rattle.page_format.specs.Pages.{Entry}
 use Rattle.page_store.specs.Switch.{MayFollow, Next, Old, objects_of, places_of, slots_of}
 use Rattle.page_format.specs.declared.new_page.NewPage.{NewPage}
 use Rattle.page_store.specs.declared.pages.planning.Plan.{Plan}

@@ -10,6 +10,7 @@ ghost use Rattle.page_store.specs.Stores.{AllHave};
 ghost use Rattle.page_store.specs.Switch.{Old};
 
 use crate::pages::Pages;
+use crate::pages::planning::Repacked;
 use crate::stop::PlanStop;
 use crate::switch::switch_roots;
 use pss_base::StoreStop;
@@ -43,11 +44,15 @@ impl Pages {
         ensures other { W.speak_faults w.new ≡ W.speak_faults w.old }
     {
         let alloc = *self.noted.allocator();
-        let plan = match self.plan(w, next) {
-            Ok(plan) => plan,
+        let Repacked { stay, puts } = match self.repack(w) {
+            Ok(repacked) => repacked,
             Err(PlanStop::DiskFault) => return Err(StoreStop::DiskFault),
             Err(PlanStop::NoMemory) => return Err(StoreStop::NoMemory),
             Err(PlanStop::Lost) => return Err(StoreStop::NoMemory),
+        };
+        let plan = match self.plan(stay, &puts, next) {
+            Ok(plan) => plan,
+            Err(_) => return Err(StoreStop::NoMemory),
         };
         match switch_roots(alloc, w, &plan.root, &plan.pages) {
             Ok(()) => {

@@ -4,35 +4,43 @@ ghost use Rattle.std.specs.FinMap as finite;
 ghost use Rattle.pss_base.specs.Causes.{HasCauseIf};
 ghost use Rattle.pss_disk.specs.Reading.{OnlyReads};
 ghost use Rattle.page_store.specs.Checkpoints.{ArePackedAnew, AreSomeOf, MayCheckpoint, kept_slots, repacked_slots};
-ghost use Rattle.page_format.specs.Objects.{IsRightPut};
+ghost use Rattle.page_store.specs.Kept.{Kept};
+ghost use Rattle.page_format.specs.Objects.{IsRightPut, entries_left};
 ghost use Rattle.page_format.specs.Packing.{AreLeastFree};
 ghost use Rattle.page_store.specs.Placed.{is_noted, placed};
 ghost use Rattle.page_format.specs.Roots.{IsWithinLimits};
 ghost use Rattle.page_store.specs.Switch.{Old, slots_of};
-ghost use Rattle.page_format.specs.Written.{AreWritable};
+ghost use Rattle.page_format.specs.Written.{AreStorable, AreWritable};
 ghost use Rattle.page_store.specs.declared.stop.PlanStop.TheVariants.{Lost as AreLost};
 ghost use Rattle.page_store.specs.inner.Lost.{is_plan_disk_fault};
 ghost use Rattle.page_store.specs.inner.Planned.{IsNextRoot, IsPlan, IsPlanned};
-ghost use Rattle.page_store.specs.inner.Repacked.{MayBeWritten};
+ghost use Rattle.page_store.specs.inner.Repacked.{AreLeft, AreTaken, IsRepacked, MayBeWritten};
 
 use crate::pages::Pages;
 use crate::parting::{Parted, part_slots};
 use crate::placing::{new_pages, place_pages};
-use crate::repacking::repack;
+use crate::repacking::reread_with;
 use crate::small::small_of;
 use crate::stop::PlanStop;
 use page_format::layout::MOST_PAGES;
-use page_format::{Entries, NewPage, Root, Slots, free_slots};
+use page_format::{Entries, NewPage, Root, Slots, free_slots, pack};
 use pss_base::{NoMemory, Put};
 use pss_disk::Station;
 use std::mem;
 
 /// What a checkpoint writes: the next root and its new pages. And that of the pages with little in use, where there is one.
 #[derive(Drop)]
-pub struct Plan {
+pub struct Plan<'a> {
     pub root: Root,
-    pub pages: Vec<NewPage>,
+    pub pages: Vec<NewPage<'a>>,
     pub small: Option<u32>,
+}
+
+/// What a checkpoint packs anew: the slots that stay, and the changes that leave the objects of the other pages.
+#[derive(Drop)]
+pub struct Repacked {
+    pub stay: Slots,
+    pub puts: Vec<Put>,
 }
 
 impl Pages {
@@ -68,11 +76,11 @@ impl Pages {
     }
 
     // Gives new pages the least free slots, and puts their objects there.
-    fn place(&mut self, packed: Vec<Entries>) -> Result<Vec<NewPage>, NoMemory>
+    fn place<'a>(&mut self, packed: Vec<Entries<'a>>) -> Result<Vec<NewPage<'a>>, NoMemory>
         requires few { length packed.items ≤ 8058 }
         requires written { MayBeWritten packed.items }
-        ensures free { IfOk result (λ pages. AreLeastFree self.old.slots (length packed.items) (slots_of pages.items)) }
-        ensures packed { IfOk result (λ pages. map (λ page. page.entries) pages.items ≡ packed.items) }
+        ensures free { IfOk result (λ pages. AreLeastFree self.old.slots (length packed.entry.items) (slots_of pages.items)) }
+        ensures packed { IfOk result (λ pages. map (λ page. page.entries) pages.items ≡ packed.entry.items) }
         ensures writable { IfOk result (λ pages. AreWritable pages.items) }
         ensures places { IfOk result (λ pages. (q : ℕ) → finite.get self.new.places q ≡ placed pages.items q (finite.get self.old.places q)) }
         ensures pages { self.new ≡ record self.old { places = self.new.places } }
@@ -105,12 +113,17 @@ impl Pages {
     }
 
     // The next root with these pages, for which there are slots.
-    fn plan_pages(&mut self, stay: Slots, packed: Vec<Entries>, next: u64) -> Result<Plan, NoMemory>
+    fn plan_pages<'a>(
+        &mut self,
+        stay: Slots,
+        packed: Vec<Entries<'a>>,
+        next: u64,
+    ) -> Result<Plan<'a>, NoMemory>
         requires next { 1 ≤ next }
         requires few { length stay + length packed.items ≤ 8058 }
         requires some { AreSomeOf self.old.slots stay }
         requires written { MayBeWritten packed.items }
-        ensures plan { IfOk result (λ plan. IsPlan self.old stay packed.items next plan) }
+        ensures plan { IfOk result (λ plan. IsPlan self.old stay packed.entry.items next plan) }
         ensures limits { IfOk result (λ plan. IsWithinLimits plan.root) }
         ensures writable { IfOk result (λ plan. AreWritable plan.pages.items) }
         ensures places { IfOk result (λ plan. (q : ℕ) → finite.get self.new.places q ≡ placed plan.pages.items q (finite.get self.old.places q)) }
@@ -124,19 +137,19 @@ impl Pages {
 
     /// Lays out what a checkpoint writes, where these slots stay and these pages are new. `Lost`: together they are more than a
     /// root may name.
-    pub fn lay_out(
+    pub fn lay_out<'a>(
         &mut self,
         stay: Slots,
-        packed: Vec<Entries>,
+        packed: Vec<Entries<'a>>,
         next: u64,
-    ) -> Result<Plan, PlanStop>
+    ) -> Result<Plan<'a>, PlanStop>
         requires next { 1 ≤ next }
         requires some { AreSomeOf self.old.slots stay }
         requires written { MayBeWritten packed.items }
-        ensures plan { IfOk result (λ plan. IsPlan self.old stay packed.items next plan) }
+        ensures plan { IfOk result (λ plan. IsPlan self.old stay packed.entry.items next plan) }
         ensures limits { IfOk result (λ plan. IsWithinLimits plan.root) }
         ensures writable { IfOk result (λ plan. AreWritable plan.pages.items) }
-        ensures lost { result ≡ Err AreLost → 8058 < length stay + length packed.items }
+        ensures lost { result ≡ Err AreLost → 8058 < length stay + length packed.entry.items }
         ensures memory { is_plan_disk_fault result ≡ false }
         ensures places { IfOk result (λ plan. (q : ℕ) → finite.get self.new.places q ≡ placed plan.pages.items q (finite.get self.old.places q)) }
         ensures pages { self.new ≡ record self.old { places = self.new.places } }
@@ -150,19 +163,16 @@ impl Pages {
         }
     }
 
-    /// Lays out the next root and its pages. Those pages that hold an object of which a change is noted, and the one with
-    /// little in use, are read again, and their objects are packed anew with the changes over them. After an error the
-    /// pages are of no more use.
-    pub fn plan<W: Station>(&mut self, w: &mut W, next: u64) -> Result<Plan, PlanStop>
-        requires { 1 ≤ next }
-        ensures planned { IfOk result (λ plan. (old : Old) → IfSome (W.content w.old) (λ c. MayCheckpoint old self.old next c → IsPlanned old self.old next plan self.new c)) }
-        ensures limits { IfOk result (λ plan. IsWithinLimits plan.root) }
-        ensures writable { IfOk result (λ plan. AreWritable plan.pages.items) }
-        ensures packed { IfOk result (λ plan. IfSome (W.content w.old) (ArePackedAnew self.old plan.pages.items)) }
-        ensures next_root { IfOk result (λ plan. IsNextRoot self.old (kept_slots self.old) plan.pages.items next plan.root) }
-        ensures lost { result ≡ Err AreLost → IfSome (W.content w.old) (λ c. (old : Old) → MayCheckpoint old self.old next c → old.root.next < 2 ^ 64 → ⊥) }
-        ensures noted { OnOk result (self.new.noted ≡ []) }
-        ensures room { OnOk result (self.new.room ≡ 0) }
+    /// Takes the changes that are noted, and answers what is packed anew: those pages that hold an object of which a change is
+    /// noted, and the one with little in use, are read again, and the changes made to their objects. After an error the pages
+    /// are of no more use.
+    pub fn repack<W: Station>(&mut self, w: &mut W) -> Result<Repacked, PlanStop>
+        ensures storable { IfOk result (λ repacked. AreStorable (entries_left repacked.puts.items)) }
+        ensures some { IfOk result (λ repacked. AreSomeOf self.old.slots repacked.stay) }
+        ensures stay { IfOk result (λ repacked. repacked.stay ≡ kept_slots self.old) }
+        ensures left { IfOk result (λ repacked. IfSome (W.content w.old) (AreLeft self.old repacked.puts.items)) }
+        ensures taken { OnOk result (AreTaken self.old self.new) }
+        ensures lost { result ≡ Err AreLost → IfSome (W.content w.old) (λ c. (old : Old) (next : ℕ) → MayCheckpoint old self.old next c → old.root.next < 2 ^ 64 → ⊥) }
         ensures reads { OnlyReads W.now W.content W.history W.speak_faults w.old w.new }
         ensures cause { HasCauseIf (W.disk_faults w.old) (W.disk_faults w.new) (is_plan_disk_fault result) }
     {
@@ -172,20 +182,49 @@ impl Pages {
             Ok(parted) => parted,
             Err(_) => return Err(PlanStop::NoMemory),
         };
-        let packed = match repack(alloc, w, parted.repacked.as_slice(), noted) {
+        match reread_with(alloc, w, parted.repacked.as_slice(), noted) {
+            Ok(puts) => Ok(Repacked {
+                stay: parted.kept,
+                puts,
+            }),
+            Err(stop) => Err(stop),
+        }
+    }
+
+    /// Lays out the next root and its pages, of what is packed anew. After an error the pages are of no more use.
+    pub fn plan<'a>(
+        &mut self,
+        stay: Slots,
+        puts: &'a [Put],
+        next: u64,
+    ) -> Result<Plan<'a>, PlanStop>
+        requires next { 1 ≤ next }
+        requires some { AreSomeOf self.old.slots stay }
+        requires storable { AreStorable (entries_left puts.now) }
+        ensures planned { IfOk result (λ plan. (old : Old) (kept : Kept) (c : List ℕ) → IsRepacked kept self.old stay puts.now c → MayCheckpoint old kept next c → IsPlanned old kept next plan self.new c) }
+        ensures limits { IfOk result (λ plan. IsWithinLimits plan.root) }
+        ensures writable { IfOk result (λ plan. AreWritable plan.pages.items) }
+        ensures packed { IfOk result (λ plan. (kept : Kept) (c : List ℕ) → IsRepacked kept self.old stay puts.now c → ArePackedAnew kept plan.pages.items c) }
+        ensures next_root { IfOk result (λ plan. IsNextRoot self.old stay plan.pages.items next plan.root) }
+        ensures lost { result ≡ Err AreLost → (old : Old) (kept : Kept) (c : List ℕ) → IsRepacked kept self.old stay puts.now c → MayCheckpoint old kept next c → old.root.next < 2 ^ 64 → ⊥ }
+        ensures memory { is_plan_disk_fault result ≡ false }
+        ensures pages { self.new ≡ record self.old { places = self.new.places } }
+    {
+        let alloc = *self.noted.allocator();
+        let packed = match pack(alloc, puts) {
             Ok(packed) => packed,
-            Err(stop) => return Err(stop),
+            Err(_) => return Err(PlanStop::NoMemory),
         };
-        match self.lay_out(parted.kept, packed, next) {
+        match self.lay_out(stay, packed, next) {
             Ok(plan) => Ok(plan),
             Err(stop) => Err(stop),
         }
     }
 
     /// Keeps the root that was planned, once it is the current one.
-    pub fn adopt(&mut self, plan: Plan)
+    pub fn adopt(&mut self, plan: Plan<'_>)
         requires { IsWithinLimits plan.root }
-        ensures { self.new ≡ record self.old { area = plan.root.area; epoch = plan.root.epoch; shape = plan.root.shape; slots = plan.root.slots; small = plan.small } }
+        ensures { self.new ≡ record self.old { area = plan.entry.root.area; epoch = plan.entry.root.epoch; shape = plan.entry.root.shape; slots = plan.entry.root.slots; small = plan.entry.small } }
     {
         let Plan {
             root,

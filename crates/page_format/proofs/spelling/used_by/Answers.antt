@@ -1,16 +1,35 @@
-use Rattle.std.proofs.Common.{ap, arith, length}
+use Rattle.std.proofs.Common.{arith}
+use Rattle.page_format.specs.Objects.{entries_left, entry_left}
 use Rattle.page_format.specs.Written.{entry_octets}
 use Rattle.page_format.proofs.EntryOctets.{length_entry}
-use Rattle.page_format.proofs.Spelled.{next_fits, next_length, storable_at}
+use Rattle.page_format.proofs.Filling.{storable_at}
+use Rattle.page_format.proofs.Spelled.{left_at, next_fits, next_length, there_left}
 use Rattle.page_format.proofs.spelling.used_by.Goals as goal
 
-pub overflow_cast-used : goal.overflow_cast-used
-overflow_cast-used c = omega (arith, ap length c.as_slice.ensures, (storable_at c.args.entries.now c.loop-entry.entry-index c.entry-item.result c.requires.storable c.loop-entry-test.true c.entry-item.is).most)
+pub size_of-used-requires : goal.size_of-used-requires
+size_of-used-requires c = (storable_at c.args.puts.now c.loop-put.put-index c.put-item.result c.requires.storable c.loop-put-test.true c.put-item.is).most
 
-pub overflow_add-used-in-loop-entry : goal.overflow_add-used-in-loop-entry
-overflow_add-used-in-loop-entry c =
-    omega (arith, ap length c.as_slice.ensures, length_entry c.entry-item.result, c.loop-entry.invariant, c.requires.short, next_fits entry_octets c.args.entries.now c.loop-entry.entry-index c.entry-item.result c.loop-entry-test.true c.entry-item.is)
+pub overflow_add-used : goal.overflow_add-used
+overflow_add-used c =
+    let k = c.loop-put.put-index in
+    let e = entry_left c.put-item.result in
+    omega (
+      arith,
+      c.size_of-used.ensures,
+      length_entry e,
+      c.loop-put.invariant,
+      c.requires.short,
+      next_fits entry_octets (entries_left c.args.puts.now) k e (there_left c.args.puts.now k c.loop-put-test.true) (left_at c.args.puts.now k c.put-item.result c.loop-put-test.true c.put-item.is),
+    )
 
-pub loop-entry-preserved : goal.loop-entry-preserved
-loop-entry-preserved c =
-    omega (arith, ap length c.as_slice.ensures, length_entry c.entry-item.result, c.loop-entry.invariant, next_length entry_octets c.args.entries.now c.loop-entry.entry-index c.entry-item.result c.loop-entry-test.true c.entry-item.is)
+pub loop-put-preserved : goal.loop-put-preserved
+loop-put-preserved c =
+    let k = c.loop-put.put-index in
+    let e = entry_left c.put-item.result in
+    omega (
+      arith,
+      c.size_of-used.ensures,
+      length_entry e,
+      c.loop-put.invariant,
+      next_length entry_octets (entries_left c.args.puts.now) k e (there_left c.args.puts.now k c.loop-put-test.true) (left_at c.args.puts.now k c.put-item.result c.loop-put-test.true c.put-item.is),
+    )

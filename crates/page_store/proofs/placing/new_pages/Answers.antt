@@ -1,6 +1,6 @@
 use Rattle.std.proofs.Common.{◌≡◌, ◌∙◌, ◌++◌, ◌∷◌, [], List, length, map, get_or, ap, append-nil, append_assoc, length-append, sym, arith, refl}
 use Rattle.std.specs.Vec.Iter.{into_iter_items}
-use Rattle.page_format.specs.declared.entry.Entry.{Entry}
+use Rattle.page_format.specs.Pages.{Entry}
 use Rattle.page_store.specs.Switch.{slots_of}
 use Rattle.page_format.specs.declared.new_page.NewPage.{NewPage}
 use Rattle.page_store.proofs.Turned.{few_left, map-append, nothing_left, take_end, take_more}

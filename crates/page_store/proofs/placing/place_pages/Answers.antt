@@ -1,6 +1,6 @@
 use Rattle.std.proofs.Common.{◌∙◌, ◌++◌, ◌∷◌, [], ℕ, List, Some, cond, ap, take, sym}
 use Rattle.std.specs.declared.option.Option.{Option}
-use Rattle.page_format.specs.declared.entry.Entry.{Entry}
+use Rattle.page_format.specs.Pages.{Entry}
 use Rattle.page_store.specs.Placed.{is_object, placed, slot_under}
 use Rattle.page_format.specs.declared.new_page.NewPage.{NewPage}
 use Rattle.page_store.proofs.Turned.{placed-append, take_more}

@@ -1,13 +1,11 @@
-use Rattle.std.proofs.Common.{ℕ, ◌≡◌, ◌∙◌, ◌++◌, ◌∷◌, [], List, All, IfOk, OnOk, ap, append-nil, append_assoc, sym, subst}
+use Rattle.std.proofs.Common.{ℕ, ◌≡◌, ◌∙◌, ◌++◌, ◌∷◌, [], List, All, IfOk, ap, append-nil, append_assoc, sym, subst}
 use Rattle.std.specs.FinMap.{empty, entries}
 use Rattle.std.specs.Vec.Iter.{into_iter_items}
 use Rattle.pss_base.specs.declared.put.Put.{Put}
-use Rattle.page_format.specs.Objects.{IsRightPut, entries_of, over}
-use Rattle.page_format.specs.Packing.{IsPacking}
-use Rattle.page_format.specs.Written.{AreStorable}
+use Rattle.page_format.specs.Objects.{IsRightPut, entries_left, entries_of, over}
 use Rattle.page_format.specs.inner.Settling.{Climbs}
 use Rattle.page_format.proofs.Settled.{nothing_left, right_rest}
-use Rattle.page_format.proofs.settling.settle.Goals as goal
+use Rattle.page_format.proofs.settling.settle_sorted.Goals as goal
 
 pub loop-put-init : goal.loop-put-init
 loop-put-init c =
@@ -48,6 +46,6 @@ returns c =
     let none = nothing_left (into_iter_items c.loop-put.put-iterator) (sym c.loop-put.put-iterator.rest.ok.0 ∙ c.in-None.ensures.steps.0) in
     let all : c.loop-put.yielded ≡ c.args.changes.items = sym (append-nil c.loop-put.yielded) ∙ ap (λ l. c.loop-put.yielded ++ l) (sym none) ∙ c.loop-put.invariant.all in
     record {
-      packed = subst (λ (puts : List Put). IfOk c.finish.result (λ pages. IsPacking (entries_of (entries (over empty puts))) pages.items)) all (c.finish.ensures.packed c.loop-put.yielded c.loop-put.invariant.so_far);
-      storable = subst (λ (puts : List Put). OnOk c.finish.result (AreStorable (entries_of (entries (over empty puts))))) all (c.finish.ensures.storable c.loop-put.yielded c.loop-put.invariant.so_far);
+      settled = subst (λ (puts : List Put). IfOk c.finish.result (λ settled. entries_left settled.items ≡ entries_of (entries (over empty puts)))) all (c.finish.ensures.settled c.loop-put.yielded c.loop-put.invariant.so_far);
+      storable = c.finish.ensures.storable c.loop-put.yielded c.loop-put.invariant.so_far;
     }

@@ -2,7 +2,7 @@ use Rattle.std.proofs.Common.{◌≡◌, ◌++◌, All}
 use Rattle.std.specs.Vec.Iter.{into_iter_items}
 use Rattle.page_format.specs.Objects.{IsRightPut}
 use Rattle.page_format.specs.inner.Settling.{Climbs, IsSettling}
-use Rattle.page_format.proofs.settling.settle.Given as goal
+use Rattle.page_format.proofs.settling.settle_sorted.Given as goal
 
 abbrev pub invariant-loop-put : goal.invariant-loop-put
 invariant-loop-put l = record {

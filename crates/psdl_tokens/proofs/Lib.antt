@@ -4,3 +4,4 @@ pub mod Valuing
 pub mod Wording
 pub mod Stringing
 pub mod Lexing
+pub mod Marks

@@ -6,3 +6,4 @@ pub mod Numerals
 pub mod Characters
 pub mod Comments
 pub mod Lexis
+pub mod Longest

@@ -2,6 +2,7 @@
 ghost use Rattle.std.specs.Prelude.{◌≡◌, ◌≤◌, ◌<◌, ◌+◌, length, IfOk};
 ghost use Rattle.psdl_tokens.specs.Alphabet.{run_at, first};
 ghost use Rattle.psdl_tokens.specs.Lexis.{word_lexeme, identifier_lexeme, string_lexeme, comment_lexeme, mark_lexeme, comment_or_mark, lexeme, size_of};
+ghost use Rattle.psdl_tokens.specs.Longest.{IsMarkLongest};
 
 use crate::alphabet::{byte_at, is_blank, run_len};
 use crate::comment::{closing, line_len};
@@ -163,3 +164,9 @@ pub(crate) fn lexeme_at(alloc: Global, front: &[u8], rest: &[u8]) -> Result<Lexe
     }
     Ok(comment_or_mark(front, rest))
 }
+
+/// A mark that is the token at a place of a text is the longest that stands there: `>>` is not taken as `>`, nor `::`
+/// as `:`. The function does nothing: its contract is the law.
+pub fn a_mark_is_the_longest()
+    ensures { IsMarkLongest }
+{}

@@ -15,7 +15,7 @@ mod token;
 
 pub use character::Character;
 pub use cursor::{START, place_behind};
-pub use lexeme::{Lexeme, LexicalKind};
+pub use lexeme::{Lexeme, LexicalKind, a_mark_is_the_longest};
 pub use lexis::{LexicalFault, MOST_BYTES, Scanned, scan};
 pub use names::{is_keyword, is_left_out};
 pub use numeral::is_digit;

@@ -36,3 +36,5 @@ pub mod Rereading
 pub mod Moving
 pub mod Relocating
 pub mod ReadAgain
+pub mod Decided
+pub mod TextAgain

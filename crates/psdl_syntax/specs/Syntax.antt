@@ -1,5 +1,5 @@
 -- The tree of a text, or else the fault of the text.
-use Rattle.std.specs.Prelude.{ℕ, ◌-◌, ◌≡◌, ◌<◌, ◌≤◌, List, [], map, length, take, Some, None, IsSome, Result, Ok, Err, slice_get}
+use Rattle.std.specs.Prelude.{ℕ, ◌-◌, ◌≡◌, ◌<◌, ◌≤◌, List, [], map, length, take, Some, None, IsSome, Result, Ok, Err, slice_get, ◌⊎◌}
 use Rattle.std.specs.Option.{option_map_or}
 use Rattle.pss_base.specs.declared.place.Place.{Place}
 use Rattle.part_readers.specs.Sentences.{Begins, IsFirstFault}
@@ -115,3 +115,7 @@ HasOneFault = (text : List ℕ) (place other : Place) (kind another : SyntaxKind
 -- a text that has a fault is no text of a tree
 abbrev pub HasNoTree : Type 0
 HasNoTree = (text : List ℕ) (place : Place) (kind : SyntaxKind) (tree : Definitions) → IsFault text place kind → IsTextOf tree text → ⊥
+
+-- each text is that of a tree, or has a fault
+abbrev pub HasTreeOrFault : Type 0
+HasTreeOrFault = (text : List ℕ) → ((tree : Definitions) × IsTextOf tree text) ⊎ ((place : Place) × (kind : SyntaxKind) × IsFault text place kind)

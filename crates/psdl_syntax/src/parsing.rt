@@ -4,7 +4,7 @@ ghost use Rattle.psdl_tree.specs.Trees.{Definitions};
 ghost use Rattle.psdl_tree.specs.Views.{tree_view};
 ghost use Rattle.psdl_tokens.specs.Places.{place_of};
 ghost use Rattle.psdl_tokens.specs.Lexis.{lexed};
-ghost use Rattle.psdl_syntax.specs.Syntax.{place_at, IsStop, IsTextOf, IsNoToken, IsTold, IsParsed, HasOneFault, HasNoTree};
+ghost use Rattle.psdl_syntax.specs.Syntax.{place_at, IsStop, IsTextOf, IsNoToken, IsTold, IsParsed};
 
 use crate::Fault;
 use crate::read::read;
@@ -116,10 +116,3 @@ fn place_at(text: &[u8], tokens: &[Token], left: usize) -> Place
         None => end_of(text),
     }
 }
-
-/// A text has at most one fault, and a text with a fault has no tree: so `parse` refuses a text exactly where it has a
-/// fault, or where memory runs out. The function does nothing: its contract is the law.
-pub fn a_text_has_one_fault()
-    ensures one { HasOneFault }
-    ensures no_tree { HasNoTree }
-{}

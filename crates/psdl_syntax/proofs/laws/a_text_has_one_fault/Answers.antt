@@ -1,5 +1,5 @@
 use Rattle.psdl_syntax.proofs.OneFault.{has_one_fault, has_no_tree}
-use Rattle.psdl_syntax.proofs.parsing.a_text_has_one_fault.Goals as goal
+use Rattle.psdl_syntax.proofs.laws.a_text_has_one_fault.Goals as goal
 
 pub returns-clause-one : goal.returns-clause-one
 returns-clause-one c = has_one_fault

@@ -7,3 +7,4 @@ pub mod Replied
 pub mod Beginning
 pub mod Shown
 pub mod Stopping
+pub mod Made

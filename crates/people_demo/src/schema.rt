@@ -1,5 +1,5 @@
 // The schema of people.
-ghost use Rattle.std.specs.Prelude.{◌≡◌, ◌∷◌, [], IfOk};
+ghost use Rattle.std.specs.Prelude.{◌≡◌, ◌∷◌, [], IfOk, codes};
 ghost use Rattle.type_layout.specs.Members.{plain_member};
 ghost use Rattle.type_layout.specs.Types.{RefTo};
 ghost use Rattle.type_layout.specs.Views.{plain_type};
@@ -7,17 +7,17 @@ ghost use Rattle.people_demo.specs.People as plain;
 
 use pss_base::{Bytes, NoMemory};
 use std::alloc::Global;
+use std::rc::Rc;
 use type_layout::{
-    Factories, Factory, Home, HomeList, HomeNo, HomeNos, Indexes, Key, KeyList, KeyNo, KeyNos,
-    Layout, Member, Members, Provided, ProvidedList, Schema, Ty,
+    DeclaredFactories, DeclaredFactory, Factories, HeldFactories, Home, HomeList, HomeNo, HomeNos,
+    Indexes, Key, KeyList, KeyNo, KeyNos, Layout, Member, MemberNames, Members, Names, Provided,
+    ProvidedList, Schema, Ty,
 };
 
 const PEOPLE: HomeNo = HomeNo(1);
 
-// The places of the members.
+// The place of a member.
 const SSN: u32 = 0;
-
-const NAME: u32 = 1;
 
 fn named(alloc: Global, text: &[u8]) -> Result<Bytes, NoMemory>
     ensures { IfOk result (λ name. name ≡ text.now) }
@@ -32,14 +32,6 @@ fn one_index(alloc: Global, place: u32) -> Result<Indexes, NoMemory>
 {
     let mut made = Indexes::new(alloc);
     made.push(place)?;
-    Ok(made)
-}
-
-fn given_members(alloc: Global) -> Result<Indexes, NoMemory>
-    ensures { IfOk result (λ made. made ≡ 0 ∷ 1 ∷ []) }
-{
-    let mut made = one_index(alloc, SSN)?;
-    made.push(NAME)?;
     Ok(made)
 }
 
@@ -91,14 +83,48 @@ fn members(alloc: Global) -> Result<Members, NoMemory>
     Ok(members)
 }
 
+// The names of the members that a person is made of.
+fn given_names(alloc: Global) -> Result<Names, NoMemory>
+    ensures { IfOk result (λ made. made ≡ plain.ssn.name ∷ plain.name.name ∷ []) }
+{
+    let mut names = Names::new(alloc);
+    names.push(named(alloc, b"ssn")?)?;
+    names.push(named(alloc, b"name")?)?;
+    Ok(names)
+}
+
+fn member_names(alloc: Global) -> Result<MemberNames, NoMemory>
+    ensures { IfOk result (λ made. made ≡ plain.ssn.name ∷ plain.name.name ∷ plain.boss.name ∷ []) }
+{
+    let mut names = given_names(alloc)?;
+    names.push(named(alloc, b"boss")?)?;
+    MemberNames::new(alloc, names)
+}
+
+fn make(alloc: Global) -> Result<DeclaredFactory, NoMemory>
+    ensures { IfOk result (λ made. made ≡ record { name = codes "make"; members = plain.ssn.name ∷ plain.name.name ∷ [] }) }
+{
+    let name = named(alloc, b"make")?;
+    let members = given_names(alloc)?;
+    Ok(DeclaredFactory { name, members })
+}
+
+fn held(alloc: Global) -> Result<HeldFactories, NoMemory>
+    ensures { IfOk result (λ made. made ≡ record { name = codes "make"; members = plain.ssn.name ∷ plain.name.name ∷ [] } ∷ []) }
+{
+    let mut declared = Vec::new(alloc);
+    declared.push(make(alloc)?)?;
+    let mut held = HeldFactories::new(alloc);
+    held.push(Rc::new(alloc, DeclaredFactories::new(alloc, declared)?)?)?;
+    Ok(held)
+}
+
 fn factories(alloc: Global) -> Result<Factories, NoMemory>
     ensures { IfOk result (λ made. made ≡ plain.factories) }
 {
-    let mut factories = Factories::new(alloc);
-    let name = named(alloc, b"make")?;
-    let members = given_members(alloc)?;
-    factories.push(Factory { name, members })?;
-    Ok(factories)
+    let members = member_names(alloc)?;
+    let held = held(alloc)?;
+    Ok(Factories::new(members, held))
 }
 
 fn homes(alloc: Global) -> Result<HomeList, NoMemory>

@@ -9,6 +9,8 @@ pub mod Chosen
 pub mod Keyed
 pub mod Lookups
 pub mod Places
+pub mod Named
+pub mod Held
 pub mod Apart
 pub mod KeysTell
 pub mod Records

@@ -9,6 +9,8 @@ pub mod Spelling
 pub mod Schemas
 pub mod Keys
 pub mod ShapeText
+pub mod NamePlaces
+pub mod Factories
 pub mod Sound
 pub mod Names
 pub mod Testing

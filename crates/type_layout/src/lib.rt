@@ -4,11 +4,13 @@
 
 mod defaults;
 mod descent;
+mod factories;
 mod home;
 mod key;
 mod key_bytes;
 mod laws;
 mod member;
+mod name_places;
 mod of_type;
 mod schema;
 mod shape;
@@ -17,13 +19,14 @@ mod value;
 
 pub use defaults::default_of;
 pub use descent::descends;
+pub use factories::{DeclaredFactories, DeclaredFactory, Factories, HeldFactories, MemberNames};
 pub use home::{HomeNo, HomeNos};
 pub use key::{Indexes, Key, KeyList, KeyNo, KeyNos};
 pub use key_bytes::{key_of, key_of_values};
 pub use laws::{key_values_tell, keys_tell, no_spelling_begins, one_spelling};
 pub use member::{Layout, Member, Members};
 pub use of_type::{is_of, is_record};
-pub use schema::{Factories, Factory, Home, HomeList, Provided, ProvidedList, Schema};
+pub use schema::{Factory, Home, HomeList, Provided, ProvidedList, Schema};
 pub use shape::shape_of;
 pub use ty::{Field, Fields, Names, Ty};
 pub use value::{Record, Value, Values};

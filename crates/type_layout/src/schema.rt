@@ -1,57 +1,17 @@
 // What a text of types and homes stands for.
 ghost use Rattle.std.specs.Prelude.{◌≡◌, ◌++◌, ◌∷◌, [], OnOk, OnErr};
 
-use crate::{HomeNo, Indexes, KeyList, KeyNos, Layout};
+use crate::{Factories, HomeNo, Indexes, KeyList, KeyNos, Layout};
 use pss_base::{Bytes, NoMemory};
 use std::alloc::Global;
 use std::marker::Model;
 
-/// A factory: the members that its caller gives, in its order. The others get their defaults.
+/// A factory, as a home is seen to have it: the members that its caller gives, in its order. The others get their
+/// defaults.
 #[derive(Drop)]
 pub struct Factory {
     pub name: Bytes,
     pub members: Indexes,
-}
-
-/// The factories of a storage home.
-#[derive(Drop)]
-pub struct Factories {
-    factories: Vec<Factory>,
-}
-
-impl Model for Factories {
-    ghost use Rattle.std.specs.Prelude.{List};
-    ghost use Rattle.type_layout.specs.declared.schema.Factory.{Factory};
-
-    ghost Value = { List Factory };
-
-    ghost view = { λ l. l.factories.items };
-}
-
-impl Factories {
-    /// None. It takes no memory.
-    pub fn new(alloc: Global) -> Factories
-        ensures { result ≡ [] }
-    {
-        Factories {
-            factories: Vec::new(alloc),
-        }
-    }
-
-    /// Puts one last. `NoMemory`: the list is as before.
-    pub fn push(&mut self, factory: Factory) -> Result<(), NoMemory>
-        ensures ok { OnOk result (self.new ≡ self.old ++ factory ∷ []) }
-        ensures err { OnErr result (self.new ≡ self.old) }
-    {
-        self.factories.push(factory)?;
-        Ok(())
-    }
-
-    pub fn as_slice(&self) -> &[Factory]
-        ensures { result.now ≡ self.now }
-    {
-        &self.factories
-    }
 }
 
 /// A storage home. Its name is scoped, with `::` between the parts.

@@ -9,3 +9,4 @@ pub mod Printing
 pub mod Syntax
 pub mod Moved
 pub mod Again
+pub mod Lists

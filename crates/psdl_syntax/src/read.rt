@@ -12,6 +12,7 @@ ghost use Rattle.psdl_syntax.specs.Answers.{IsGiven, IfUnexpected, IfTooDeep};
 
 mod definitions;
 mod expressions;
+mod lists;
 mod members;
 mod names;
 mod operators;
@@ -20,11 +21,11 @@ mod types;
 mod words;
 
 use crate::Fault;
-use crate::read::definitions::definition_of;
+use crate::read::lists::{Start, parts_of};
 use crate::read::words::{Read, unexpected};
 use part_readers::Refusal;
 use psdl_tokens::Token;
-use psdl_tree::{Definition, Tree};
+use psdl_tree::Tree;
 use std::alloc::Global;
 
 /// So many brackets may be open at once.
@@ -51,23 +52,6 @@ pub(crate) fn read(alloc: Global, tokens: &[Token]) -> Result<Tree, Refusal<Faul
     all_of(alloc, MOST_OPEN, tokens)
 }
 
-#[tactic(auto, unfolding(crate::specs::Productions::text_at))]
-fn text_of(alloc: Global, depth: u32, tokens: &[Token]) -> Read<'_, Vec<Definition>>
-    ensures { Gives (λ x. (map definition_view x.0.items, map seen x.1.now)) result (text_at depth (map seen tokens.now)) }
-{
-    let mut items = Vec::new(alloc);
-    let mut rest = tokens;
-    for _ in 0..tokens.len() {
-        if !is_there(rest) {
-            return Ok((items, rest));
-        }
-        let (item, after) = definition_of(alloc, depth, rest)?;
-        items.push(item)?;
-        rest = after;
-    }
-    Ok((items, rest))
-}
-
 fn is_there(tokens: &[Token]) -> bool
     ensures { result ≡ starts is_any (map seen tokens.now) }
 {
@@ -75,10 +59,11 @@ fn is_there(tokens: &[Token]) -> bool
 }
 
 // All of the tokens.
+#[tactic(auto, unfolding(crate::specs::Productions::text_at))]
 fn all_of(alloc: Global, depth: u32, tokens: &[Token]) -> Result<Tree, Refusal<Fault>>
     ensures { Gives (λ tree. map definition_view tree.definitions.items) result (whole Fault.Unexpected (text_at depth) (map seen tokens.now)) }
 {
-    let (definitions, rest) = text_of(alloc, depth, tokens)?;
+    let (definitions, rest) = parts_of(alloc, depth, Start::Anywhere, tokens)?;
     if is_there(rest) {
         return unexpected(rest);
     }

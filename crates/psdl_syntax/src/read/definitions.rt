@@ -4,8 +4,10 @@ ghost use Rattle.part_readers.specs.Reading.{Gives, many};
 ghost use Rattle.psdl_syntax.specs.Seen.{seen};
 ghost use Rattle.psdl_tree.specs.Views.{constant_type_view, constant_view, type_definition_view, struct_view, field_view, enumeration_view, identifiers_view, definition_view};
 ghost use Rattle.psdl_syntax.specs.Productions.{is_inside, braces, fields_at, identifiers_at, constant_type_at, constant_at, type_definition_at, struct_at, enumeration_at, module_with, abstract_at, body_with, definition_with, definitions_inside, definition_at};
+ghost use Rattle.psdl_tree.specs.Trees as trees;
 
 use super::expressions::expression_of;
+use super::lists::Part;
 use super::names::{identifiers_of, name_of};
 use super::stores::{
     abstract_home_of, abstract_type_of, catalog_of, storage_home_of, storage_type_of,
@@ -142,7 +144,7 @@ fn definitions_of(alloc: Global, depth: u32, tokens: &[Token]) -> Read<'_, Vec<D
 
 #[cycle(definitions)]
 #[tactic(auto, unfolding(crate::specs::Productions::definition_at, crate::specs::Productions::definition_with))]
-pub(super) fn definition_of(alloc: Global, depth: u32, tokens: &[Token]) -> Read<'_, Definition>
+fn definition_of(alloc: Global, depth: u32, tokens: &[Token]) -> Read<'_, Definition>
     ensures { Gives (λ x. (definition_view x.0, map seen x.1.now)) result (definition_at depth (map seen tokens.now)) }
 {
     let (definition, rest) = body_of(alloc, depth, tokens)?;
@@ -194,4 +196,17 @@ fn body_of(alloc: Global, depth: u32, tokens: &[Token]) -> Read<'_, Definition>
     }
     let (catalog, rest) = catalog_of(alloc, depth, tokens)?;
     Ok((Definition::Catalog(catalog), rest))
+}
+
+// What stands in a whole text. A module reads its definitions by a loop of its own, since that loop leads back to itself.
+impl Part for Definition {
+    ghost View = { trees.Definition };
+
+    ghost part_view = { definition_view };
+
+    ghost part_at = { definition_at };
+
+    fn part_of(alloc: Global, depth: u32, tokens: &[Token]) -> Read<'_, Definition> {
+        definition_of(alloc, depth, tokens)
+    }
 }

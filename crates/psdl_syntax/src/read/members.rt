@@ -4,8 +4,10 @@ ghost use Rattle.part_readers.specs.Reading.{Gives, starts, both, optional, many
 ghost use Rattle.psdl_syntax.specs.Seen.{seen};
 ghost use Rattle.psdl_tree.specs.Views.{state_view, parameter_view, parameters_view, operation_result_view, operation_view, key_members_view, key_view, factory_view, identifiers_view};
 ghost use Rattle.psdl_syntax.specs.Productions.{is_mark, is_state, is_direction, is_identifier, behind_sign, state_at, readonly_at, direction_at, parameter_at, parameters_at, operation_result_at, operation_parameters_at, operation_at, key_members_at, key_at, factory_members_at, factory_at, identifiers_at, identifier_at, sign_at};
+ghost use Rattle.psdl_tree.specs.Trees as trees;
 ghost use Rattle.psdl_tokens.specs.declared.token.Mark.TheVariants as marks;
 
+use super::lists::{Part, Start, parts_of};
 use super::names::identifiers_of;
 use super::types::state_type_of;
 use super::words::{
@@ -37,21 +39,27 @@ fn readonly_of(tokens: &[Token]) -> Read<'_, bool>
     }
 }
 
-#[tactic(auto, unfolding(crate::specs::Productions::state_at))]
-pub(super) fn state_of(alloc: Global, depth: u32, tokens: &[Token]) -> Read<'_, State>
-    ensures { Gives (λ x. (state_view x.0, map seen x.1.now)) result (state_at depth (map seen tokens.now)) }
-{
-    let (readonly, rest) = readonly_of(tokens)?;
-    let rest = keyword_of(Keyword::State, rest)?;
-    let (state_type, rest) = state_type_of(alloc, depth, rest)?;
-    let (names, rest) = identifiers_of(alloc, rest)?;
-    let state = State {
-        readonly,
-        state_type,
-        names,
-    };
-    let (state, rest) = before(Mark::Semicolon, state, rest)?;
-    Ok((state, rest))
+impl Part for State {
+    ghost View = { trees.State };
+
+    ghost part_view = { state_view };
+
+    ghost part_at = { state_at };
+
+    #[tactic(auto, unfolding(crate::specs::Productions::state_at))]
+    fn part_of(alloc: Global, depth: u32, tokens: &[Token]) -> Read<'_, State> {
+        let (readonly, rest) = readonly_of(tokens)?;
+        let rest = keyword_of(Keyword::State, rest)?;
+        let (state_type, rest) = state_type_of(alloc, depth, rest)?;
+        let (names, rest) = identifiers_of(alloc, rest)?;
+        let state = State {
+            readonly,
+            state_type,
+            names,
+        };
+        let (state, rest) = before(Mark::Semicolon, state, rest)?;
+        Ok((state, rest))
+    }
 }
 
 fn at_direction(tokens: &[Token]) -> bool
@@ -91,27 +99,17 @@ fn parameter_of(alloc: Global, depth: u32, tokens: &[Token]) -> Read<'_, Paramet
     Ok((parameter, rest))
 }
 
-fn comma_parameter_of(alloc: Global, depth: u32, tokens: &[Token]) -> Read<'_, Parameter>
-    ensures { Gives (λ x. (parameter_view x.0, map seen x.1.now)) result (behind_sign marks.Comma (parameter_at depth) (map seen tokens.now)) }
-{
-    let rest = mark_of(Mark::Comma, tokens)?;
-    parameter_of(alloc, depth, rest)
-}
+impl Part for Parameter {
+    ghost View = { trees.Parameter };
 
-fn more_parameters_of(alloc: Global, depth: u32, tokens: &[Token]) -> Read<'_, Vec<Parameter>>
-    ensures { Gives (λ x. (map parameter_view x.0.items, map seen x.1.now)) result (many (is_mark marks.Comma) (behind_sign marks.Comma (parameter_at depth)) (map seen tokens.now)) }
-{
-    let mut items = Vec::new(alloc);
-    let mut rest = tokens;
-    for _ in 0..tokens.len() {
-        if !at_mark(Mark::Comma, rest) {
-            return Ok((items, rest));
-        }
-        let (item, after) = comma_parameter_of(alloc, depth, rest)?;
-        items.push(item)?;
-        rest = after;
+    ghost part_view = { parameter_view };
+
+    ghost part_at = { λ depth. behind_sign marks.Comma (parameter_at depth) };
+
+    fn part_of(alloc: Global, depth: u32, tokens: &[Token]) -> Read<'_, Parameter> {
+        let rest = mark_of(Mark::Comma, tokens)?;
+        parameter_of(alloc, depth, rest)
     }
-    Ok((items, rest))
 }
 
 #[tactic(auto, unfolding(crate::specs::Productions::parameters_at))]
@@ -119,7 +117,7 @@ fn parameters_of(alloc: Global, depth: u32, tokens: &[Token]) -> Read<'_, Parame
     ensures { Gives (λ x. (parameters_view x.0, map seen x.1.now)) result (parameters_at depth (map seen tokens.now)) }
 {
     let (first, rest) = parameter_of(alloc, depth, tokens)?;
-    let (others, rest) = more_parameters_of(alloc, depth, rest)?;
+    let (others, rest) = parts_of(alloc, depth, Start::At(Mark::Comma), rest)?;
     Ok((Parameters { first, others }, rest))
 }
 

@@ -4,12 +4,13 @@ ghost use Rattle.part_readers.specs.Reading.{Gives, starts, many};
 ghost use Rattle.psdl_syntax.specs.Seen.{seen};
 ghost use Rattle.psdl_tree.specs.Views.{names_view, name_view, abstract_type_member_view, abstract_type_body_view, abstract_type_view, state_view, storage_type_body_view, storage_type_view, abstract_home_member_view, abstract_home_body_view, abstract_home_view, home_member_view, storage_home_view, provision_view, catalog_view, key_view};
 ghost use Rattle.psdl_syntax.specs.Productions.{is_inside, is_abstract_type_body, is_storage_type_body, braces, bases_at, base_at, implements_at, abstract_type_member_at, abstract_type_members_at, abstract_type_body_at, abstract_type_at, state_at, states_at, storage_type_body_at, storage_type_at, abstract_home_member_at, abstract_home_members_at, abstract_home_body_at, abstract_home_at, primary_key_at, home_member_at, home_members_at, storage_home_at, provision_at, provisions_at, catalog_at};
+ghost use Rattle.psdl_tree.specs.Trees as trees;
 
-use super::members::{at_state, factory_of, key_of, operation_of, state_of};
+use super::lists::{Part, braced_of};
+use super::members::{at_state, factory_of, key_of, operation_of};
 use super::names::{name_of, names_of};
 use super::words::{
-    Read, at_keyword, at_mark, before, before_brace, behind_keyword, identifier_of, keyword_of,
-    mark_of, open_of,
+    Read, at_keyword, at_mark, before, behind_keyword, identifier_of, keyword_of, mark_of, open_of,
 };
 use psdl_tokens::{Keyword, Mark, Token};
 use psdl_tree::{
@@ -54,62 +55,30 @@ fn implements_of(alloc: Global, tokens: &[Token]) -> Read<'_, Option<Names>>
     Ok((Some(names), rest))
 }
 
-#[tactic(auto, unfolding(crate::specs::Productions::abstract_type_member_at))]
-fn abstract_type_member_of(
-    alloc: Global,
-    depth: u32,
-    tokens: &[Token],
-) -> Read<'_, AbstractTypeMember>
-    ensures { Gives (λ x. (abstract_type_member_view x.0, map seen x.1.now)) result (abstract_type_member_at depth (map seen tokens.now)) }
-{
-    if at_state(tokens) {
-        let (state, rest) = state_of(alloc, depth, tokens)?;
-        return Ok((AbstractTypeMember::State(state), rest));
-    }
-    let (operation, rest) = operation_of(alloc, depth, tokens)?;
-    Ok((AbstractTypeMember::Operation(operation), rest))
-}
+impl Part for AbstractTypeMember {
+    ghost View = { trees.AbstractTypeMember };
 
-fn abstract_type_members_of(
-    alloc: Global,
-    depth: u32,
-    tokens: &[Token],
-) -> Read<'_, Vec<AbstractTypeMember>>
-    ensures { Gives (λ x. (map abstract_type_member_view x.0.items, map seen x.1.now)) result (many is_inside (abstract_type_member_at depth) (map seen tokens.now)) }
-{
-    let mut items = Vec::new(alloc);
-    let mut rest = tokens;
-    for _ in 0..tokens.len() {
-        if !before_brace(rest) {
-            return Ok((items, rest));
+    ghost part_view = { abstract_type_member_view };
+
+    ghost part_at = { abstract_type_member_at };
+
+    #[tactic(auto, unfolding(crate::specs::Productions::abstract_type_member_at))]
+    fn part_of(alloc: Global, depth: u32, tokens: &[Token]) -> Read<'_, AbstractTypeMember> {
+        if at_state(tokens) {
+            let (state, rest) = State::part_of(alloc, depth, tokens)?;
+            return Ok((AbstractTypeMember::State(state), rest));
         }
-        let (item, after) = abstract_type_member_of(alloc, depth, rest)?;
-        items.push(item)?;
-        rest = after;
+        let (operation, rest) = operation_of(alloc, depth, tokens)?;
+        Ok((AbstractTypeMember::Operation(operation), rest))
     }
-    Ok((items, rest))
 }
 
-#[tactic(auto, unfolding(crate::specs::Productions::abstract_type_members_at))]
-fn braced_type_members_of(
-    alloc: Global,
-    depth: u32,
-    tokens: &[Token],
-) -> Read<'_, Vec<AbstractTypeMember>>
-    ensures { Gives (λ x. (map abstract_type_member_view x.0.items, map seen x.1.now)) result (braces (abstract_type_members_at (depth - 1)) depth (map seen tokens.now)) }
-{
-    let rest = open_of(Mark::LeftBrace, depth, tokens)?;
-    let (items, rest) = abstract_type_members_of(alloc, depth - 1, rest)?;
-    let (items, rest) = before(Mark::RightBrace, items, rest)?;
-    Ok((items, rest))
-}
-
-#[tactic(auto, unfolding(crate::specs::Productions::abstract_type_body_at))]
+#[tactic(auto, unfolding(crate::specs::Productions::abstract_type_body_at, crate::specs::Productions::abstract_type_members_at))]
 fn abstract_type_body_of(alloc: Global, depth: u32, tokens: &[Token]) -> Read<'_, AbstractTypeBody>
     ensures { Gives (λ x. (abstract_type_body_view x.0, map seen x.1.now)) result (abstract_type_body_at depth (map seen tokens.now)) }
 {
     let (bases, rest) = bases_of(alloc, tokens)?;
-    let (members, rest) = braced_type_members_of(alloc, depth, rest)?;
+    let (members, rest) = braced_of(alloc, depth, rest)?;
     Ok((AbstractTypeBody { bases, members }, rest))
 }
 
@@ -137,39 +106,13 @@ pub(super) fn abstract_type_of(
     Ok((AbstractType { name, body: None }, rest))
 }
 
-fn states_of(alloc: Global, depth: u32, tokens: &[Token]) -> Read<'_, Vec<State>>
-    ensures { Gives (λ x. (map state_view x.0.items, map seen x.1.now)) result (many is_inside (state_at depth) (map seen tokens.now)) }
-{
-    let mut items = Vec::new(alloc);
-    let mut rest = tokens;
-    for _ in 0..tokens.len() {
-        if !before_brace(rest) {
-            return Ok((items, rest));
-        }
-        let (item, after) = state_of(alloc, depth, rest)?;
-        items.push(item)?;
-        rest = after;
-    }
-    Ok((items, rest))
-}
-
-#[tactic(auto, unfolding(crate::specs::Productions::states_at))]
-fn braced_states_of(alloc: Global, depth: u32, tokens: &[Token]) -> Read<'_, Vec<State>>
-    ensures { Gives (λ x. (map state_view x.0.items, map seen x.1.now)) result (braces (states_at (depth - 1)) depth (map seen tokens.now)) }
-{
-    let rest = open_of(Mark::LeftBrace, depth, tokens)?;
-    let (items, rest) = states_of(alloc, depth - 1, rest)?;
-    let (items, rest) = before(Mark::RightBrace, items, rest)?;
-    Ok((items, rest))
-}
-
-#[tactic(auto, unfolding(crate::specs::Productions::storage_type_body_at))]
+#[tactic(auto, unfolding(crate::specs::Productions::storage_type_body_at, crate::specs::Productions::states_at))]
 fn storage_type_body_of(alloc: Global, depth: u32, tokens: &[Token]) -> Read<'_, StorageTypeBody>
     ensures { Gives (λ x. (storage_type_body_view x.0, map seen x.1.now)) result (storage_type_body_at depth (map seen tokens.now)) }
 {
     let (base, rest) = base_of(alloc, tokens)?;
     let (implements, rest) = implements_of(alloc, rest)?;
-    let (states, rest) = braced_states_of(alloc, depth, rest)?;
+    let (states, rest) = braced_of(alloc, depth, rest)?;
     let body = StorageTypeBody {
         base,
         implements,
@@ -200,68 +143,36 @@ pub(super) fn storage_type_of(alloc: Global, depth: u32, tokens: &[Token]) -> Re
     Ok((StorageType { name, body: None }, rest))
 }
 
-#[tactic(auto, unfolding(crate::specs::Productions::abstract_home_member_at))]
-fn abstract_home_member_of(
-    alloc: Global,
-    depth: u32,
-    tokens: &[Token],
-) -> Read<'_, AbstractHomeMember>
-    ensures { Gives (λ x. (abstract_home_member_view x.0, map seen x.1.now)) result (abstract_home_member_at depth (map seen tokens.now)) }
-{
-    if at_keyword(Keyword::Key, tokens) {
-        let (key, rest) = key_of(alloc, depth, tokens)?;
-        return Ok((AbstractHomeMember::Key(key), rest));
-    }
-    if at_keyword(Keyword::Factory, tokens) {
-        let (factory, rest) = factory_of(alloc, depth, tokens)?;
-        return Ok((AbstractHomeMember::Factory(factory), rest));
-    }
-    let (operation, rest) = operation_of(alloc, depth, tokens)?;
-    Ok((AbstractHomeMember::Operation(operation), rest))
-}
+impl Part for AbstractHomeMember {
+    ghost View = { trees.AbstractHomeMember };
 
-fn abstract_home_members_of(
-    alloc: Global,
-    depth: u32,
-    tokens: &[Token],
-) -> Read<'_, Vec<AbstractHomeMember>>
-    ensures { Gives (λ x. (map abstract_home_member_view x.0.items, map seen x.1.now)) result (many is_inside (abstract_home_member_at depth) (map seen tokens.now)) }
-{
-    let mut items = Vec::new(alloc);
-    let mut rest = tokens;
-    for _ in 0..tokens.len() {
-        if !before_brace(rest) {
-            return Ok((items, rest));
+    ghost part_view = { abstract_home_member_view };
+
+    ghost part_at = { abstract_home_member_at };
+
+    #[tactic(auto, unfolding(crate::specs::Productions::abstract_home_member_at))]
+    fn part_of(alloc: Global, depth: u32, tokens: &[Token]) -> Read<'_, AbstractHomeMember> {
+        if at_keyword(Keyword::Key, tokens) {
+            let (key, rest) = key_of(alloc, depth, tokens)?;
+            return Ok((AbstractHomeMember::Key(key), rest));
         }
-        let (item, after) = abstract_home_member_of(alloc, depth, rest)?;
-        items.push(item)?;
-        rest = after;
+        if at_keyword(Keyword::Factory, tokens) {
+            let (factory, rest) = factory_of(alloc, depth, tokens)?;
+            return Ok((AbstractHomeMember::Factory(factory), rest));
+        }
+        let (operation, rest) = operation_of(alloc, depth, tokens)?;
+        Ok((AbstractHomeMember::Operation(operation), rest))
     }
-    Ok((items, rest))
 }
 
-#[tactic(auto, unfolding(crate::specs::Productions::abstract_home_members_at))]
-fn braced_abstract_members_of(
-    alloc: Global,
-    depth: u32,
-    tokens: &[Token],
-) -> Read<'_, Vec<AbstractHomeMember>>
-    ensures { Gives (λ x. (map abstract_home_member_view x.0.items, map seen x.1.now)) result (braces (abstract_home_members_at (depth - 1)) depth (map seen tokens.now)) }
-{
-    let rest = open_of(Mark::LeftBrace, depth, tokens)?;
-    let (items, rest) = abstract_home_members_of(alloc, depth - 1, rest)?;
-    let (items, rest) = before(Mark::RightBrace, items, rest)?;
-    Ok((items, rest))
-}
-
-#[tactic(auto, unfolding(crate::specs::Productions::abstract_home_body_at))]
+#[tactic(auto, unfolding(crate::specs::Productions::abstract_home_body_at, crate::specs::Productions::abstract_home_members_at))]
 fn abstract_home_body_of(alloc: Global, depth: u32, tokens: &[Token]) -> Read<'_, AbstractHomeBody>
     ensures { Gives (λ x. (abstract_home_body_view x.0, map seen x.1.now)) result (abstract_home_body_at depth (map seen tokens.now)) }
 {
     let rest = keyword_of(Keyword::Of, tokens)?;
     let (managed, rest) = name_of(alloc, rest)?;
     let (bases, rest) = bases_of(alloc, rest)?;
-    let (members, rest) = braced_abstract_members_of(alloc, depth, rest)?;
+    let (members, rest) = braced_of(alloc, depth, rest)?;
     let body = AbstractHomeBody {
         managed,
         bases,
@@ -296,49 +207,29 @@ fn primary_key_of(alloc: Global, depth: u32, tokens: &[Token]) -> Read<'_, Key>
     key_of(alloc, depth, rest)
 }
 
-#[tactic(auto, unfolding(crate::specs::Productions::home_member_at))]
-fn home_member_of(alloc: Global, depth: u32, tokens: &[Token]) -> Read<'_, HomeMember>
-    ensures { Gives (λ x. (home_member_view x.0, map seen x.1.now)) result (home_member_at depth (map seen tokens.now)) }
-{
-    if at_keyword(Keyword::Key, tokens) {
-        let (key, rest) = key_of(alloc, depth, tokens)?;
-        return Ok((HomeMember::Key(key), rest));
-    }
-    if at_keyword(Keyword::Primary, tokens) {
-        let (key, rest) = primary_key_of(alloc, depth, tokens)?;
-        return Ok((HomeMember::PrimaryKey(key), rest));
-    }
-    let (factory, rest) = factory_of(alloc, depth, tokens)?;
-    Ok((HomeMember::Factory(factory), rest))
-}
+impl Part for HomeMember {
+    ghost View = { trees.HomeMember };
 
-fn home_members_of(alloc: Global, depth: u32, tokens: &[Token]) -> Read<'_, Vec<HomeMember>>
-    ensures { Gives (λ x. (map home_member_view x.0.items, map seen x.1.now)) result (many is_inside (home_member_at depth) (map seen tokens.now)) }
-{
-    let mut items = Vec::new(alloc);
-    let mut rest = tokens;
-    for _ in 0..tokens.len() {
-        if !before_brace(rest) {
-            return Ok((items, rest));
+    ghost part_view = { home_member_view };
+
+    ghost part_at = { home_member_at };
+
+    #[tactic(auto, unfolding(crate::specs::Productions::home_member_at))]
+    fn part_of(alloc: Global, depth: u32, tokens: &[Token]) -> Read<'_, HomeMember> {
+        if at_keyword(Keyword::Key, tokens) {
+            let (key, rest) = key_of(alloc, depth, tokens)?;
+            return Ok((HomeMember::Key(key), rest));
         }
-        let (item, after) = home_member_of(alloc, depth, rest)?;
-        items.push(item)?;
-        rest = after;
+        if at_keyword(Keyword::Primary, tokens) {
+            let (key, rest) = primary_key_of(alloc, depth, tokens)?;
+            return Ok((HomeMember::PrimaryKey(key), rest));
+        }
+        let (factory, rest) = factory_of(alloc, depth, tokens)?;
+        Ok((HomeMember::Factory(factory), rest))
     }
-    Ok((items, rest))
 }
 
-#[tactic(auto, unfolding(crate::specs::Productions::home_members_at))]
-fn braced_home_members_of(alloc: Global, depth: u32, tokens: &[Token]) -> Read<'_, Vec<HomeMember>>
-    ensures { Gives (λ x. (map home_member_view x.0.items, map seen x.1.now)) result (braces (home_members_at (depth - 1)) depth (map seen tokens.now)) }
-{
-    let rest = open_of(Mark::LeftBrace, depth, tokens)?;
-    let (items, rest) = home_members_of(alloc, depth - 1, rest)?;
-    let (items, rest) = before(Mark::RightBrace, items, rest)?;
-    Ok((items, rest))
-}
-
-#[tactic(auto, unfolding(crate::specs::Productions::storage_home_at))]
+#[tactic(auto, unfolding(crate::specs::Productions::storage_home_at, crate::specs::Productions::home_members_at))]
 pub(super) fn storage_home_of(alloc: Global, depth: u32, tokens: &[Token]) -> Read<'_, StorageHome>
     ensures { Gives (λ x. (storage_home_view x.0, map seen x.1.now)) result (storage_home_at depth (map seen tokens.now)) }
 {
@@ -348,7 +239,7 @@ pub(super) fn storage_home_of(alloc: Global, depth: u32, tokens: &[Token]) -> Re
     let rest = keyword_of(Keyword::Of, rest)?;
     let (managed, rest) = name_of(alloc, rest)?;
     let (implements, rest) = implements_of(alloc, rest)?;
-    let (members, rest) = braced_home_members_of(alloc, depth, rest)?;
+    let (members, rest) = braced_of(alloc, depth, rest)?;
     let home = StorageHome {
         name,
         base,
@@ -359,50 +250,30 @@ pub(super) fn storage_home_of(alloc: Global, depth: u32, tokens: &[Token]) -> Re
     Ok((home, rest))
 }
 
-#[tactic(auto, unfolding(crate::specs::Productions::provision_at))]
-fn provision_of(alloc: Global, tokens: &[Token]) -> Read<'_, Provision>
-    ensures { Gives (λ x. (provision_view x.0, map seen x.1.now)) result (provision_at (map seen tokens.now)) }
-{
-    let rest = keyword_of(Keyword::Provides, tokens)?;
-    let (home, rest) = name_of(alloc, rest)?;
-    let (name, rest) = identifier_of(rest)?;
-    let provision = Provision { home, name };
-    let (provision, rest) = before(Mark::Semicolon, provision, rest)?;
-    Ok((provision, rest))
-}
+impl Part for Provision {
+    ghost View = { trees.Provision };
 
-fn provisions_of(alloc: Global, tokens: &[Token]) -> Read<'_, Vec<Provision>>
-    ensures { Gives (λ x. (map provision_view x.0.items, map seen x.1.now)) result (many is_inside provision_at (map seen tokens.now)) }
-{
-    let mut items = Vec::new(alloc);
-    let mut rest = tokens;
-    for _ in 0..tokens.len() {
-        if !before_brace(rest) {
-            return Ok((items, rest));
-        }
-        let (item, after) = provision_of(alloc, rest)?;
-        items.push(item)?;
-        rest = after;
+    ghost part_view = { provision_view };
+
+    ghost part_at = { λ depth. provision_at };
+
+    #[tactic(auto, unfolding(crate::specs::Productions::provision_at))]
+    fn part_of(alloc: Global, _depth: u32, tokens: &[Token]) -> Read<'_, Provision> {
+        let rest = keyword_of(Keyword::Provides, tokens)?;
+        let (home, rest) = name_of(alloc, rest)?;
+        let (name, rest) = identifier_of(rest)?;
+        let provision = Provision { home, name };
+        let (provision, rest) = before(Mark::Semicolon, provision, rest)?;
+        Ok((provision, rest))
     }
-    Ok((items, rest))
 }
 
-#[tactic(auto, unfolding(crate::specs::Productions::provisions_at))]
-fn braced_provisions_of(alloc: Global, depth: u32, tokens: &[Token]) -> Read<'_, Vec<Provision>>
-    ensures { Gives (λ x. (map provision_view x.0.items, map seen x.1.now)) result (braces provisions_at depth (map seen tokens.now)) }
-{
-    let rest = open_of(Mark::LeftBrace, depth, tokens)?;
-    let (items, rest) = provisions_of(alloc, rest)?;
-    let (items, rest) = before(Mark::RightBrace, items, rest)?;
-    Ok((items, rest))
-}
-
-#[tactic(auto, unfolding(crate::specs::Productions::catalog_at))]
+#[tactic(auto, unfolding(crate::specs::Productions::catalog_at, crate::specs::Productions::provisions_at))]
 pub(super) fn catalog_of(alloc: Global, depth: u32, tokens: &[Token]) -> Read<'_, Catalog>
     ensures { Gives (λ x. (catalog_view x.0, map seen x.1.now)) result (catalog_at depth (map seen tokens.now)) }
 {
     let rest = keyword_of(Keyword::Catalog, tokens)?;
     let (name, rest) = identifier_of(rest)?;
-    let (provisions, rest) = braced_provisions_of(alloc, depth, rest)?;
+    let (provisions, rest) = braced_of(alloc, depth, rest)?;
     Ok((Catalog { name, provisions }, rest))
 }

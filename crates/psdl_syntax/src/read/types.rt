@@ -4,13 +4,14 @@ ghost use Rattle.part_readers.specs.Reading.{Gives, starts, many};
 ghost use Rattle.psdl_syntax.specs.Seen.{seen};
 ghost use Rattle.psdl_tree.specs.Views.{expression_view, name_view, plain_type_view, type_spec_view, state_type_view, declarator_view, declarators_view, field_view};
 ghost use Rattle.psdl_syntax.specs.Productions.{is_mark, is_integer, is_inside, behind_sign, integer_size_at, integer_at, bound_at, string_at, plain_type_at, sequence_with, sequence_inside, sequence_inner_at, comma_bound_at, type_spec_with, type_spec_at, reference_at, state_type_at, dimension_at, declarator_at, declarators_at, field_at, fields_at};
+ghost use Rattle.psdl_tree.specs.Trees as trees;
 ghost use Rattle.psdl_tokens.specs.declared.token.Mark.TheVariants as marks;
 
 use super::expressions::expression_of;
+use super::lists::{Part, Start, parts_of};
 use super::names::name_of;
 use super::words::{
-    Read, at_keyword, at_mark, before, before_brace, behind_keyword, identifier_of, keyword_of,
-    mark_of, open_of,
+    Read, at_keyword, at_mark, before, behind_keyword, identifier_of, keyword_of, mark_of, open_of,
 };
 use psdl_tokens::{Keyword, Mark, Token};
 use psdl_tree::{
@@ -187,30 +188,21 @@ pub(super) fn state_type_of(alloc: Global, depth: u32, tokens: &[Token]) -> Read
     Ok((StateType::Plain(plain), rest))
 }
 
-#[tactic(auto, unfolding(crate::specs::Productions::dimension_at))]
-fn dimension_of(alloc: Global, depth: u32, tokens: &[Token]) -> Read<'_, Expression>
-    ensures { Gives (λ x. (expression_view x.0, map seen x.1.now)) result (dimension_at depth (map seen tokens.now)) }
-{
-    let rest = open_of(Mark::LeftBracket, depth, tokens)?;
-    let (size, rest) = expression_of(alloc, depth - 1, rest)?;
-    let (size, rest) = before(Mark::RightBracket, size, rest)?;
-    Ok((size, rest))
-}
+// A dimension.
+impl Part for Expression {
+    ghost View = { trees.Expression };
 
-fn dimensions_of(alloc: Global, depth: u32, tokens: &[Token]) -> Read<'_, Vec<Expression>>
-    ensures { Gives (λ x. (map expression_view x.0.items, map seen x.1.now)) result (many (is_mark marks.LeftBracket) (dimension_at depth) (map seen tokens.now)) }
-{
-    let mut items = Vec::new(alloc);
-    let mut rest = tokens;
-    for _ in 0..tokens.len() {
-        if !at_mark(Mark::LeftBracket, rest) {
-            return Ok((items, rest));
-        }
-        let (item, after) = dimension_of(alloc, depth, rest)?;
-        items.push(item)?;
-        rest = after;
+    ghost part_view = { expression_view };
+
+    ghost part_at = { dimension_at };
+
+    #[tactic(auto, unfolding(crate::specs::Productions::dimension_at))]
+    fn part_of(alloc: Global, depth: u32, tokens: &[Token]) -> Read<'_, Expression> {
+        let rest = open_of(Mark::LeftBracket, depth, tokens)?;
+        let (size, rest) = expression_of(alloc, depth - 1, rest)?;
+        let (size, rest) = before(Mark::RightBracket, size, rest)?;
+        Ok((size, rest))
     }
-    Ok((items, rest))
 }
 
 #[tactic(auto, unfolding(crate::specs::Productions::declarator_at))]
@@ -218,31 +210,21 @@ fn declarator_of(alloc: Global, depth: u32, tokens: &[Token]) -> Read<'_, Declar
     ensures { Gives (λ x. (declarator_view x.0, map seen x.1.now)) result (declarator_at depth (map seen tokens.now)) }
 {
     let (name, rest) = identifier_of(tokens)?;
-    let (dimensions, rest) = dimensions_of(alloc, depth, rest)?;
+    let (dimensions, rest) = parts_of(alloc, depth, Start::At(Mark::LeftBracket), rest)?;
     Ok((Declarator { name, dimensions }, rest))
 }
 
-fn comma_declarator_of(alloc: Global, depth: u32, tokens: &[Token]) -> Read<'_, Declarator>
-    ensures { Gives (λ x. (declarator_view x.0, map seen x.1.now)) result (behind_sign marks.Comma (declarator_at depth) (map seen tokens.now)) }
-{
-    let rest = mark_of(Mark::Comma, tokens)?;
-    declarator_of(alloc, depth, rest)
-}
+impl Part for Declarator {
+    ghost View = { trees.Declarator };
 
-fn more_declarators_of(alloc: Global, depth: u32, tokens: &[Token]) -> Read<'_, Vec<Declarator>>
-    ensures { Gives (λ x. (map declarator_view x.0.items, map seen x.1.now)) result (many (is_mark marks.Comma) (behind_sign marks.Comma (declarator_at depth)) (map seen tokens.now)) }
-{
-    let mut items = Vec::new(alloc);
-    let mut rest = tokens;
-    for _ in 0..tokens.len() {
-        if !at_mark(Mark::Comma, rest) {
-            return Ok((items, rest));
-        }
-        let (item, after) = comma_declarator_of(alloc, depth, rest)?;
-        items.push(item)?;
-        rest = after;
+    ghost part_view = { declarator_view };
+
+    ghost part_at = { λ depth. behind_sign marks.Comma (declarator_at depth) };
+
+    fn part_of(alloc: Global, depth: u32, tokens: &[Token]) -> Read<'_, Declarator> {
+        let rest = mark_of(Mark::Comma, tokens)?;
+        declarator_of(alloc, depth, rest)
     }
-    Ok((items, rest))
 }
 
 #[tactic(auto, unfolding(crate::specs::Productions::declarators_at))]
@@ -250,35 +232,25 @@ pub(super) fn declarators_of(alloc: Global, depth: u32, tokens: &[Token]) -> Rea
     ensures { Gives (λ x. (declarators_view x.0, map seen x.1.now)) result (declarators_at depth (map seen tokens.now)) }
 {
     let (first, rest) = declarator_of(alloc, depth, tokens)?;
-    let (others, rest) = more_declarators_of(alloc, depth, rest)?;
+    let (others, rest) = parts_of(alloc, depth, Start::At(Mark::Comma), rest)?;
     Ok((Declarators { first, others }, rest))
 }
 
-#[tactic(auto, unfolding(crate::specs::Productions::field_at))]
-fn field_of(alloc: Global, depth: u32, tokens: &[Token]) -> Read<'_, Field>
-    ensures { Gives (λ x. (field_view x.0, map seen x.1.now)) result (field_at depth (map seen tokens.now)) }
-{
-    let (spec, rest) = type_spec_of(alloc, depth, tokens)?;
-    let (declarators, rest) = declarators_of(alloc, depth, rest)?;
-    let field = Field { spec, declarators };
-    let (field, rest) = before(Mark::Semicolon, field, rest)?;
-    Ok((field, rest))
-}
+impl Part for Field {
+    ghost View = { trees.Field };
 
-fn more_fields_of(alloc: Global, depth: u32, tokens: &[Token]) -> Read<'_, Vec<Field>>
-    ensures { Gives (λ x. (map field_view x.0.items, map seen x.1.now)) result (many is_inside (field_at depth) (map seen tokens.now)) }
-{
-    let mut items = Vec::new(alloc);
-    let mut rest = tokens;
-    for _ in 0..tokens.len() {
-        if !before_brace(rest) {
-            return Ok((items, rest));
-        }
-        let (item, after) = field_of(alloc, depth, rest)?;
-        items.push(item)?;
-        rest = after;
+    ghost part_view = { field_view };
+
+    ghost part_at = { field_at };
+
+    #[tactic(auto, unfolding(crate::specs::Productions::field_at))]
+    fn part_of(alloc: Global, depth: u32, tokens: &[Token]) -> Read<'_, Field> {
+        let (spec, rest) = type_spec_of(alloc, depth, tokens)?;
+        let (declarators, rest) = declarators_of(alloc, depth, rest)?;
+        let field = Field { spec, declarators };
+        let (field, rest) = before(Mark::Semicolon, field, rest)?;
+        Ok((field, rest))
     }
-    Ok((items, rest))
 }
 
 #[tactic(auto, unfolding(crate::specs::Productions::fields_at))]
@@ -289,7 +261,7 @@ pub(super) fn fields_of(
 ) -> Read<'_, (Field, Vec<Field>)>
     ensures { Gives (λ x. ((field_view x.0.0, map field_view x.0.1.items), map seen x.1.now)) result (fields_at depth (map seen tokens.now)) }
 {
-    let (first, rest) = field_of(alloc, depth, tokens)?;
-    let (others, rest) = more_fields_of(alloc, depth, rest)?;
+    let (first, rest) = Field::part_of(alloc, depth, tokens)?;
+    let (others, rest) = parts_of(alloc, depth, Start::Inside, rest)?;
     Ok(((first, others), rest))
 }

@@ -1,13 +1,14 @@
 -- Entries are packed one after another.
-use Rattle.std.proofs.Common.{ℕ, zero, suc, ◌≡◌, ◌≢◌, ◌+◌, ◌-◌, ◌<◌, ◌≤◌, List, [], ◌∷◌, ◌++◌, length, take, drop, get_or, refl, sym, ap, ◌∙◌, subst, arith, append_assoc, append-nil}
+use Rattle.std.proofs.Common.{ℕ, zero, suc, ◌≡◌, ◌≢◌, ◌+◌, ◌-◌, ◌<◌, ◌≤◌, List, [], ◌∷◌, ◌++◌, length, take, drop, get_or, IfSome, None, Some, refl, sym, ap, ◌∙◌, subst, arith, append_assoc, append-nil}
 use Rattle.std.proofs.Math.Seq.{take-length, take-suc}
-use Rattle.std.proofs.lemmas.List.{drop-append-le, drop-take, length-take-le}
+use Rattle.std.proofs.lemmas.List.{drop-append-le, drop-take, length-drop, length-take-le}
 use Rattle.std.specs.List.{slice_range}
+use Rattle.std.specs.declared.option.Option.{Option}
 use Rattle.pss_base.specs.declared.put.Put.{Put}
 use Rattle.page_format.specs.Objects.{entries_left, entry_left}
 use Rattle.page_format.specs.Written.{AreStorable, IsStorable}
 use Rattle.page_format.specs.Pages.{Entry}
-use Rattle.page_format.specs.Packing.{AreClosed, AreFilled, HasNoRoom, IsFilled, IsPacking, entries_on, size_of, used_by}
+use Rattle.page_format.specs.Packing.{AreClosed, AreFilled, AreInARow, HasNoRoom, IsFilled, IsPacking, entries_on, size_of, used_by}
 use Rattle.page_format.specs.declared.packing.Filling.{Filling}
 use Rattle.page_format.specs.inner.Packing.{AreFilledUpTo, ArePackedSoFar}
 
@@ -122,13 +123,36 @@ range_one puts start k put le lt is =
 range_begun : (puts : List Put) (k : ℕ) (put : Put) → k < length puts → put ≡ get_or puts k put → slice_range puts k (k + 1) ≡ put ∷ []
 range_begun puts k put lt is = range_one puts k k put (omega arith) lt is ∙ ap (λ l. l ++ put ∷ []) (ap (λ (n : ℕ). take n (drop k puts)) (let h : k - k ≡ 0 = omega arith in h))
 
--- the first page after an entry that went into it
-pub filled_none : (puts : List Put) → AreFilledUpTo puts [] (record { start = 0; end = 0; used = 0 })
-filled_none puts = record { begun = omega arith; packed = packed_none }
+-- serials in a row, with one more
+row_none : (row : Option ℕ) → IfSome row (λ first. AreInARow first [])
+row_none None = tt
+row_none (Some first) = tt
 
-pub filled_put : (puts : List Put) (closed : List (List Entry)) (filling : Filling) (put : Put) (size : ℕ) → size ≡ size_of (entry_left put) → filling.end < length puts → put ≡ get_or puts filling.end put → filling.used + size ≤ 16344 → AreFilledUpTo puts closed filling
-    → AreFilledUpTo puts closed (record { start = filling.start; end = filling.end + 1; used = filling.used + size })
-filled_put puts closed filling put size size_ lt is fits so_far =
+row_one : (first : ℕ) (es : List Entry) (e : Entry) → AreInARow first es → e.serial ≡ first + length es → AreInARow first (es ++ e ∷ [])
+row_one first [] e are is = (omega (arith, is), tt)
+row_one first (x ∷ es) e are is = (are.0, row_one (suc first) es e are.1 (omega (arith, is)))
+
+length-left : (puts : List Put) → length (entries_left puts) ≡ length puts
+length-left [] = refl
+length-left (put ∷ puts) = omega (arith, length-left puts)
+
+length-range : (puts : List Put) (start k : ℕ) → start ≤ k → k ≤ length puts → length (entries_left (slice_range puts start k)) ≡ k - start
+length-range puts start k le within = omega (arith, length-left (slice_range puts start k), ap length (range_is puts start k le), length-drop start (take k puts), length-take-le k puts within)
+
+row_range : (puts : List Put) (start k : ℕ) (put : Put) (old row : Option ℕ) → start ≤ k → k < length puts → put ≡ get_or puts k put → IfSome row (λ first. (old ≡ Some first) × (put.serial ≡ first + (k - start))) → IfSome old (λ first. AreInARow first (entries_left (slice_range puts start k)))
+    → IfSome row (λ first. AreInARow first (entries_left (slice_range puts start (k + 1))))
+row_range puts start k put old None le lt is with_ are = tt
+row_range puts start k put old (Some first) le lt is with_ are =
+    subst (λ (l : List Entry). AreInARow first l) (sym (ap entries_left (range_one puts start k put le lt is) ∙ left-append (slice_range puts start k) (put ∷ [])))
+    (row_one first (entries_left (slice_range puts start k)) (entry_left put) (subst (λ (o : Option ℕ). IfSome o (λ first. AreInARow first (entries_left (slice_range puts start k)))) with_.0 are) (omega (arith, with_.1, length-range puts start k le (omega (arith, lt)))))
+
+-- the first page after an entry that went into it
+pub filled_none : (puts : List Put) (row : Option ℕ) → AreFilledUpTo puts [] (record { start = 0; end = 0; used = 0; row = row })
+filled_none puts row = record { begun = omega arith; packed = packed_none; row = row_none row }
+
+pub filled_put : (puts : List Put) (closed : List (List Entry)) (filling : Filling) (put : Put) (size : ℕ) (row : Option ℕ) → IfSome row (λ first. (filling.row ≡ Some first) × (put.serial ≡ first + (filling.end - filling.start))) → size ≡ size_of (entry_left put) → filling.end < length puts → put ≡ get_or puts filling.end put → filling.used + size ≤ 16344 → AreFilledUpTo puts closed filling
+    → AreFilledUpTo puts closed (record { start = filling.start; end = filling.end + 1; used = filling.used + size; row = row })
+filled_put puts closed filling put size row row_ size_ lt is fits so_far =
     let k = filling.end in
     let e = entry_left put in
     let there = packed_there (entries_left (take k puts)) closed (entries_left (slice_range puts filling.start k)) filling.used e so_far.packed (omega (arith, size_, fits)) in
@@ -138,11 +162,12 @@ filled_put puts closed filling put size size_ lt is fits so_far =
           subst (λ (es : List Entry). ArePackedSoFar es closed (entries_left (slice_range puts filling.start (k + 1))) (filling.used + size)) (sym (left-append (take k puts) (put ∷ [])) ∙ ap entries_left (sym (taken_one puts k put lt is)))
           (subst (λ (l : List Entry). ArePackedSoFar (entries_left (take k puts) ++ e ∷ []) closed l (filling.used + size)) (sym (left-append (slice_range puts filling.start k) (put ∷ [])) ∙ ap entries_left (sym (range_one puts filling.start k put so_far.begun lt is)))
           (subst (λ (n : ℕ). ArePackedSoFar (entries_left (take k puts) ++ e ∷ []) closed (entries_left (slice_range puts filling.start k) ++ e ∷ []) (filling.used + n)) (sym size_) there));
+      row = row_range puts filling.start k put filling.row row so_far.begun lt is row_ so_far.row;
     }
 
 -- the pages after an entry with which another one was begun
 pub filled_begun : (puts : List Put) (closed new : List (List Entry)) (filling : Filling) (put : Put) (size : ℕ) → size ≡ size_of (entry_left put) → size ≤ 8016 → new ≡ closed ++ entries_left (slice_range puts filling.start filling.end) ∷ [] → filling.end < length puts
-    → put ≡ get_or puts filling.end put → 16344 < filling.used + size → AreFilledUpTo puts closed filling → AreFilledUpTo puts new (record { start = filling.end; end = filling.end + 1; used = size })
+    → put ≡ get_or puts filling.end put → 16344 < filling.used + size → AreFilledUpTo puts closed filling → AreFilledUpTo puts new (record { start = filling.end; end = filling.end + 1; used = size; row = Some put.serial })
 filled_begun puts closed new filling put size size_ short new_ lt is full so_far =
     let k = filling.end in
     let e = entry_left put in
@@ -154,6 +179,7 @@ filled_begun puts closed new filling put size size_ short new_ lt is full so_far
           (subst (λ (l : List Entry). ArePackedSoFar (entries_left (take k puts) ++ e ∷ []) new l size) (ap entries_left (sym (range_begun puts k put lt is)))
           (subst (λ (n : ℕ). ArePackedSoFar (entries_left (take k puts) ++ e ∷ []) new (e ∷ []) n) (sym size_)
           (subst (λ (ps : List (List Entry)). ArePackedSoFar (entries_left (take k puts) ++ e ∷ []) ps (e ∷ []) (size_of e)) (sym new_) next)));
+      row = subst (λ (l : List Entry). AreInARow put.serial l) (ap entries_left (sym (range_begun puts k put lt is))) (refl, tt);
     }
 
 -- the pages of all changes

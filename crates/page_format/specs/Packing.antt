@@ -1,5 +1,5 @@
 -- How entries are packed into pages.
-use Rattle.std.specs.Prelude.{ℕ, ◌≡◌, ◌≢◌, ◌+◌, ◌<◌, ◌≤◌, ◌==◌, Bool, false, List, [], ◌∷◌, ◌++◌, length, slice_index, ⊤}
+use Rattle.std.specs.Prelude.{ℕ, suc, ◌≡◌, ◌≢◌, ◌+◌, ◌<◌, ◌≤◌, ◌==◌, Bool, false, List, [], ◌∷◌, ◌++◌, length, slice_index, ⊤}
 use Rattle.std.specs.List.{list_any}
 use Rattle.page_format.specs.Pages.{Entry}
 
@@ -34,6 +34,11 @@ HasNoRoom page (e ∷ es) = 16344 < used_by page + size_of e
 abbrev pub AreClosed : List (List Entry) → Type 0
 AreClosed [] = ⊤
 AreClosed (page ∷ pages) = HasNoRoom page (entries_on pages) × AreClosed pages
+
+-- the serials of entries stand in a row, from this one on
+abbrev pub AreInARow : ℕ → List Entry → Type 0
+AreInARow serial [] = ⊤
+AreInARow serial (e ∷ es) = (e.serial ≡ serial) × AreInARow (suc serial) es
 
 -- these entries are packed into these pages, one after another
 pub record IsPacking (es : List Entry) (pages : List (List Entry)) : Type 0 where

@@ -42,6 +42,6 @@ pub use packing::{pack, size_of};
 pub use places::Places;
 pub use root::Root;
 pub use roots::read_root;
-pub use settling::settle;
+pub use settling::{settle, stay_settled};
 pub use slots::Slots;
 pub use spelling::{put_pages, put_root, put_slots};

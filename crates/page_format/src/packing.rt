@@ -1,7 +1,7 @@
 // Entries are packed into pages.
-ghost use Rattle.std.specs.Prelude.{◌≡◌, ◌+◌, ◌/◌, ◌<◌, ◌≤◌, ◌++◌, ◌∷◌, [], length, slice_index_or, slice_range, IfOk, OnOk};
+ghost use Rattle.std.specs.Prelude.{◌≡◌, ◌+◌, ◌/◌, ◌<◌, ◌≤◌, ◌++◌, ◌∷◌, [], length, slice_index_or, slice_range, IfOk, IfSome, OnOk, Some};
 ghost use Rattle.page_format.specs.Objects.{entries_left, entry_left};
-ghost use Rattle.page_format.specs.Packing.{IsPacking, OnlyLastIsSmall, size_of, used_by};
+ghost use Rattle.page_format.specs.Packing.{AreInARow, IsPacking, OnlyLastIsSmall, size_of, used_by};
 ghost use Rattle.page_format.specs.Written.{AreStorable};
 ghost use Rattle.page_format.specs.inner.Packing.{AreFilledUpTo};
 
@@ -10,12 +10,14 @@ use crate::layout::{MOST_USED, RECORD};
 use pss_base::{NoMemory, Put};
 use std::alloc::Global;
 
-/// The page that is being filled: it has the entries from one change up to another one, and uses so many octets.
+/// The page that is being filled: it has the entries from one change up to another one, and uses so many octets. Where the
+/// serials of its entries stand in a row, the first one is kept.
 #[derive(Clone, Copy)]
 pub struct Filling {
     pub start: usize,
     pub end: usize,
     pub used: u32,
+    pub row: Option<u64>,
 }
 
 /// The record that a change leaves; no octets where it removes its object.
@@ -37,23 +39,37 @@ pub fn size_of(put: &Put) -> u32
     (RECORD + record_of(put).len()) as u32
 }
 
+// The first of some serials in a row, where one more stands behind them.
+#[inline(always)]
+fn row_with(row: Option<u64>, count: usize, serial: u64) -> Option<u64>
+    ensures { IfSome result (λ first. (row ≡ Some first) × (serial ≡ first + count)) }
+{
+    match row {
+        Some(first) if serial >= first && serial - first == count as u64 => Some(first),
+        _ => None,
+    }
+}
+
 // Closes the page that is being filled, and begins one with the entry that comes next, which takes so many octets.
 fn begin<'a>(
     pages: &mut Vec<Entries<'a>>,
     puts: &'a [Put],
     filling: Filling,
     size: u32,
+    serial: u64,
 ) -> Result<Filling, NoMemory>
     requires there { filling.end < length puts.now }
     requires begun { filling.start ≤ filling.end }
+    requires row { IfSome filling.row (λ first. AreInARow first (entries_left (slice_range puts.now filling.start filling.end))) }
     ensures closed { OnOk result (pages.new.items ≡ pages.old.items ++ entries_left (slice_range puts.now filling.start filling.end) ∷ []) }
-    ensures filling { IfOk result (λ new. new ≡ record { start = filling.end; end = filling.end + 1; used = size }) }
+    ensures filling { IfOk result (λ new. new ≡ record { start = filling.end; end = filling.end + 1; used = size; row = Some serial }) }
 {
-    pages.push(Entries::of(&puts[filling.start..filling.end]))?;
+    pages.push(Entries::of(&puts[filling.start..filling.end], filling.row))?;
     Ok(Filling {
         start: filling.end,
         end: filling.end + 1,
         used: size,
+        row: Some(serial),
     })
 }
 
@@ -74,12 +90,13 @@ fn add<'a>(
 {
     let size = size_of(put);
     if filling.used + size > MOST_USED {
-        return begin(pages, puts, filling, size);
+        return begin(pages, puts, filling, size, put.serial);
     }
     Ok(Filling {
         start: filling.start,
         end: filling.end + 1,
         used: filling.used + size,
+        row: row_with(filling.row, filling.end - filling.start, put.serial),
     })
 }
 
@@ -96,8 +113,16 @@ fn finish<'a>(
     if filling.used == 0 {
         return Ok(pages);
     }
-    pages.push(Entries::of(&puts[filling.start..]))?;
+    pages.push(Entries::of(&puts[filling.start..], filling.row))?;
     Ok(pages)
+}
+
+// The serial of the first change, where there is one.
+fn first_serial(puts: &[Put]) -> Option<u64> {
+    match puts.first() {
+        Some(put) => Some(put.serial),
+        None => None,
+    }
 }
 
 /// Packs the entries that changes leave into pages.
@@ -112,6 +137,7 @@ pub fn pack(alloc: Global, puts: &[Put]) -> Result<Vec<Entries<'_>>, NoMemory>
         start: 0,
         end: 0,
         used: 0,
+        row: first_serial(puts),
     };
     for put in puts {
         filling = match add(&mut pages, puts, filling, put) {

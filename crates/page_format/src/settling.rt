@@ -1,5 +1,5 @@
 // What changes leave of objects, by rising serial.
-ghost use Rattle.std.specs.Prelude.{ℕ, ◌≡◌, ◌<◌, ◌≤◌, List, [], ◌∷◌, ◌++◌, All, IfOk, IsTrue, OnOk, Some};
+ghost use Rattle.std.specs.Prelude.{ℕ, ◌≡◌, ◌+◌, ◌<◌, ◌≤◌, List, [], ◌∷◌, ◌++◌, All, IfOk, IsTrue, OnOk, Some};
 ghost use Rattle.std.specs.FinMap.{empty, entries};
 ghost use Rattle.pss_base.specs.declared.put.Put.{Put as Change};
 ghost use Rattle.page_format.specs.Objects.{HasRecord, IsRightPut, entries_left, entries_of, entry_left, left_by, over};
@@ -169,6 +169,15 @@ fn are_settled(changes: &[Put]) -> bool
         last = put.serial;
     }
     true
+}
+
+/// Whether changes that are settled as they stand, the last of which has this serial, are so with one more behind them.
+#[inline(always)]
+pub fn stay_settled(are: bool, last: u64, put: &Put) -> bool
+    requires { IsRightPut put.now }
+    ensures { (puts : List Change) → (IsTrue are → AreSettled puts (last + 1) puts) → IsTrue result → AreSettled (puts ++ put.now ∷ []) (put.now.serial + 1) (puts ++ put.now ∷ []) }
+{
+    are && is_next(put, last)
 }
 
 // Sorts and settles changes.

@@ -25,3 +25,4 @@ pub mod Elsewhere
 pub mod JournalThere
 pub mod LostPages
 pub mod SomePages
+pub mod InRows

@@ -6,3 +6,4 @@ pub mod Gates
 pub mod Laying
 pub mod Switching
 pub mod Lost
+pub mod Rows

@@ -12,7 +12,7 @@ ghost use Rattle.page_format.specs.Roots.{IsWithinLimits};
 ghost use Rattle.page_format.specs.Rows.{AreRows};
 
 use crate::slot_table::SlotTable;
-use page_format::{Gathered, PageFault, Root, Slots, gather};
+use page_format::{Gathered, PageFault, Root, Slots, gather, stay_settled};
 use pss_base::{Bytes, NoMemory, Put, Puts};
 use pss_disk::Station;
 use std::alloc::Global;
@@ -33,6 +33,9 @@ pub struct Pages {
     small: Option<u32>,
     noted: Vec<Put>,
     room: usize,
+    // Whether the changes noted are settled as they stand, and the serial of the last one, or 0.
+    settled: bool,
+    last: u64,
 }
 
 impl Model for Pages {
@@ -40,9 +43,10 @@ impl Model for Pages {
     ghost use Rattle.std.specs.Coded.{codes, coded_ℕ};
     ghost use Rattle.std.specs.Ordering.{nat_cmp};
     ghost use Rattle.std.specs.FinMap as finite;
-    ghost use Rattle.std.specs.Prelude.{All};
+    ghost use Rattle.std.specs.Prelude.{All, IsTrue};
     ghost use Rattle.page_store.specs.Kept.{AreWithinLimits, Kept};
     ghost use Rattle.page_format.specs.Objects.{IsRightPut};
+    ghost use Rattle.page_format.specs.inner.Settling.{AreSettled};
 
     ghost Value = { Kept };
 
@@ -50,7 +54,7 @@ impl Model for Pages {
 
     ghost view = { λ p. record { area = p.area; epoch = p.epoch; shape = p.shape; slots = p.slots; places = finite.from_entries p.places.entries; small = p.small; noted = p.noted.items; room = p.room } };
 
-    ghost invariant = { λ p. (length p.noted.items + p.room ≤ vec_capacity p.noted) × All IsRightPut p.noted.items × AreWithinLimits p.area p.shape p.slots };
+    ghost invariant = { λ p. (length p.noted.items + p.room ≤ vec_capacity p.noted) × All IsRightPut p.noted.items × AreWithinLimits p.area p.shape p.slots × (IsTrue p.settled → AreSettled p.noted.items (p.last + 1) p.noted.items) };
 }
 
 /// The pages of a root, and the objects in them.
@@ -86,6 +90,8 @@ fn pages_of(alloc: Global, root: &Root, gathered: Gathered) -> Result<Fetched, N
             small: gathered.small,
             noted: Vec::new(alloc),
             room: 0,
+            settled: true,
+            last: 0,
         },
         rows: gathered.rows,
     })
@@ -132,6 +138,8 @@ impl Pages {
         requires record_ { IsRightPut put }
         ensures { self.new ≡ record self.old { noted = self.old.noted ++ put ∷ []; room = self.old.room - 1 } }
     {
+        self.settled = stay_settled(self.settled, self.last, &put);
+        self.last = put.serial;
         self.noted.push_reserved(put);
         self.room -= 1;
     }

@@ -96,9 +96,10 @@ fn part_marked(alloc: Global, slots: &[u32], marks: &[bool]) -> Result<Parted, N
     ensures repacked { IfOk result (λ parted. parted.repacked ≡ filter (λ s. slice_index_or marks.now s false) slots.now) }
     ensures kept { IfOk result (λ parted. parted.kept ≡ filter (λ s. not (slice_index_or marks.now s false)) slots.now) }
 {
+    let kept = Slots::with_room(alloc, slots.len())?;
     let mut parted = Parted {
         repacked: Slots::new(alloc),
-        kept: Slots::new(alloc),
+        kept,
     };
     for slot in slots {
         let marked = marks[*slot as usize];

@@ -1,8 +1,9 @@
 // New pages get their slots, and objects their places.
-ghost use Rattle.std.specs.Prelude.{ℕ, ◌≡◌, ◌≤◌, cond, Some, length, map, IfOk, OnOk};
+ghost use Rattle.std.specs.Prelude.{ℕ, ◌≡◌, ◌-◌, ◌≤◌, cond, Some, length, map, IfOk, OnOk};
 ghost use Rattle.page_format.specs.Objects.{entries_left};
 ghost use Rattle.page_store.specs.Placed.{is_object, placed, slot_under};
 ghost use Rattle.page_store.specs.Switch.{slots_of};
+ghost use Rattle.page_store.specs.inner.Rows.{is_in_row};
 
 use crate::slot_table::SlotTable;
 use page_format::{Entries, NewPage};
@@ -15,7 +16,7 @@ pub fn place_pages(places: &mut SlotTable, pages: &[NewPage]) -> Result<(), NoMe
 {
     places.reserve(count_of(pages), last_serial(pages))?;
     for page in pages {
-        match place_entries(places, page.slot, page.entries.as_slice()) {
+        match place_page(places, page.slot, &page.entries) {
             Ok(()) => {}
             Err(stop) => return Err(stop),
         }
@@ -56,6 +57,30 @@ fn place_entries(places: &mut SlotTable, slot: u32, puts: &[Put]) -> Result<(), 
         places.put(put.serial, slot)?;
     }
     Ok(())
+}
+
+// Puts the objects with serials from a first one up to another one into the page of a slot.
+fn place_row(places: &mut SlotTable, slot: u32, first: u64, end: u64) -> Result<(), NoMemory>
+    ensures { OnOk result ((q : ℕ) → slot_under q places.new.entries ≡ cond (is_in_row first (end - first) q) (Some slot) (slot_under q places.old.entries)) }
+{
+    for serial in first..end {
+        places.put(serial, slot)?;
+    }
+    Ok(())
+}
+
+// Puts the objects of a page where it is. Serials in a row are not looked up.
+fn place_page(places: &mut SlotTable, slot: u32, entries: &Entries) -> Result<(), NoMemory>
+    ensures { OnOk result ((q : ℕ) → slot_under q places.new.entries ≡ cond (is_object q entries.now) (Some slot) (slot_under q places.old.entries)) }
+{
+    let puts = entries.as_slice();
+    let Some(first) = entries.row() else {
+        return place_entries(places, slot, puts);
+    };
+    let Some(end) = first.checked_add(puts.len() as u64) else {
+        return place_entries(places, slot, puts);
+    };
+    place_row(places, slot, first, end)
 }
 
 /// Gives pages their slots.

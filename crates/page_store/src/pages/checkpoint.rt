@@ -57,6 +57,7 @@ impl Pages {
         match switch_roots(alloc, w, &plan.root, &plan.pages) {
             Ok(()) => {
                 self.adopt(plan);
+                self.keep_list(puts);
                 Ok(())
             }
             Err(stop) => Err(stop),

@@ -1,5 +1,5 @@
 // What a checkpoint writes is laid out.
-ghost use Rattle.std.specs.Prelude.{ℕ, ◌≡◌, ◌+◌, ◌-◌, ◌%◌, ◌^◌, ◌<◌, ◌≤◌, ◌++◌, [], cond, false, not, None, List, length, map, slice_index, All, Err, IfOk, IfSome, OnOk, MatchOption};
+ghost use Rattle.std.specs.Prelude.{ℕ, ◌≡◌, ◌+◌, ◌-◌, ◌%◌, ◌^◌, ◌<◌, ◌≤◌, ◌++◌, [], cond, false, not, None, List, length, map, slice_index, All, Err, IfOk, IfSome, IsTrue, OnOk, MatchOption};
 ghost use Rattle.std.specs.FinMap as finite;
 ghost use Rattle.pss_base.specs.Causes.{HasCauseIf};
 ghost use Rattle.pss_disk.specs.Reading.{OnlyReads};
@@ -11,6 +11,7 @@ ghost use Rattle.page_store.specs.Placed.{is_noted, placed};
 ghost use Rattle.page_format.specs.Roots.{IsWithinLimits};
 ghost use Rattle.page_store.specs.Switch.{Old, slots_of};
 ghost use Rattle.page_format.specs.Written.{AreStorable, AreWritable};
+ghost use Rattle.page_format.specs.inner.Settling.{AreSettled};
 ghost use Rattle.page_store.specs.declared.stop.PlanStop.TheVariants.{Lost as AreLost};
 ghost use Rattle.page_store.specs.inner.Lost.{is_plan_disk_fault};
 ghost use Rattle.page_store.specs.inner.Planned.{IsNextRoot, IsPlan, IsPlanned};
@@ -19,7 +20,7 @@ ghost use Rattle.page_store.specs.inner.Repacked.{AreLeft, AreTaken, IsRepacked,
 use crate::pages::Pages;
 use crate::parting::{Parted, part_slots};
 use crate::placing::{new_pages, place_pages};
-use crate::repacking::reread_with;
+use crate::repacking::{Noted, reread_with};
 use crate::small::small_of;
 use crate::stop::PlanStop;
 use page_format::layout::MOST_PAGES;
@@ -27,6 +28,9 @@ use page_format::{Entries, NewPage, Root, Slots, free_slots, pack};
 use pss_base::{NoMemory, Put};
 use pss_disk::Station;
 use std::mem;
+
+// The memory of a list with room for more changes than this is given back.
+const MOST_KEPT: usize = 262144;
 
 /// What a checkpoint writes: the next root and its new pages. And that of the pages with little in use, where there is one.
 #[derive(Drop)]
@@ -45,14 +49,19 @@ pub struct Repacked {
 
 impl Pages {
     /// Takes the changes that are noted.
-    pub fn take_noted(&mut self) -> Vec<Put>
-        ensures noted { result.items ≡ self.old.noted }
-        ensures right { All IsRightPut result.items }
+    pub fn take_noted(&mut self) -> Noted
+        ensures noted { result.puts.items ≡ self.old.noted }
+        ensures right { All IsRightPut result.puts.items }
+        ensures settled { IsTrue result.settled → (next : ℕ) × AreSettled result.puts.items next result.puts.items }
         ensures pages { self.new ≡ record self.old { noted = []; room = 0 } }
     {
         let alloc = *self.noted.allocator();
         self.room = 0;
-        mem::replace(&mut self.noted, Vec::new(alloc))
+        self.last = 0;
+        Noted {
+            settled: mem::replace(&mut self.settled, true),
+            puts: mem::replace(&mut self.noted, Vec::new(alloc)),
+        }
     }
 
     /// Parts the slots of the root by the changes noted, and takes the objects of these away.
@@ -178,7 +187,7 @@ impl Pages {
     {
         let alloc = *self.noted.allocator();
         let noted = self.take_noted();
-        let parted = match self.part(&noted) {
+        let parted = match self.part(&noted.puts) {
             Ok(parted) => parted,
             Err(_) => return Err(PlanStop::NoMemory),
         };
@@ -219,6 +228,19 @@ impl Pages {
             Ok(plan) => Ok(plan),
             Err(stop) => Err(stop),
         }
+    }
+
+    /// Keeps the memory of a list of changes for those that are noted next, where it is not overlarge.
+    pub fn keep_list(&mut self, mut puts: Vec<Put>)
+        requires noted { self.old.noted ≡ [] }
+        requires room { self.old.room ≡ 0 }
+        ensures { self.new ≡ self.old }
+    {
+        if puts.capacity() > MOST_KEPT {
+            return;
+        }
+        puts.clear();
+        self.noted = puts;
     }
 
     /// Keeps the root that was planned, once it is the current one.

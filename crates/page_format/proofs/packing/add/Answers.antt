@@ -11,4 +11,4 @@ returns-then-filling-size-gt-MOST_USED-clause-filled c =
     (filled_begun c.args.puts.now c.args.pages.now.items c.begin.new.pages.items c.args.filling c.args.put.now c.size_of-size.result c.size_of-size.ensures (omega (arith, c.size_of-size.ensures, c.requires.short)) closed c.requires.there c.requires.next c.if-filling-size-gt-MOST_USED.true c.requires.so_far))
 
 pub returns-clause-filled : goal.returns-clause-filled
-returns-clause-filled c = filled_put c.args.puts.now _ c.args.filling c.args.put.now c.size_of-size.result c.size_of-size.ensures c.requires.there c.requires.next (omega (arith, c.if-filling-size-gt-MOST_USED.false)) c.requires.so_far
+returns-clause-filled c = filled_put c.args.puts.now _ c.args.filling c.args.put.now c.size_of-size.result c.row_with.result c.row_with.ensures c.size_of-size.ensures c.requires.there c.requires.next (omega (arith, c.if-filling-size-gt-MOST_USED.false)) c.requires.so_far

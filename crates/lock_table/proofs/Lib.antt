@@ -17,3 +17,4 @@ pub mod Releasing
 pub mod Counting
 pub mod Telling
 pub mod Owning
+pub mod Alone

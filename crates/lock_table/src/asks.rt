@@ -1,9 +1,9 @@
 // What is held and who holds up whom, by walks of the rows of needs alone.
-ghost use Rattle.std.specs.Prelude.{◌≡◌, ◌∷◌, []};
+ghost use Rattle.std.specs.Prelude.{◌≡◌, ◌∷◌, [], true};
 ghost use Rattle.std.specs.FinSet as set;
 ghost use Rattle.lock_table.specs.Locks.{held_by, blocker};
 ghost use Rattle.lock_table.specs.inner.Nodes.{held_in};
-ghost use Rattle.lock_table.specs.inner.Links.{IsLinked, place_at};
+ghost use Rattle.lock_table.specs.inner.Links.{IsLinked, IsAlone, place_at};
 
 use crate::links::{Links, Place};
 use crate::tables::find;
@@ -40,11 +40,25 @@ fn blocker_of_one(links: &Links, owner: OwnerNo, need: &Need) -> Option<OwnerNo>
     }
 }
 
-/// The least other owner with a lock that clashes with one of the needs.
+// Whether no other owner has a column.
+fn is_alone(links: &Links, owner: OwnerNo) -> bool
+    ensures { result ≡ true → IsAlone links.now owner }
+{
+    match links.columns.get_index(0) {
+        Some((first, _)) => *first == owner && links.columns.len() == 1,
+        None => true,
+    }
+}
+
+/// The least other owner with a lock that clashes with one of the needs. An owner that is alone is held up by nobody, which is
+/// known without a look at the needs.
 pub fn blocker_of(links: &Links, owner: OwnerNo, needs: &[Need]) -> Option<OwnerNo>
     requires { IsLinked links.now }
     ensures { result ≡ blocker (held_in links.now.pool) owner needs.now }
 {
+    if is_alone(links, owner) {
+        return None;
+    }
     let mut least = None;
     for need in needs {
         least = lesser(least, blocker_of_one(links, owner, need));

@@ -36,12 +36,16 @@ fn append_number(out: &mut Bytes, number: u32) -> Result<(), NoMemory>
     append_part(out, Buffer::new().format(number).as_bytes())
 }
 
+// The most bytes behind a name: a level and two numbers, each behind a colon.
+const BEHIND_NAME: usize = 37;
+
 /// What the history tells of an owner's commit: its name, its level, how many data commands it has done, and how many
 /// objects it changed.
 pub fn commit_text(called: &Called, changed: u32) -> Result<Bytes, NoMemory>
     ensures { (changes : List Change) → length changes ≡ changed → IfOk result (λ text. text ≡ machine.commit_text (title_of called.now) called.now.level changes) }
 {
     let mut text = called.name.copy()?;
+    text.reserve(BEHIND_NAME)?;
     append_part(&mut text, level_name(called.level))?;
     append_number(&mut text, called.commands)?;
     append_number(&mut text, changed)?;

@@ -4,7 +4,7 @@ ghost use Rattle.std.specs.List.{AllByRecursion, flat_map};
 ghost use Rattle.pss_recovery.specs.Bodies.{HasLength, IsSpellable, Spells, change_head, change_octets, record_octets};
 
 use crate::body::Body;
-use crate::layout::{LENGTH, RECORD, SERIAL};
+use crate::layout::{CHANGES, LENGTH, RECORD, SERIAL};
 use pss_base::{Bytes, NoMemory, Put};
 use std::alloc::Global;
 
@@ -53,14 +53,17 @@ fn put_changes(octets: &mut Bytes, puts: &[Put]) -> Result<(), NoMemory>
     Ok(())
 }
 
+// What the record of a change takes, as a rule.
+const USUAL_RECORD: usize = 16;
+
 /// The octets of a body.
 pub fn encode_body(alloc: Global, body: &Body) -> Result<Bytes, NoMemory>
     requires few { length body.now.puts < 2 ^ 32 }
     requires each { AllByRecursion HasLength body.now.puts }
     ensures { IfOk result (λ octets. Spells octets body.now) }
 {
-    let mut octets = Bytes::new(alloc);
     let puts = body.puts.as_slice();
+    let mut octets = Bytes::with_room(alloc, CHANGES + (RECORD + USUAL_RECORD) * puts.len())?;
     octets.extend(&body.next.to_be_bytes())?;
     octets.extend(&(puts.len() as u32).to_be_bytes())?;
     put_changes(&mut octets, puts)?;

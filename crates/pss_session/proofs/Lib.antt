@@ -6,3 +6,4 @@ pub mod Leaving
 pub mod Naming
 pub mod Opened
 pub mod Having
+pub mod Finding

@@ -1,3 +1,4 @@
 pub mod Codes
 pub mod Meaning
+pub mod Finding
 pub mod inner

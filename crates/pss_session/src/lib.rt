@@ -15,5 +15,5 @@ mod register;
 mod rows;
 mod sessions;
 
-pub use register::Standing;
+pub use register::{Found, Standing};
 pub use sessions::Sessions;

@@ -1,8 +1,9 @@
 // What is stored of sessions.
+ghost use Rattle.std.specs.Prelude.{◌≡◌};
 
 use crate::names::Names;
 use crate::rows::Rows;
-use pss_base::Bytes;
+use pss_base::{Bytes, SessionNo};
 use pss_machine::{Access, Association, Kind};
 
 /// A session.
@@ -20,6 +21,26 @@ pub struct Standing {
     pub kind: Kind,
     pub access: Access,
     pub association: Association,
+}
+
+/// A session that was found by its name.
+#[derive(Clone, Copy, Drop)]
+pub struct Found {
+    pub number: SessionNo,
+    pub standing: Standing,
+}
+
+impl SessionRecord {
+    /// What the session is, and how it is associated.
+    pub fn standing(&self) -> Standing
+        ensures { (result.kind ≡ self.now.kind) × (result.access ≡ self.now.access) × (result.association ≡ self.now.association) }
+    {
+        Standing {
+            kind: self.kind,
+            access: self.access,
+            association: self.association,
+        }
+    }
 }
 
 /// The sessions by number, in the order in which they were opened, their numbers by name, and the last number that was

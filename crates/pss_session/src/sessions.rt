@@ -1,20 +1,22 @@
 // Sessions, as callers see them.
-ghost use Rattle.std.specs.Prelude.{◌≡◌, ◌+◌, ◌*◌, ◌^◌, ◌<◌, ◌≤◌, None, IsSome, IsSomeAnd, IfOk, OnOk, OnErr, IsTrue};
+ghost use Rattle.std.specs.Prelude.{◌≡◌, ◌+◌, ◌*◌, ◌^◌, ◌<◌, ◌≤◌, None, IsSome, IsSomeAnd, IfSome, MatchOption, IfOk, OnOk, OnErr, IsTrue};
 ghost use Rattle.std.specs.FinMap as map;
 ghost use Rattle.incarnations.specs.Meaning.{opened as with_copies, Leaves, loosened, freed, of_session, in_view, both, length_of};
 ghost use Rattle.pss_machine.specs.declared.session.Association.TheVariants as association;
 ghost use Rattle.pss_machine.specs.declared.session.View.TheVariants.{Kept};
 ghost use Rattle.pss_machine.specs.Sessions.{is_basic, active_in, open_in};
+ghost use Rattle.pss_session.specs.Finding.{IsFound};
 ghost use Rattle.pss_session.specs.Meaning.{no_sessions, session_at, number_named, first_open, opened, closed, associated, finished, MayStart, HaveSessions, is_in, belongs_to, of_sessions, on_unchanged};
 
 use crate::coming::{close, open, prepare};
 use crate::detaching::{detach_all, detach_pid};
-use crate::register::{Register, SessionRecord, Standing};
+use crate::register::{Found, Register, SessionRecord, Standing};
 use crate::{names, rows};
 use incarnations::Incarnations;
 use pss_base::{Bytes, NoMemory, OwnerNo, Pid, SessionNo, Steps};
 use pss_machine::{Access, Association, Kind, View};
 use std::alloc::Global;
+use std::cell::Cell;
 use std::marker::Model;
 use std::sync::ledger::Ledger;
 
@@ -28,6 +30,9 @@ use std::sync::ledger::Ledger;
 #[derive(Drop)]
 pub struct Sessions {
     register: Register,
+    // The place of the session found last by name, where the next one is looked for first: a script has many lines for one session.
+    // It may be any number.
+    last: Cell<usize>,
 }
 
 impl Model for Sessions {
@@ -55,6 +60,7 @@ impl Sessions {
                 names: names::empty(alloc),
                 last: 0,
             },
+            last: Cell::new(0),
         }
     }
 
@@ -95,6 +101,44 @@ impl Sessions {
         ensures { result ≡ number_named self.now name.now }
     {
         names::read(&self.register.names, name)
+    }
+
+    // The session at a place of the rows, where that of this name stands there.
+    fn found_there(&self, place: usize, name: &[u8]) -> Option<Found>
+        ensures { IfSome result (IsFound self.now name.now) }
+    {
+        match self.register.rows.get_index(place) {
+            Some((number, record)) if record.name.as_slice() == name => Some(Found {
+                number: SessionNo(*number),
+                standing: record.standing(),
+            }),
+            _ => None,
+        }
+    }
+
+    // The session of a name by its hash. The next one is looked for at its place.
+    fn look_up(&self, name: &[u8]) -> Option<Found>
+        ensures { MatchOption result (number_named self.now name.now ≡ None) (IsFound self.now name.now) }
+    {
+        let number = self.find(name)?;
+        if let Some(place) = self.register.rows.get_index_of(&number.0) {
+            self.last.set(place);
+        }
+        Some(Found {
+            number,
+            standing: self.standing(number),
+        })
+    }
+
+    /// The session of a name, and its standing: `find` and `standing` by one look-up, and by none where it was the session found last.
+    /// None exactly where no session has the name.
+    pub fn find_standing(&self, name: &[u8]) -> Option<Found>
+        ensures { MatchOption result (number_named self.now name.now ≡ None) (IsFound self.now name.now) }
+    {
+        match self.found_there(self.last.get(), name) {
+            Some(found) => Some(found),
+            None => self.look_up(name),
+        }
     }
 
     /// Removes a session with its entries, and its name is free. Takes no memory, and at most two steps for each entry of
@@ -158,12 +202,7 @@ impl Sessions {
         requires { IsSome (session_at self.now session) }
         ensures { IsSomeAnd (session_at self.now session) (λ x. (result.kind ≡ x.kind) × (result.access ≡ x.access) × (result.association ≡ x.association)) }
     {
-        let record = self.record(session);
-        Standing {
-            kind: record.kind,
-            access: record.access,
-            association: record.association,
-        }
+        self.record(session).standing()
     }
 
     /// The name of a session.

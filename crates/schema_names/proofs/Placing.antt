@@ -72,9 +72,6 @@ module _ (S : Schema) (h : HomeNo) (word : List ℕ) where
   pub no_key : home_at S h ≡ None → key_named S h word ≡ None
   no_key e = no_home (home_at S h) e (λ o. find (λ k. given (slice_get S.keys k.0) false (λ key. bytes_eq word key.name)) (given o [] (λ home. home.keys)) ≡ None) refl
 
-  pub no_factory : home_at S h ≡ None → factory_named S h word ≡ None
-  no_factory e = no_home (home_at S h) e (λ o. given o None (λ home. find (λ factory. bytes_eq word factory.name) home.factories) ≡ None) refl
-
   module _ (names : HomeNames) where
     pub the_member : AreNamesAt S h names → value_at names.members.entries word ≡ member_named S h word
     the_member = by (home_at S h)
@@ -89,18 +86,3 @@ module _ (S : Schema) (h : HomeNo) (word : List ℕ) where
         by : (o : Option Home) → IsSomeAnd o (λ home. AreNamesOf S.keys home names) → value_at names.keys.entries word ≡ find (λ k. given (slice_get S.keys k.0) false (λ key. bytes_eq word key.name)) (given o [] (λ home. home.keys))
         by None are = absurd are
         by (Some home) are = are.keys_ word
-
-    -- the factory behind its name
-    pub the_factory : AreNamesAt S h names → (place : Option ℕ) → place ≡ value_at names.factories.entries word → factory_named S h word ≡ option_and_then (λ i. option_and_then (λ (home : Home). slice_get home.factories i) (home_at S h)) place
-    the_factory are place e = by (home_at S h) are
-      where
-        found : (p : Factory → Bool) (fs : List Factory) → find p fs ≡ option_and_then (λ i. slice_get fs i) (position p fs)
-        found p fs = find_at p fs ∙ there (position_or_len p fs) (nat_lt (position_or_len p fs) (length fs)) (λ e. ltb-false (position_or_len p fs) (length fs) e)
-          where
-            there : (n : ℕ) (b : Bool) → (b ≡ false → length fs ≤ n) → slice_get fs n ≡ option_and_then (λ i. slice_get fs i) (cond b (Some n) None)
-            there n true past = refl
-            there n false past = slice_get_past fs n (past refl)
-
-        by : (o : Option Home) → IsSomeAnd o (λ home. AreNamesOf S.keys home names) → given o None (λ home. find (λ factory. bytes_eq word factory.name) home.factories) ≡ option_and_then (λ i. option_and_then (λ (home : Home). slice_get home.factories i) o) place
-        by None are = absurd are
-        by (Some home) are = found (λ factory. bytes_eq word factory.name) home.factories ∙ ap (option_and_then (λ i. slice_get home.factories i)) (sym (e ∙ are.factories word))

@@ -7,7 +7,6 @@ use Rattle.std.specs.declared.vec.Vec.{Vec}
 use Rattle.type_layout.specs.declared.home.HomeNo.{HomeNo}
 use Rattle.type_layout.specs.declared.key.Key.{Key}
 use Rattle.type_layout.specs.declared.key.KeyNo.{KeyNo}
-use Rattle.type_layout.specs.declared.schema.Factory.{Factory}
 use Rattle.type_layout.specs.declared.schema.Home.{Home}
 use Rattle.type_layout.specs.declared.schema.Provided.{Provided}
 use Rattle.type_layout.specs.Schemas.{given}
@@ -25,10 +24,6 @@ home_provided provided word = option_map (λ p. p.home) (find (λ p. bytes_eq wo
 -- the place of the member whose name is the word
 abbrev pub member_called : List PlainMember → List ℕ → Option ℕ
 member_called members word = position (λ member. bytes_eq word member.name) members
-
--- the place of the factory whose name is the word
-abbrev pub factory_called : List Factory → List ℕ → Option ℕ
-factory_called factories word = position (λ factory. bytes_eq word factory.name) factories
 
 -- the word is the name of the key with this number
 abbrev pub is_key_called : List Key → List ℕ → KeyNo → Bool

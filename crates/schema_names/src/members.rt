@@ -2,12 +2,12 @@
 ghost use Rattle.std.specs.Prelude.{◌≤◌, IfOk, OnOk, length, map};
 ghost use Rattle.type_layout.specs.Members.{plain_member};
 ghost use Rattle.schema_names.specs.Tables.{Finds};
-ghost use Rattle.schema_names.specs.Found.{member_called, factory_called, key_called, IsKeyEntered};
+ghost use Rattle.schema_names.specs.Found.{member_called, key_called, IsKeyEntered};
 
 use crate::table::{NameTable, empty, enter};
 use pss_base::NoMemory;
 use std::alloc::Global;
-use type_layout::{Factory, Key, KeyNo, Member};
+use type_layout::{Key, KeyNo, Member};
 
 /// The members of a home by their names, as places in its layout.
 pub fn members_by_name(alloc: Global, members: &[Member]) -> Result<NameTable<u32>, NoMemory>
@@ -17,17 +17,6 @@ pub fn members_by_name(alloc: Global, members: &[Member]) -> Result<NameTable<u3
     let mut table = empty(alloc);
     for i in 0..members.len() {
         enter(alloc, &mut table, members[i].name.as_slice(), i as u32)?;
-    }
-    Ok(table)
-}
-
-/// The factories of a home by their names, as places in its list.
-pub fn factories_by_name(alloc: Global, factories: &[Factory]) -> Result<NameTable<usize>, NoMemory>
-    ensures { IfOk result (λ table. Finds table.entries (factory_called factories.now)) }
-{
-    let mut table = empty(alloc);
-    for i in 0..factories.len() {
-        enter(alloc, &mut table, factories[i].name.as_slice(), i)?;
     }
     Ok(table)
 }

@@ -6,20 +6,19 @@ ghost use Rattle.type_layout.specs.Sound.{IsSoundSchema};
 ghost use Rattle.pss_machine.specs.Names.{is_name_of, home_named, key_named, factory_named, member_named};
 ghost use Rattle.schema_names.specs.inner.Homes.{AreNamesOf, AreNamesOfAll, AreNamesAt, lesser};
 
-use crate::members::{factories_by_name, keys_by_name, members_by_name};
+use crate::members::{keys_by_name, members_by_name};
 use crate::roots::{homes_by_name, provided_by_name};
 use crate::table::{NameTable, read};
 use pss_base::NoMemory;
 use pss_catalog::home_at;
 use std::alloc::Global;
 use std::marker::Model;
-use type_layout::{Factory, Home, HomeNo, Key, KeyNo, Schema};
+use type_layout::{Home, HomeNo, Indexes, Key, KeyNo, Schema};
 
 // The names of what one home has.
 #[derive(Drop)]
 struct HomeNames {
     members: NameTable<u32>,
-    factories: NameTable<usize>,
     keys: NameTable<KeyNo>,
 }
 
@@ -54,13 +53,8 @@ fn names_of(alloc: Global, keys: &[Key], home: &Home) -> Result<HomeNames, NoMem
     ensures { IfOk result (AreNamesOf keys.now home.now) }
 {
     let members = members_by_name(alloc, home.layout.members.as_slice())?;
-    let factories = factories_by_name(alloc, home.factories.as_slice())?;
     let keys = keys_by_name(alloc, keys, home.keys.as_slice())?;
-    Ok(HomeNames {
-        members,
-        factories,
-        keys,
-    })
+    Ok(HomeNames { members, keys })
 }
 
 // The names of what each home has.
@@ -78,8 +72,8 @@ fn names_of_all(alloc: Global, schema: &Schema) -> Result<Vec<HomeNames>, NoMemo
 }
 
 impl NamedSchema {
-    /// The schema, with tables of its names. They take memory in the lengths of the names, those that a home has from others
-    /// once for each home.
+    /// The schema, with tables of its names. They take memory in the lengths of the names, those of members and keys that a
+    /// home has from others once for each home. Factories are found by the tables that they bring.
     ///
     /// `NoMemory`: the schema is gone with them.
     pub fn new(alloc: Global, schema: Schema) -> Result<NamedSchema, NoMemory>
@@ -144,14 +138,20 @@ impl NamedSchema {
         read(&names.members, word)
     }
 
-    /// A home's factory of a name. None: the home is not there, or has no such factory.
-    pub fn factory(&self, home: HomeNo, word: &[u8]) -> Option<&Factory>
-        ensures { option_map (λ factory. factory.now) result ≡ factory_named self.now home word.now }
+    /// The numbers of the members that the caller of a home's factory gives. None: the home is not there, or has no factory of
+    /// this name.
+    pub fn factory_members(
+        &self,
+        alloc: Global,
+        home: HomeNo,
+        word: &[u8],
+    ) -> Result<Option<Indexes>, NoMemory>
+        ensures { IfOk result (λ found. found ≡ option_map (λ factory. factory.members) (factory_named self.now home word.now)) }
     {
-        let names = self.names_at(home)?;
-        let place = read(&names.factories, word)?;
-        let home = home_at(&self.schema, home)?;
-        home.factories.as_slice().get(place)
+        match home_at(&self.schema, home) {
+            Some(home) => home.factories.members_of(alloc, word),
+            None => Ok(None),
+        }
     }
 
     /// A home's key of a name, its own or one that it has from others. None: the home is not there, or has no such key.

@@ -1,5 +1,5 @@
 // What stands behind names.
-ghost use Rattle.std.specs.Prelude.{◌≡◌, [], OnOk, IfOk};
+ghost use Rattle.std.specs.Prelude.{◌≡◌, [], OnOk, IfOk, IfSome};
 ghost use Rattle.schema_names.specs.Tables.{value_at, IsEntered};
 
 use indexmap::IndexMap;
@@ -17,11 +17,39 @@ pub fn empty<T: Copy + Drop>(alloc: Global) -> NameTable<T>
     IndexMap::with_hasher(alloc, BuildHasherDefault::new())
 }
 
+/// So many of the first names are compared before a name is hashed: most homes have few members.
+const FEW: usize = 4;
+
+// What stands at a place of the table, where the name stands there.
+fn value_there<T: Copy + Drop>(table: &NameTable<T>, place: usize, name: &[u8]) -> Option<T>
+    ensures { IfSome result (λ value. value_at table.now.entries name.now ≡ Some value) }
+{
+    match table.get_index(place) {
+        Some((there, value)) if there.as_slice() == name => Some(*value),
+        _ => None,
+    }
+}
+
+// What stands behind a name that is one of the first.
+fn read_first<T: Copy + Drop>(table: &NameTable<T>, name: &[u8]) -> Option<T>
+    ensures { IfSome result (λ value. value_at table.now.entries name.now ≡ Some value) }
+{
+    for place in 0..FEW {
+        if let Some(value) = value_there(table, place, name) {
+            return Some(value);
+        }
+    }
+    None
+}
+
 /// What stands behind a name, if something does.
 pub fn read<T: Copy + Drop>(table: &NameTable<T>, name: &[u8]) -> Option<T>
     ensures { result ≡ value_at table.now.entries name.now }
 {
-    table.get(name).copied()
+    match read_first(table, name) {
+        Some(value) => Some(value),
+        None => table.get(name).copied(),
+    }
 }
 
 /// Puts a thing behind a name, unless one is there.

@@ -41,7 +41,7 @@ starting_bases [] = refl
 starting_bases (x ∷ xs) = ap (λ bs. base_number x.base ∷ bs) (starting_bases xs)
 
 pub nothing_kept :
-    (S : Schema) → IsSoundSchema S → (homes : Parts) → homes.families ≡ bases_of S → homes.rows.entries ≡ [] → homes.total ≡ 0 → homes.objects ≡ 0
+    (S : Schema) → IsSoundSchema S → (homes : Parts) → homes.families ≡ bases_of S → homes.rows.chunks.entries ≡ [] → homes.total ≡ 0 → homes.objects ≡ 0
     → ((h s : ℕ) → is_held_in homes.extents.items h s ≡ false) → length homes.extents.items ≡ length S.homes
     → homes.counts.items ≡ map (λ home. record { base = base_number home.base; objects = 0 }) S.homes
     → ((key : ℕ) (bytes : List ℕ) → found_at homes.keys.items key bytes ≡ None) → length homes.keys.items ≡ length S.keys → IsKept S empty homes

@@ -1,5 +1,6 @@
 -- The objects and the reservations that the rows of serials stand for.
-use Rattle.std.specs.Prelude.{ℕ, ◌≡◌, ◌/◌, ◌%◌, List, Option, None, Bool, false, cond, get_or, ◌==◌}
+use Rattle.std.specs.Prelude.{ℕ, ◌≡◌, ◌/◌, ◌%◌, List, Option, None, Bool, false, cond, get_or, slice_get, ◌==◌}
+use Rattle.std.specs.Option.{option_map}
 use Rattle.std.specs.Map.{lookup}
 use Rattle.type_layout.specs.Schemas.{given}
 use Rattle.storage_home.specs.declared.rows.Stored.{Stored}
@@ -8,6 +9,10 @@ use Rattle.storage_home.specs.declared.rows.Row.{Row}
 -- the rows of 64 neighbouring serials, by the number of these 64
 abbrev pub Chunks : Type 0
 Chunks = List (ℕ × List (Option Row))
+
+-- the number of the chunk at a place
+abbrev pub number_at : ℕ → Chunks → Option ℕ
+number_at place es = option_map (λ e. e.0) (slice_get es place)
 
 abbrev pub chunk_at : ℕ → Chunks → Option (List (Option Row))
 chunk_at n es = lookup (λ t. n == t) es

@@ -1,14 +1,16 @@
 // The objects by their serials, and which serials are reserved.
-ghost use Rattle.std.specs.Prelude.{◌≡◌, ◌/◌, ℕ, [], Some, None, true, false, is_some, OnOk, OnErr, IsSome};
+ghost use Rattle.std.specs.Prelude.{◌≡◌, ◌/◌, ℕ, [], Some, None, true, false, is_some, OnOk, OnErr, IfSome, IfNone, IsSome};
 ghost use Rattle.std.specs.Option.{option_map};
 ghost use Rattle.storage_home.specs.Cells.{with_reservation};
-ghost use Rattle.storage_home.specs.Rows.{chunk_at, cell_in, row_at, object_at, is_reserved_at, TurnsRow, KeepsRows, TurnsObject, KeepsObjects, TurnsReserved, KeepsReserved};
+ghost use Rattle.storage_home.specs.Rows.{number_at, chunk_at, cell_in, row_at, object_at, is_reserved_at, TurnsRow, KeepsRows, TurnsObject, KeepsObjects, TurnsReserved, KeepsReserved};
 
 use crate::chunk::{Chunk, WIDTH};
 use indexmap::IndexMap;
 use pss_base::{Bytes, NoMemory};
 use std::alloc::Global;
-use std::hash::{BuildHasherDefault, DefaultHasher};
+use std::cell::Cell;
+use std::hash::BuildHasherDefault;
+use table_hash::ByteHasher;
 use type_layout::HomeNo;
 
 /// An object as it is stored: its home, and the octets of its record.
@@ -25,19 +27,30 @@ pub struct Row {
     pub is_reserved: bool,
 }
 
+type Chunks = IndexMap<u64, Chunk, BuildHasherDefault<ByteHasher>>;
+
 /// The rows of 64 neighbouring serials lie together, under the number of these 64. Serials are given one after the other, so
 /// that what is asked for in their order is found where the last one was.
-pub type Rows = IndexMap<u64, Chunk, BuildHasherDefault<DefaultHasher>>;
+#[derive(Drop)]
+pub struct Rows {
+    chunks: Chunks,
+    // The place of the chunk that was found last, where the next one is looked for first: one object is asked for many times in a
+    // row, and its neighbours after it. It may be any number.
+    last: Cell<usize>,
+}
 
 pub fn empty(alloc: Global) -> Rows
-    ensures { result.entries ≡ [] }
+    ensures { result.chunks.entries ≡ [] }
 {
-    IndexMap::with_hasher(alloc, BuildHasherDefault::new())
+    Rows {
+        chunks: IndexMap::with_hasher(alloc, BuildHasherDefault::new()),
+        last: Cell::new(0),
+    }
 }
 
 /// The object with a serial, where there is one.
 pub fn object_of(rows: &Rows, serial: u64) -> Option<&Stored>
-    ensures { option_map (λ object. object.now) result ≡ object_at serial rows.now.entries }
+    ensures { option_map (λ object. object.now) result ≡ object_at serial rows.now.chunks.entries }
 {
     match row_of(rows, serial) {
         Some(row) => row.object.as_ref(),
@@ -46,7 +59,7 @@ pub fn object_of(rows: &Rows, serial: u64) -> Option<&Stored>
 }
 
 pub fn is_reserved(rows: &Rows, serial: u64) -> bool
-    ensures { result ≡ is_reserved_at serial rows.now.entries }
+    ensures { result ≡ is_reserved_at serial rows.now.chunks.entries }
 {
     match row_of(rows, serial) {
         Some(row) => row.is_reserved,
@@ -58,9 +71,9 @@ pub fn is_reserved(rows: &Rows, serial: u64) -> bool
 ///
 /// `NoMemory`: all is as before.
 pub fn reserve(alloc: Global, rows: &mut Rows, serial: u64) -> Result<(), NoMemory>
-    ensures objects { KeepsObjects rows.old.entries rows.new.entries }
-    ensures ok { OnOk result (TurnsReserved rows.old.entries rows.new.entries serial true) }
-    ensures err { OnErr result (KeepsReserved rows.old.entries rows.new.entries) }
+    ensures objects { KeepsObjects rows.old.chunks.entries rows.new.chunks.entries }
+    ensures ok { OnOk result (TurnsReserved rows.old.chunks.entries rows.new.chunks.entries serial true) }
+    ensures err { OnErr result (KeepsReserved rows.old.chunks.entries rows.new.chunks.entries) }
 {
     if has_row(rows, serial) {
         mark(rows, serial);
@@ -75,9 +88,9 @@ pub fn reserve(alloc: Global, rows: &mut Rows, serial: u64) -> Result<(), NoMemo
 
 /// Puts an object in the place of a reservation.
 pub fn put(rows: &mut Rows, serial: u64, object: Stored)
-    requires { is_reserved_at serial rows.old.entries ≡ true }
-    ensures objects { TurnsObject rows.old.entries rows.new.entries serial (Some object) }
-    ensures reserved { TurnsReserved rows.old.entries rows.new.entries serial false }
+    requires { is_reserved_at serial rows.old.chunks.entries ≡ true }
+    ensures objects { TurnsObject rows.old.chunks.entries rows.new.chunks.entries serial (Some object) }
+    ensures reserved { TurnsReserved rows.old.chunks.entries rows.new.chunks.entries serial false }
 {
     let row = Row {
         object: Some(object),
@@ -88,8 +101,8 @@ pub fn put(rows: &mut Rows, serial: u64, object: Stored)
 
 /// Takes the object with a serial away. A reserved serial keeps its row.
 pub fn take(rows: &mut Rows, serial: u64)
-    ensures objects { TurnsObject rows.old.entries rows.new.entries serial None }
-    ensures reserved { KeepsReserved rows.old.entries rows.new.entries }
+    ensures objects { TurnsObject rows.old.chunks.entries rows.new.chunks.entries serial None }
+    ensures reserved { KeepsReserved rows.old.chunks.entries rows.new.chunks.entries }
 {
     if is_reserved(rows, serial) {
         let row = Row {
@@ -102,18 +115,96 @@ pub fn take(rows: &mut Rows, serial: u64)
     }
 }
 
+// The chunk of a number, where there is one. Where it is the one that was found last, it is not hashed.
+fn chunk_of(rows: &Rows, number: u64) -> Option<&Chunk>
+    ensures { option_map (λ chunk. chunk.now) result ≡ chunk_at number rows.now.chunks.entries }
+{
+    match chunk_there(&rows.chunks, rows.last.get(), number) {
+        Some(chunk) => Some(chunk),
+        None => look_up(rows, number),
+    }
+}
+
+// The chunk at a place of the table, where this number stands there.
+fn chunk_there(chunks: &Chunks, place: usize, number: u64) -> Option<&Chunk>
+    ensures { IfSome result (λ chunk. Some chunk.now ≡ chunk_at number chunks.now.entries) }
+{
+    match chunks.get_index(place) {
+        Some((there, chunk)) if *there == number => Some(chunk),
+        _ => None,
+    }
+}
+
+// The chunk that a number has by its hash. The next one is looked for there first.
+fn look_up(rows: &Rows, number: u64) -> Option<&Chunk>
+    ensures { option_map (λ chunk. chunk.now) result ≡ chunk_at number rows.now.chunks.entries }
+{
+    match rows.chunks.get_full(&number) {
+        Some((place, _, chunk)) => {
+            rows.last.set(place);
+            Some(chunk)
+        }
+        None => None,
+    }
+}
+
+// The place of a chunk, where there is one.
+fn place_of(rows: &Rows, number: u64) -> Option<usize>
+    ensures at { IfSome result (λ place. number_at place rows.now.chunks.entries ≡ Some number) }
+    ensures none { IfNone result (chunk_at number rows.now.chunks.entries ≡ None) }
+{
+    let last = rows.last.get();
+    if stands_at(&rows.chunks, last, number) {
+        Some(last)
+    } else {
+        find_place(&rows.chunks, number)
+    }
+}
+
+// The place of a chunk that is there.
+fn known_place(rows: &Rows, number: u64) -> usize
+    requires { IsSome (chunk_at number rows.now.chunks.entries) }
+    ensures { number_at result rows.now.chunks.entries ≡ Some number }
+{
+    match place_of(rows, number) {
+        Some(place) => place,
+        None => unreachable!(),
+    }
+}
+
+// Whether a number stands at a place of the table.
+fn stands_at(chunks: &Chunks, place: usize, number: u64) -> bool
+    ensures { result ≡ true → number_at place chunks.now.entries ≡ Some number }
+{
+    match chunks.get_index(place) {
+        Some((there, _)) => *there == number,
+        None => false,
+    }
+}
+
+// The place of a number by its hash.
+fn find_place(chunks: &Chunks, number: u64) -> Option<usize>
+    ensures at { IfSome result (λ place. number_at place chunks.now.entries ≡ Some number) }
+    ensures none { IfNone result (chunk_at number chunks.now.entries ≡ None) }
+{
+    match chunks.get_full(&number) {
+        Some((place, _, _)) => Some(place),
+        None => None,
+    }
+}
+
 // The row of a serial, where it has one.
 fn row_of(rows: &Rows, serial: u64) -> Option<&Row>
-    ensures { option_map (λ row. row.now) result ≡ row_at serial rows.now.entries }
+    ensures { option_map (λ row. row.now) result ≡ row_at serial rows.now.chunks.entries }
 {
-    match rows.get(&(serial / WIDTH)) {
+    match chunk_of(rows, serial / WIDTH) {
         Some(chunk) => chunk.get(serial % WIDTH),
         None => None,
     }
 }
 
 fn has_row(rows: &Rows, serial: u64) -> bool
-    ensures { result ≡ is_some (row_at serial rows.now.entries) }
+    ensures { result ≡ is_some (row_at serial rows.now.chunks.entries) }
 {
     match row_of(rows, serial) {
         Some(_) => true,
@@ -123,80 +214,95 @@ fn has_row(rows: &Rows, serial: u64) -> bool
 
 // Reserves the serial of a row.
 fn mark(rows: &mut Rows, serial: u64)
-    requires { IsSome (row_at serial rows.old.entries) }
-    ensures { TurnsRow rows.old.entries rows.new.entries serial (option_map with_reservation (row_at serial rows.old.entries)) }
+    requires { IsSome (row_at serial rows.old.chunks.entries) }
+    ensures { TurnsRow rows.old.chunks.entries rows.new.chunks.entries serial (option_map with_reservation (row_at serial rows.old.chunks.entries)) }
 {
-    if let Some(chunk) = rows.get_mut(&(serial / WIDTH)) {
+    let place = known_place(rows, serial / WIDTH);
+    if let Some(chunk) = rows.chunks.get_index_mut(place) {
         chunk.reserve(serial % WIDTH);
     }
 }
 
 // Puts a row in the place of another.
 fn write(rows: &mut Rows, serial: u64, row: Row)
-    requires { IsSome (row_at serial rows.old.entries) }
-    ensures { TurnsRow rows.old.entries rows.new.entries serial (Some row) }
+    requires { IsSome (row_at serial rows.old.chunks.entries) }
+    ensures { TurnsRow rows.old.chunks.entries rows.new.chunks.entries serial (Some row) }
 {
-    if let Some(chunk) = rows.get_mut(&(serial / WIDTH)) {
+    let place = known_place(rows, serial / WIDTH);
+    if let Some(chunk) = rows.chunks.get_index_mut(place) {
         chunk.write(serial % WIDTH, row);
     }
 }
 
 // Puts the row of a serial that has none.
 fn add(alloc: Global, rows: &mut Rows, serial: u64, row: Row) -> Result<(), NoMemory>
-    requires { row_at serial rows.old.entries ≡ None }
-    ensures ok { OnOk result (TurnsRow rows.old.entries rows.new.entries serial (Some row)) }
-    ensures err { OnErr result (KeepsRows rows.old.entries rows.new.entries) }
+    requires { row_at serial rows.old.chunks.entries ≡ None }
+    ensures ok { OnOk result (TurnsRow rows.old.chunks.entries rows.new.chunks.entries serial (Some row)) }
+    ensures err { OnErr result (KeepsRows rows.old.chunks.entries rows.new.chunks.entries) }
 {
-    if let Some(chunk) = rows.get_mut(&(serial / WIDTH)) {
-        chunk.insert(serial % WIDTH, row)?;
-        return Ok(());
+    match place_of(rows, serial / WIDTH) {
+        Some(place) => insert(rows, place, serial, row),
+        None => begin(alloc, rows, serial, row),
     }
-    begin(alloc, rows, serial, row)
+}
+
+// Puts the row of a serial that has none into the chunk at a place.
+fn insert(rows: &mut Rows, place: usize, serial: u64, row: Row) -> Result<(), NoMemory>
+    requires place { number_at place rows.old.chunks.entries ≡ Some (serial / 64) }
+    requires free { row_at serial rows.old.chunks.entries ≡ None }
+    ensures ok { OnOk result (TurnsRow rows.old.chunks.entries rows.new.chunks.entries serial (Some row)) }
+    ensures err { OnErr result (KeepsRows rows.old.chunks.entries rows.new.chunks.entries) }
+{
+    match rows.chunks.get_index_mut(place) {
+        Some(chunk) => chunk.insert(serial % WIDTH, row),
+        None => unreachable!(),
+    }
 }
 
 // Puts the first row of its 64.
 fn begin(alloc: Global, rows: &mut Rows, serial: u64, row: Row) -> Result<(), NoMemory>
-    requires { chunk_at (serial / 64) rows.old.entries ≡ None }
-    ensures ok { OnOk result (TurnsRow rows.old.entries rows.new.entries serial (Some row)) }
-    ensures err { OnErr result (rows.new.entries ≡ rows.old.entries) }
+    requires { chunk_at (serial / 64) rows.old.chunks.entries ≡ None }
+    ensures ok { OnOk result (TurnsRow rows.old.chunks.entries rows.new.chunks.entries serial (Some row)) }
+    ensures err { OnErr result (rows.new.chunks.entries ≡ rows.old.chunks.entries) }
 {
     let mut chunk = Chunk::new(alloc);
     chunk.insert(serial % WIDTH, row)?;
-    rows.insert(serial / WIDTH, chunk)?;
+    rows.chunks.insert(serial / WIDTH, chunk)?;
     Ok(())
 }
 
 // Takes the row of a serial away, and with the last of its 64 what is left of these.
 fn remove(rows: &mut Rows, serial: u64)
-    requires { IsSome (row_at serial rows.old.entries) }
-    ensures { TurnsRow rows.old.entries rows.new.entries serial None }
+    requires { IsSome (row_at serial rows.old.chunks.entries) }
+    ensures { TurnsRow rows.old.chunks.entries rows.new.chunks.entries serial None }
 {
     clear(rows, serial);
     end(rows, serial / WIDTH);
 }
 
 fn clear(rows: &mut Rows, serial: u64)
-    requires { IsSome (row_at serial rows.old.entries) }
-    ensures { TurnsRow rows.old.entries rows.new.entries serial None }
+    requires { IsSome (row_at serial rows.old.chunks.entries) }
+    ensures { TurnsRow rows.old.chunks.entries rows.new.chunks.entries serial None }
 {
-    if let Some(chunk) = rows.get_mut(&(serial / WIDTH)) {
+    let place = known_place(rows, serial / WIDTH);
+    if let Some(chunk) = rows.chunks.get_index_mut(place) {
         chunk.remove(serial % WIDTH);
     }
 }
 
 // Gives a chunk without rows back.
 fn end(rows: &mut Rows, number: u64)
-    ensures { KeepsRows rows.old.entries rows.new.entries }
+    ensures { KeepsRows rows.old.chunks.entries rows.new.chunks.entries }
 {
     if is_done(rows, number) {
-        let _ = rows.swap_remove(&number);
+        let _ = rows.chunks.swap_remove(&number);
     }
 }
 
 fn is_done(rows: &Rows, number: u64) -> bool
-    ensures { result ≡ true → (q : ℕ) → cell_in (chunk_at number rows.now.entries) q ≡ None }
+    ensures { result ≡ true → (q : ℕ) → cell_in (chunk_at number rows.now.chunks.entries) q ≡ None }
 {
-    match rows.get(&number) {
+    match chunk_of(rows, number) {
         Some(chunk) => chunk.is_empty(),
         None => false,
     }

@@ -1,5 +1,5 @@
 // Owners by their numbers.
-ghost use Rattle.std.specs.Prelude.{◌≡◌, [], Some, None, OnOk, OnErr};
+ghost use Rattle.std.specs.Prelude.{◌≡◌, [], Some, None, IfSome, OnOk, OnErr};
 ghost use Rattle.std.specs.Option.{option_map};
 ghost use Rattle.owner_view.specs.declared.owned.Owned.{Owned as One};
 ghost use Rattle.owner_view.specs.Owned.{IsSame, IsMade, MayPutIn, HasPut};
@@ -21,10 +21,24 @@ pub fn empty(alloc: Global) -> Table
     IndexMap::with_hasher(alloc, BuildHasherDefault::new())
 }
 
+/// The owner of a number, where there is one. Where it is the first, as one that is alone, it is not hashed.
 pub fn find(table: &Table, owner: OwnerNo) -> Option<&Owned>
     ensures { option_map (λ owned. owned.now) result ≡ owned_at owner.0 table.now.entries }
 {
-    table.get(&owner.0)
+    match first_if(table, owner) {
+        Some(owned) => Some(owned),
+        None => table.get(&owner.0),
+    }
+}
+
+// The first owner, where it has this number.
+fn first_if(table: &Table, owner: OwnerNo) -> Option<&Owned>
+    ensures { IfSome result (λ owned. Some owned.now ≡ owned_at owner.0 table.now.entries) }
+{
+    match table.get_index(0) {
+        Some((number, owned)) if *number == owner.0 => Some(owned),
+        _ => None,
+    }
 }
 
 pub fn add(table: &mut Table, owner: OwnerNo, owned: Owned) -> Result<(), NoMemory>

@@ -1,5 +1,5 @@
 // The bodies by object and view.
-ghost use Rattle.std.specs.Prelude.{◌≡◌, ◌<◌, ◌^◌, Some, None, IsSome, OnOk, OnErr, option_copied};
+ghost use Rattle.std.specs.Prelude.{◌≡◌, ◌<◌, ◌^◌, Some, None, IsSome, IfSome, OnOk, OnErr, option_copied};
 ghost use Rattle.std.specs.Option.{option_map};
 ghost use Rattle.std.specs.FinMap as map;
 ghost use Rattle.incarnations.specs.Maps.{IsWith};
@@ -9,6 +9,7 @@ use crate::names::{BodyName, BodyPlace, BodyRecord};
 use indexmap::IndexMap;
 use pss_base::NoMemory;
 use std::alloc::Global;
+use std::cell::Cell;
 use std::hash::BuildHasherDefault;
 use std::marker::Model;
 use table_hash::NumberHasher;
@@ -18,6 +19,9 @@ use type_layout::Record;
 #[derive(Drop)]
 pub struct BodyTable {
     table: IndexMap<BodyName, BodyRecord, BuildHasherDefault<NumberHasher>>,
+    // The place of the body found last, where the next one is looked for first: one command asks for its body several times. It
+    // may be any number.
+    last: Cell<usize>,
 }
 
 impl Model for BodyTable {
@@ -39,6 +43,7 @@ impl BodyTable {
     {
         BodyTable {
             table: IndexMap::with_hasher(alloc, BuildHasherDefault::new()),
+            last: Cell::new(0),
         }
     }
 
@@ -49,11 +54,44 @@ impl BodyTable {
         self.table.len()
     }
 
+    // The body at a place of the table, where that of this name stands there.
+    fn body_there(&self, place: usize, name: BodyName) -> Option<&BodyRecord>
+        ensures { IfSome (option_copied result) (λ body. map.get self.now name ≡ Some body) }
+    {
+        match self.table.get_index(place) {
+            Some((there, body)) if *there == name => Some(body),
+            _ => None,
+        }
+    }
+
+    // The body of a name by its hash. The next one is looked for at its place.
+    fn look_up(&self, name: BodyName) -> Option<&BodyRecord>
+        ensures { option_copied result ≡ map.get self.now name }
+    {
+        match self.table.get_full(&name) {
+            Some((place, _, body)) => {
+                self.last.set(place);
+                Some(body)
+            }
+            None => None,
+        }
+    }
+
+    // The body of a name, looked for first where the last one was found.
+    fn find(&self, name: BodyName) -> Option<&BodyRecord>
+        ensures { option_copied result ≡ map.get self.now name }
+    {
+        match self.body_there(self.last.get(), name) {
+            Some(body) => Some(body),
+            None => self.look_up(name),
+        }
+    }
+
     /// Where a body stands, where there is such a body.
     pub fn place(&self, name: BodyName) -> Option<BodyPlace>
         ensures { result ≡ option_map (λ b. b.place) (map.get self.now name) }
     {
-        match self.table.get(&name) {
+        match self.find(name) {
             Some(body) => Some(body.place),
             None => None,
         }
@@ -63,7 +101,7 @@ impl BodyTable {
     pub fn value(&self, name: BodyName) -> Option<&Record>
         ensures { option_copied result ≡ option_map (λ b. b.value) (map.get self.now name) }
     {
-        match self.table.get(&name) {
+        match self.find(name) {
             Some(body) => Some(&body.value),
             None => None,
         }

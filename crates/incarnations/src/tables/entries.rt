@@ -1,19 +1,27 @@
 // The entries by session and number.
-ghost use Rattle.std.specs.Prelude.{◌≡◌, ◌<◌, ◌^◌, Some, None, IsSome, OnOk, OnErr};
+ghost use Rattle.std.specs.Prelude.{◌≡◌, ◌<◌, ◌^◌, Some, None, IsSome, IfSome, OnOk, OnErr};
+ghost use Rattle.std.specs.Map.{lookup};
 ghost use Rattle.std.specs.FinMap as map;
+ghost use Rattle.incarnations.specs.Meaning.{same_slot};
 
 use crate::names::{EntryRecord, Slot};
 use indexmap::IndexMap;
 use pss_base::NoMemory;
 use std::alloc::Global;
+use std::cell::Cell;
 use std::hash::BuildHasherDefault;
 use std::marker::Model;
 use table_hash::NumberHasher;
 
+type Table = IndexMap<Slot, EntryRecord, BuildHasherDefault<NumberHasher>>;
+
 /// A finite map from slots to records of entries.
 #[derive(Drop)]
 pub struct EntryTable {
-    table: IndexMap<Slot, EntryRecord, BuildHasherDefault<NumberHasher>>,
+    table: Table,
+    // The place of the entry found last, where the next one is looked for first: one command asks for its entry several times. It
+    // may be any number.
+    last: Cell<usize>,
 }
 
 impl Model for EntryTable {
@@ -29,12 +37,46 @@ impl Model for EntryTable {
     ghost view = { λ t. from_entries t.table.entries };
 }
 
+// The record at a place of the table, where that of this slot stands there.
+fn record_there(table: &Table, place: usize, slot: Slot) -> Option<EntryRecord>
+    ensures { IfSome result (λ found. lookup (same_slot slot) table.now.entries ≡ Some found) }
+{
+    match table.get_index(place) {
+        Some((there, found)) if *there == slot => Some(*found),
+        _ => None,
+    }
+}
+
+// The record that a slot has by its hash. The next one is looked for at its place.
+fn look_up(table: &Table, last: &Cell<usize>, slot: Slot) -> Option<EntryRecord>
+    ensures { result ≡ lookup (same_slot slot) table.now.entries }
+{
+    match table.get_full(&slot) {
+        Some((place, _, found)) => {
+            last.set(place);
+            Some(*found)
+        }
+        None => None,
+    }
+}
+
+// The record of a slot, looked for first where the last one was found.
+fn record_of(table: &Table, last: &Cell<usize>, slot: Slot) -> Option<EntryRecord>
+    ensures { result ≡ lookup (same_slot slot) table.now.entries }
+{
+    match record_there(table, last.get(), slot) {
+        Some(found) => Some(found),
+        None => look_up(table, last, slot),
+    }
+}
+
 impl EntryTable {
     pub fn new(alloc: Global) -> EntryTable
         ensures { result ≡ map.empty }
     {
         EntryTable {
             table: IndexMap::with_hasher(alloc, BuildHasherDefault::new()),
+            last: Cell::new(0),
         }
     }
 
@@ -48,7 +90,7 @@ impl EntryTable {
     pub fn get(&self, slot: Slot) -> Option<EntryRecord>
         ensures { result ≡ map.get self.now slot }
     {
-        self.table.get(&slot).copied()
+        record_of(&self.table, &self.last, slot)
     }
 
     /// Puts a record at a slot that has none. `NoMemory`: the table is as before.

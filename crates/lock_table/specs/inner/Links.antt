@@ -53,6 +53,10 @@ row_at links r = option_map (λ place. place.row) (place_at links r)
 abbrev pub col_at : Links → OwnerNo → Option Col
 col_at links owner = entry_at same_owner links.columns.entries owner
 
+-- no other owner has a column
+abbrev pub IsAlone : Links → OwnerNo → Type 0
+IsAlone links owner = (n : OwnerNo) (col : Col) → col_at links n ≡ Some col → n ≡ owner
+
 -- what holds whenever a lock is linked or unlinked
 pub record IsLinked (links : Links) : Type 0 where
   pub rings : AreRings links.pool

@@ -7,13 +7,12 @@ use Rattle.type_layout.specs.declared.schema.Home.{Home}
 use Rattle.type_layout.specs.declared.schema.Schema.{Schema}
 use Rattle.type_layout.specs.Schemas.{home_at}
 use Rattle.schema_names.specs.Tables.{Finds}
-use Rattle.schema_names.specs.Found.{home_called, home_provided, member_called, factory_called, key_called}
+use Rattle.schema_names.specs.Found.{home_called, home_provided, member_called, key_called}
 use Rattle.schema_names.specs.declared.named.HomeNames.{HomeNames}
 
 -- the tables of one home
 pub record AreNamesOf (keys : List Key) (home : Home) (names : HomeNames) : Type 0 where
   pub members : Finds names.members.entries (member_called home.layout.members)
-  pub factories : Finds names.factories.entries (factory_called home.factories)
   pub keys_ : Finds names.keys.entries (key_called keys home.keys)
 
 -- each home has its own

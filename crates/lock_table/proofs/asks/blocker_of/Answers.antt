@@ -1,8 +1,12 @@
 use Rattle.std.proofs.Common.{◌∷◌, [], ap, ◌∙◌}
 use Rattle.lock_table.specs.Locks.{blocker}
 use Rattle.lock_table.specs.inner.Nodes.{held_in}
+use Rattle.lock_table.proofs.Alone.{alone_free}
 use Rattle.lock_table.proofs.Blocking.{blocker-none, blocker-more}
 use Rattle.lock_table.proofs.asks.blocker_of.Goals as goal
+
+pub returns-then-is_alone : goal.returns-then-is_alone
+returns-then-is_alone c = alone_free c.args.links.now c.requires c.args.owner (c.is_alone.ensures c.if-is_alone.true) c.args.needs.now
 
 pub loop-need-init : goal.loop-need-init
 loop-need-init c = blocker-none (held_in c.args.links.now.pool) c.args.owner

@@ -1,8 +1,12 @@
-use Rattle.std.proofs.Common.{IsSome, subst, rules}
-use Rattle.storage_home.proofs.Chunks.{chunk_turned}
+use Rattle.std.proofs.Common.{Some, None}
+use Rattle.storage_home.proofs.Chunks.{cell_there, row_put, none_stands}
 use Rattle.storage_home.proofs.rows.clear.Goals as goal
 
+pub remove-requires-clause-there : goal.remove-requires-clause-there
+remove-requires-clause-there c = cell_there c.args.rows.now.chunks c.known_place-place.result c.args.serial c.in-Some.chunk.now c.in-Some.ensures.unique c.known_place-place.ensures c.in-Some.ensures.value c.requires
+
 pub returns-in-Some : goal.returns-in-Some
-returns-in-Some c =
-    let turns = ((c.get_mut.follows.holds c.remove.new.self).3 (subst IsSome c.in-Some.ensures.value (search rules))).0 in
-    chunk_turned c.args.rows.now.entries _ c.args.serial _ c.in-Some.chunk.now c.remove.new.self c.in-Some.ensures.value turns c.remove.ensures
+returns-in-Some c = row_put c.args.rows.now.chunks c.known_place-place.result c.args.serial c.in-Some.chunk.now c.in-Some.ensures.unique c.known_place-place.ensures c.in-Some.ensures.value c.remove.new.self None c.remove.ensures
+
+pub returns-in_default : goal.returns-in_default
+returns-in_default c = absurd (none_stands c.args.rows.now.chunks.entries c.known_place-place.result _ c.known_place-place.ensures c.in_default.ensures.value)

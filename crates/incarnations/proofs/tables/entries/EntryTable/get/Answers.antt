@@ -6,4 +6,4 @@ use Rattle.incarnations.proofs.Hashed.{get_table}
 use Rattle.incarnations.proofs.tables.entries.EntryTable.get.Goals as goal
 
 pub returns : goal.returns
-returns c = c.copied.ensures ∙ c.get.ensures.value ∙ sym (get_table slot_key same_slot slot_ties c.self.inside.table.entries c.args.slot) ∙ ap (λ m. map.get m c.args.slot) c.self.view_is
+returns c = c.record_of.ensures ∙ sym (get_table slot_key same_slot slot_ties c.self.inside.table.entries c.args.slot) ∙ ap (λ m. map.get m c.args.slot) c.self.view_is

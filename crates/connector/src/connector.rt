@@ -36,10 +36,10 @@ use type_layout::Schema;
 /// Contracts see what the machine keeps of all this (`Keeps`). What the store holds is said of the content of its station
 /// (`IsSaved`).
 pub struct Connector {
-    parts: Parts,
-    store: Store,
-    live: bool,
-    performed: u32,
+    pub(crate) parts: Parts,
+    pub(crate) store: Store,
+    pub(crate) live: bool,
+    pub(crate) performed: u32,
 }
 
 // Written out: whoever drops a connector calls this, and need not prove of each of its parts that it may be dropped.

@@ -2,10 +2,11 @@
 //!
 //! A connector keeps the objects of one schema with their owners, the sessions with their entries, and the store that holds
 //! what was committed. A command is performed by the call that is named for it, in `session_calls`, `data_calls` or
-//! `commit_calls`; a checkpoint by the store's own.
+//! `commit_calls`; a checkpoint by the store's own. A `get` is also performed by its words, without a command made of them.
 #![tactic(auto)]
 
 mod connector;
+mod getting;
 mod performing;
 
 pub use connector::Connector;

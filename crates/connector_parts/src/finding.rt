@@ -24,13 +24,12 @@ impl Parts {
         ensures { (k : Kept) → Stands self.now k → MatchOption result (session_named k.sessions name.now ≡ None) (IsFound k name.now) }
     {
         let sessions = self.attended.sessions();
-        let number = sessions.find(name)?;
-        let standing = sessions.standing(number);
+        let found = sessions.find_standing(name)?;
         Some(Found {
-            number,
-            kind: standing.kind,
-            access: standing.access,
-            association: standing.association,
+            number: found.number,
+            kind: found.standing.kind,
+            access: found.standing.access,
+            association: found.standing.association,
         })
     }
 }

@@ -21,3 +21,4 @@ pub mod Standing
 pub mod Acts
 pub mod Words
 pub mod Bodies
+pub mod Glances

@@ -70,6 +70,46 @@ module _ (k : Kept) (a : Parts) (are : AreCopies a.copies) (at : Attends k a) (s
           let same : t ≡ s = own_view k.owners s t seat.session e.pid seat.seen in
           finish Loose (ap (stand_told a.copies e.pid) is ∙ ap (λ (q : SessionNo). given (get a.copies.bodies (body e.pid (InCopy q))) Loose Copied) same ∙ ap (λ o. given o Loose Copied) none) (λ values h. cc)
 
+  -- an entry on an own copy has its values
+  on_copy : (e : Entry) → entry_at a.copies s n ≡ Some e → (t : SessionNo) → e.view ≡ Some (InCopy t) → option_and_then (get a.copies.bodies) (body_under a.copies (slot s n)) ≡ copied_values (copies_of k s) (Some n)
+  on_copy e there t view = by (get a.copies.bodies (body e.pid (InCopy t))) refl
+    where
+      under : body_under a.copies (slot s n) ≡ Some (body e.pid (InCopy t))
+      under = ap (option_and_then body_of) there ∙ ap (option_map (body e.pid)) view
+
+      by : (o : Option (List PlainValue)) → get a.copies.bodies (body e.pid (InCopy t)) ≡ o → option_and_then (get a.copies.bodies) (body_under a.copies (slot s n)) ≡ copied_values (copies_of k s) (Some n)
+      by None is =
+          let stand : stand_told a.copies e.pid e.view ≡ Loose = ap (stand_told a.copies e.pid) view ∙ ap (λ o. given o Loose Copied) is in
+          let entry = told e there in
+          let none : copied_values (copies_of k s) (Some n) ≡ None = rw entry (rw stand refl) in
+          ap (option_and_then (get a.copies.bodies)) under ∙ is ∙ sym none
+      by (Some values) is =
+          let stand : stand_told a.copies e.pid e.view ≡ Copied values = ap (stand_told a.copies e.pid) view ∙ ap (λ o. given o Loose Copied) is in
+          let entry = told e there in
+          let some : copied_values (copies_of k s) (Some n) ≡ Some values = rw entry (rw stand refl) in
+          ap (option_and_then (get a.copies.bodies)) under ∙ is ∙ sym some
+
+  -- one on no own copy has none
+  on_none : (e : Entry) → entry_at a.copies s n ≡ Some e → (o : Option View) → e.view ≡ o → ((t : SessionNo) → o ≡ Some (InCopy t) → ⊥) → copied_values (copies_of k s) (Some n) ≡ None
+  on_none e there None is other = (let entry = told e there in let stand : stand_told a.copies e.pid e.view ≡ Loose = ap (stand_told a.copies e.pid) is in rw entry (rw stand refl))
+  on_none e there (Some Committed) is other = (let entry = told e there in let stand : stand_told a.copies e.pid e.view ≡ Shared = ap (stand_told a.copies e.pid) is in rw entry (rw stand refl))
+  on_none e there (Some (Own m)) is other = (let entry = told e there in let stand : stand_told a.copies e.pid e.view ≡ Shared = ap (stand_told a.copies e.pid) is in rw entry (rw stand refl))
+  on_none e there (Some (InCopy t)) is other = absurd (other t refl)
+
+  -- the values of an own copy are those of the body
+  pub values_same : (copied values : List PlainValue) → copied_values (copies_of k s) (Some n) ≡ Some copied → option_and_then (get a.copies.bodies) (body_under a.copies (slot s n)) ≡ Some values → copied ≡ values
+  values_same copied values has kept = by (entry_at a.copies s n) refl
+    where
+      on : (e : Entry) → entry_at a.copies s n ≡ Some e → (o : Option View) → e.view ≡ o → copied ≡ values
+      on e there None view = absurd (none_some (sym (on_none e there None view (λ t h. cc)) ∙ has))
+      on e there (Some Committed) view = absurd (none_some (sym (on_none e there (Some Committed) view (λ t h. cc)) ∙ has))
+      on e there (Some (Own m)) view = absurd (none_some (sym (on_none e there (Some (Own m)) view (λ t h. cc)) ∙ has))
+      on e there (Some (InCopy t)) view = same_some (sym has ∙ sym (on_copy e there t view) ∙ kept)
+
+      by : (o : Option Entry) → entry_at a.copies s n ≡ o → copied ≡ values
+      by None there = absurd (none_some (sym (none_copied there) ∙ has))
+      by (Some e) there = on e there e.view refl
+
 -- ---- by the object of the entry
 
 module _ (k : Kept) (a : Parts) (m : Meaning) (same : m ≡ a.copies) (are : AreCopies m) (at : Attends k a) (s : SessionNo) (n : ℕ) (pid : Pid) (named : Some pid ≡ option_map (λ e. e.pid) (entry_at m s n)) where

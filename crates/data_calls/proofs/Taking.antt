@@ -182,7 +182,7 @@ of_question (Destroy p) of = absurd of
 of_question (Ask question) of = (question, refl)
 
 -- a basic owner needs nothing to look
-basic_needs : (S : Schema) (l : Level) (M : Catalog) (question : Question) → is_basic l ≡ true → needs S l M (Ask question) ≡ []
+pub basic_needs : (S : Schema) (l : Level) (M : Catalog) (question : Question) → is_basic l ≡ true → needs S l M (Ask question) ≡ []
 basic_needs S level.Basic M question e = refl
 basic_needs S level.ReadCommitted M question e = absurd (cc)
 basic_needs S level.Serializable M question e = absurd (cc)

@@ -5,3 +5,4 @@ pub mod Leaving
 pub mod Replying
 pub mod Finishing
 pub mod Copied
+pub mod Glances

@@ -32,8 +32,8 @@ pub struct Followed {
     pub to: Option<Pid>,
 }
 
-// The values of the body on which an entry of the session stands.
-fn values_of(parts: &Parts, session: SessionNo, entry: Option<u64>) -> Option<&Record>
+/// The values of the body on which an entry of the session stands.
+pub fn values_of(parts: &Parts, session: SessionNo, entry: Option<u64>) -> Option<&Record>
     ensures hold { AreCopies parts.now.attended.copies }
     ensures values { IfSome (option_copied result) (λ values. IsSomeAnd entry (λ n. option_and_then (get parts.now.attended.copies.bodies) (body_under parts.now.attended.copies (slot session n)) ≡ Some values)) }
 {
@@ -48,8 +48,8 @@ fn values_of(parts: &Parts, session: SessionNo, entry: Option<u64>) -> Option<&R
     }
 }
 
-// The value of a member.
-fn value_at(alloc: Global, values: &Record, member: u32) -> Result<Option<Value>, NoMemory>
+/// The value of a member.
+pub fn value_at(alloc: Global, values: &Record, member: u32) -> Result<Option<Value>, NoMemory>
     ensures { IfOk result (λ found. option_map plain_value found ≡ slice_get values.now member) }
 {
     match values.0.as_slice().get(member as usize) {

@@ -28,8 +28,8 @@ fn member_of(parts: &Parts, pid: Pid, member: u32) -> Option<&Member>
     }
 }
 
-// The text of a value that was read.
-fn value_text(parts: &Parts, op: &Op, value: &Value) -> Result<Bytes, NoMemory>
+/// The text of a value that was read.
+pub fn value_text(parts: &Parts, op: &Op, value: &Value) -> Result<Bytes, NoMemory>
     requires { MayPrint parts.now.schema (plain_op op.now) (plain_value value.now) }
     ensures { IfOk result (λ text. text ≡ text_in parts.now.schema (plain_op op.now) (plain_value value.now)) }
 {

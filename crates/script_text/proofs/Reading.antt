@@ -1,11 +1,13 @@
 -- From what reading gives to what a line says.
 use Rattle.std.proofs.Common.{◌≡◌, ℕ, List, ◌∷◌, false, refl, sym, ◌∙◌, ap, subst, Option, Some, None, Ok, Err}
-use Rattle.std.specs.Prelude.{Result}
+use Rattle.std.specs.Prelude.{Result, codes}
 use Rattle.pss_machine.specs.declared.command.Command.{Command}
 use Rattle.pss_machine.specs.Run.{Said, Silent, Says, Wrong}
 use Rattle.script_text.specs.declared.fault.CommandFault.{CommandFault}
 use Rattle.script_text.specs.declared.fault.CommandFault.TheVariants.{Column, NoMemory}
 use Rattle.script_text.specs.declared.verb.Verb.{Verb}
+use Rattle.script_text.specs.declared.verb.Verb.TheVariants as Verb
+use Rattle.script_text.specs.declared.verb.MemberVerb.TheVariants as MemberVerb
 use Rattle.script_text.specs.Words.{Word, words}
 use Rattle.script_text.specs.Spelling.{is_silent, Reads}
 use Rattle.script_text.specs.Meaning.{verb_of, given, command_in, said_by, said_in, meaning}
@@ -28,6 +30,15 @@ loud_means line w ws is loud =
 
 pub command_said : (line : List ℕ) (w : Word) (ws : List Word) (c : Command) → words line ≡ w ∷ ws → is_silent (words line) ≡ false → command_from w ≡ Ok c → Says c ≡ meaning line
 command_said line w ws c is loud e = ap said_by (sym e) ∙ sym (loud_means line w ws is loud)
+
+-- so of a get
+verb_get : verb_of (codes "get") ≡ Some (Verb.Member MemberVerb.Get)
+unfolding verb_of
+verb_get = refl
+
+pub get_said : (line : List ℕ) (w : Word) (ws : List Word) (c : Command) → words line ≡ w ∷ ws → is_silent (words line) ≡ false → w.text ≡ codes "get" → command_in (Verb.Member MemberVerb.Get) w.rest ≡ Ok c → meaning line ≡ Says c
+get_said line w ws c is loud text e =
+    sym (command_said line w ws c is loud (ap (λ t. given (verb_of t) (Err w.column) (λ v. command_in v w.rest)) text ∙ ap (λ o. given o (Err w.column) (λ v. command_in v w.rest)) verb_get ∙ e))
 
 pub fault_said : (line : List ℕ) (w : Word) (ws : List Word) (fault : CommandFault) → words line ≡ w ∷ ws → is_silent (words line) ≡ false → Fails fault (command_from w) → Tells (λ said. said ≡ meaning line) (Err fault)
 fault_said line w ws (Column column) is loud e = ap said_by (sym e) ∙ sym (loud_means line w ws is loud)

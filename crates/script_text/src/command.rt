@@ -1,5 +1,7 @@
 // Lines as commands.
-ghost use Rattle.std.specs.Prelude.{◌≡◌, ◌≤◌, ◌∷◌, length, false, IsTrue, IsSome, MatchOption, Ok, Err, codes};
+ghost use Rattle.std.specs.Prelude.{◌≡◌, ◌≤◌, ◌∷◌, length, false, IsTrue, IsSome, IfSome, MatchOption, Ok, Err, codes};
+ghost use Rattle.pss_machine.specs.declared.command.Command.TheVariants as command;
+ghost use Rattle.pss_machine.specs.Run.{Says};
 ghost use Rattle.script_text.specs.Words.{words, words_in};
 ghost use Rattle.script_text.specs.Spelling as spelling;
 ghost use Rattle.script_text.specs.Spelling.{Reads, is_silent};
@@ -337,6 +339,43 @@ fn first_word<'a>(line: &'a [u8]) -> Option<Word<'a>>
         None
     } else {
         Some(word)
+    }
+}
+
+/// The words of a `get`: the name of the session, the number of the entry, and the member.
+#[derive(Clone, Copy)]
+pub struct GetWords<'a> {
+    pub s: &'a [u8],
+    pub entry: u64,
+    pub member: &'a [u8],
+}
+
+// The words behind `get`.
+fn get_words<'a>(tail: Tail<'a>) -> Result<GetWords<'a>, CommandFault>
+    ensures { Gives (λ words. command.Get words.s.now words.entry words.member.now) result (meaning.command_in (Verb.Member MemberVerb.Get) (seen tail.entry)) }
+{
+    let (s, tail) = name_in(tail)?;
+    let (entry, tail) = entry_in(tail)?;
+    let (member, tail) = any_in(tail)?;
+    finish(tail)?;
+    Ok(GetWords { s, entry, member })
+}
+
+const GET: &[u8] = b"get";
+
+/// The words of a line of at most 65,536 bytes that says a `get`, which are not copied. None: it says something else, or spells no
+/// command.
+pub fn read_get<'a>(line: &'a [u8]) -> Option<GetWords<'a>>
+    requires { length line.now ≤ 65536 }
+    ensures { IfSome result (λ words. meaning.meaning line.now ≡ Says (command.Get words.s.now words.entry words.member.now)) }
+{
+    let word = first_word(line)?;
+    if word.text != GET {
+        return None;
+    }
+    match get_words(word.rest) {
+        Ok(words) => Some(words),
+        Err(_) => None,
     }
 }
 

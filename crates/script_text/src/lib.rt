@@ -14,7 +14,7 @@ mod tail;
 mod verb;
 mod words;
 
-pub use command::read_command;
+pub use command::{GetWords, read_command, read_get};
 pub use fault::CommandFault;
 pub use laws::lines_say_one_thing;
 pub use reply::print_reply;

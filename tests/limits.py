@@ -69,6 +69,7 @@ def members():
     yield sound("255 members", of_members(255))
     yield refused("256 members", of_members(256, "@"), "C17 Limit")
     yield refused("256 members in an abstract type", "abstract " + of_members(256, "@"), "C17 Limit")
+    yield refused("256 members and an unknown base", of_members(256).replace("T {", "T : @Unknown {"), "C2 Unknown")
     derived = "storagetype {}U : T {{\n" + "".join(f"  state long n{n};\n" for n in range(55)) + "{}}};\n"
     yield sound("200 members and 55 more", of_members(200) + derived.format("", ""))
     yield refused("200 members and 56 more", of_members(200) + derived.format("@", "  state long last;\n"), "C17 Limit")

@@ -1,26 +1,23 @@
 -- What comes of a text, by its faults and by what is made of it.
-use Rattle.std.proofs.Common.{◌≡◌, ℕ, zero, suc, ◌<◌, List, [], ◌∷◌, length, map, Option, Some, None, sym, ap, ◌∙◌}
+use Rattle.std.proofs.Common.{Bool, true, false, cond, refl, ◌≡◌, ℕ, zero, suc, ◌<◌, List, [], ◌∷◌, length, map, Option, Some, None, sym, ap, ◌∙◌}
 use Rattle.std.specs.Option.{option_and_then, IfNone}
-use Rattle.type_layout.specs.declared.key.Key.{Key}
-use Rattle.type_layout.specs.declared.schema.Home.{Home}
-use Rattle.type_layout.specs.declared.schema.Provided.{Provided}
 use Rattle.type_layout.specs.declared.schema.Schema.{Schema}
 use Rattle.type_layout.specs.Schemas.{given, nth}
 use Rattle.std.specs.List.{flat_map, enumerate_from}
 use Rattle.pss_base.specs.declared.place.Place.{Place}
-use Rattle.psdl_names.specs.declared.fault.CheckFault.{CheckFault}
-use Rattle.psdl_names.specs.declared.fault.CheckKind.TheVariants.{Limit}
-use Rattle.psdl_check.specs.declared.making.Made.{Made}
-use Rattle.psdl_check.specs.declared.making.Made.TheVariants as made
-use Rattle.psdl_names.specs.Declarations.{Declaration}
-use Rattle.psdl_names.specs.Descent.{concrete_homes}
-use Rattle.psdl_names.specs.Fault.{fault, least}
-use Rattle.psdl_conditions.specs.Faults.{faults, long_shape, or_else, all_faults, first_fault, passing}
-use Rattle.psdl_names.specs.Lookup.{at}
-use Rattle.psdl_check.specs.Making.{IsMade}
-use Rattle.psdl_conditions.specs.Schemas.{key_of, all_introduced, provided_homes, schema}
-use Rattle.psdl_names.specs.Standings.{standings}
-use Rattle.psdl_names.proofs.Least.{nothing_least}
+use Rattle.psdl_directory.specs.declared.fault.CheckFault.{CheckFault}
+use Rattle.psdl_directory.specs.declared.fault.CheckKind.TheVariants.{Limit}
+use Rattle.psdl_check.specs.declared.schemas.Made.{Made}
+use Rattle.psdl_check.specs.declared.schemas.Made.TheVariants as made
+use Rattle.psdl_directory.specs.Declarations.{Declaration}
+use Rattle.psdl_lineage.specs.Descent.{concrete_homes}
+use Rattle.psdl_directory.specs.Fault.{fault, is_after, least, lesser}
+use Rattle.psdl_check.specs.Faults.{long_shape, or_else, all_faults, first_fault, passing}
+use Rattle.psdl_rules.specs.Faults.{faults}
+use Rattle.psdl_directory.specs.Lookup.{at}
+use Rattle.psdl_check.specs.inner.Made.{IsMade}
+use Rattle.psdl_check.specs.Schemas.{home_of, key_of, all_introduced, provided_homes, schema}
+use Rattle.psdl_standings.specs.Standings.{standings}
 use Rattle.psdl_check.proofs.Overlong.{home_declared}
 
 -- ---- what is made
@@ -38,12 +35,24 @@ passing_declared all (Some (suc k)) h is = home_declared all k h is
 pub shape_is : (all : List Declaration) (o r : Option ℕ) → r ≡ option_and_then (nth (concrete_homes all)) (passing (schema all)) → r ≡ o → long_shape all ≡ given o [] (λ h. fault Limit (at all h).place ∷ [])
 shape_is all o r is same = ap (λ (p : Option ℕ). given p [] (λ h. fault Limit (at all h).place ∷ [])) (sym is ∙ same)
 
-pub schema_is : (all : List Declaration) (homes : List Home) (keys : List Key) (provided : List Provided) → homes ≡ (schema all).homes → keys ≡ map (key_of all (standings all)) (all_introduced all)
-    → provided ≡ flat_map (provided_homes all) (enumerate_from 0 all) → record { homes = homes; keys = keys; provided = provided } ≡ schema all
+pub schema_made : (all : List Declaration) (s : Schema) → s.homes ≡ map (home_of all (standings all)) (concrete_homes all) → s.keys ≡ map (key_of all (standings all)) (all_introduced all)
+    → s.provided ≡ flat_map (provided_homes all) (enumerate_from 0 all) → s ≡ schema all
 unfolding schema
-schema_is all homes keys provided a b c = λ i. record { homes = a i; keys = b i; provided = c i }
+schema_made all s a b c = λ i. record { homes = a i; keys = b i; provided = c i }
 
 -- ---- what is answered
+
+some_least : (f : CheckFault) (o : Option CheckFault) → lesser (Some f) o ≡ None → ⊥
+some_least f None e = cc
+some_least f (Some g) e = by (is_after f g) e
+  where
+    by : (b : Bool) → cond b (Some g) (Some f) ≡ None → ⊥
+    by true e = cc
+    by false e = cc
+
+nothing_least : (fs : List CheckFault) → least fs ≡ None → fs ≡ []
+nothing_least [] e = refl
+nothing_least (f ∷ fs) e = absurd (some_least f (least fs) e)
 
 -- where nothing else is wrong, the shape counts
 shape_counts : (all : List Declaration) → least (faults all) ≡ None → first_fault all ≡ least (long_shape all)

@@ -7,9 +7,9 @@ use Rattle.type_layout.specs.declared.key.Key.{Key}
 use Rattle.type_layout.specs.declared.schema.Home.{Home}
 use Rattle.type_layout.specs.Types.{RefTo, PlainMember}
 use Rattle.type_layout.specs.ShapeText.{listed, type_text, base_number, home_line, member_line, key_text}
-use Rattle.psdl_types.specs.TextLengths.{cut, text_length}
-use Rattle.psdl_types.specs.LineLengths.{line_length, numbers_length, ended_length, length_of_reference, length_of_member, length_of_home, length_of_key}
-use Rattle.psdl_types.proofs.Lettering.{cut_sum, separated, listed_length, three, five, seven}
+use Rattle.psdl_standings.specs.TextLengths.{cut, text_length}
+use Rattle.psdl_check.specs.inner.LineLengths.{line_length, numbers_length, ended_length, length_of_reference, length_of_member, length_of_home, length_of_key}
+use Rattle.psdl_standings.proofs.Lettering.{cut_sum, separated, listed_length, three, five, seven}
 
 -- ---- numbers
 

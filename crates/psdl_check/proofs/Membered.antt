@@ -4,11 +4,11 @@ use Rattle.std.specs.List.{flat_map}
 use Rattle.type_layout.specs.declared.home.HomeNo.{HomeNo}
 use Rattle.type_layout.specs.Types.{PlainType}
 use Rattle.type_layout.specs.ShapeText.{member_line}
-use Rattle.psdl_check.specs.declared.typed_members.TypedMember.{TypedMember}
-use Rattle.psdl_check.specs.MemberLines.{members_behind}
-use Rattle.psdl_types.specs.TextLengths.{cut}
-use Rattle.psdl_check.specs.TypedMembers.{typed_view, typed_views}
-use Rattle.psdl_types.proofs.Lettering.{cut_both}
+use Rattle.psdl_check.specs.declared.members.TypedMember.{TypedMember}
+use Rattle.psdl_check.specs.inner.MemberLines.{members_behind}
+use Rattle.psdl_standings.specs.TextLengths.{cut}
+use Rattle.psdl_check.specs.inner.TypedMembers.{typed_view, typed_views}
+use Rattle.psdl_standings.proofs.Lettering.{cut_both}
 
 -- what is cut at each line is cut in all
 pub lines_whole : (types : List PlainType) (homes : ℕ → List HomeNo) (front : ℕ) (ms : List TypedMember) → members_behind types homes (cut front) ms ≡ cut (front + length (flat_map member_line (typed_views types homes ms)))

@@ -4,27 +4,27 @@ use Rattle.std.specs.List.{find, range_with_len, slice_get}
 use Rattle.std.specs.Option.{option_map, option_and_then}
 use Rattle.std.proofs.lemmas.List.{take_all, append-nil, append_assoc, length-map, map-append}
 use Rattle.std.proofs.lemmas.Option.{slice_get-map, slice_get_read}
-use Rattle.psdl_conditions.proofs.Inherited.{homes_below}
-use Rattle.psdl_conditions.proofs.Named.{has_at}
+use Rattle.psdl_lineage.proofs.Inherited.{homes_below}
+use Rattle.psdl_lineage.proofs.Named.{has_at}
 use Rattle.type_layout.specs.declared.schema.Home.{Home}
 use Rattle.type_layout.specs.declared.schema.Schema.{Schema}
 use Rattle.type_layout.specs.Schemas.{nth}
 use Rattle.type_layout.specs.ShapeText.{home_lines, lines_from}
-use Rattle.psdl_names.specs.Declarations.{Declaration}
-use Rattle.psdl_names.specs.Descent.{concrete_homes}
-use Rattle.psdl_conditions.specs.Faults.{passing}
-use Rattle.psdl_types.specs.Limits.{most_shape}
-use Rattle.psdl_check.specs.Making.{lines_at, lines_before}
-use Rattle.psdl_conditions.specs.Schemas.{home_of, schema}
-use Rattle.psdl_names.specs.Standings.{standings}
-use Rattle.psdl_types.specs.TextLengths.{cut}
+use Rattle.psdl_directory.specs.Declarations.{Declaration}
+use Rattle.psdl_lineage.specs.Descent.{concrete_homes}
+use Rattle.psdl_check.specs.Faults.{passing}
+use Rattle.psdl_rules.specs.Limits.{most_shape}
+use Rattle.psdl_check.specs.inner.Made.{lines_at, lines_before}
+use Rattle.psdl_check.specs.Schemas.{home_of, schema}
+use Rattle.psdl_standings.specs.Standings.{standings}
+use Rattle.psdl_standings.specs.TextLengths.{cut}
 
 take_next : {A : Type 0} (xs : List A) (i : ℕ) (x : A) → slice_get xs i ≡ Some x → take (suc i) xs ≡ take i xs ++ x ∷ []
 take_next [] i x is = absurd (cc)
 take_next (y ∷ ys) zero x is = let same : y ≡ x = cc in ap (λ z. z ∷ []) same
 take_next (y ∷ ys) (suc i) x is = ap (λ l. y ∷ l) (take_next ys i x is)
 
-take_step : {A : Type 0} (xs : List A) (i : ℕ) (x : A) → slice_get xs i ≡ Some x → take (i + 1) xs ≡ take i xs ++ x ∷ []
+pub take_step : {A : Type 0} (xs : List A) (i : ℕ) (x : A) → slice_get xs i ≡ Some x → take (i + 1) xs ≡ take i xs ++ x ∷ []
 take_step xs i x is = ap (λ (n : ℕ). take n xs) (add-one i) ∙ take_next xs i x is
 
 -- ---- lines of one home more

@@ -2,8 +2,8 @@
 use Rattle.std.proofs.Common.{◌≡◌, ℕ, ◌-◌, ◌<◌, ◌≤◌, List, [], ◌∷◌, ◌++◌, length, map, get_or, drop, suc, Bor, refl, sym, ap, ◌∙◌, append_assoc, drop-cons, arith}
 use Rattle.std.specs.Prelude.{codes}
 use Rattle.std.proofs.lemmas.List.{append-nil}
-use Rattle.psdl_names.specs.Declarations.{Path, Declaration}
-use Rattle.psdl_conditions.specs.Schemas.{scoped, scoped_name}
+use Rattle.psdl_directory.specs.Declarations.{Path, Declaration}
+use Rattle.psdl_check.specs.Schemas.{scoped, scoped_name}
 
 -- what stands in front of a name does not look at it
 pub scoped_behind : (path : Path) (a b : List ℕ) → scoped path (a ++ b) ≡ scoped path a ++ b

@@ -1,53 +1,47 @@
--- What the catalogs of a text provide, and the numbers of the homes that they name.
-use Rattle.std.proofs.Common.{◌≡◌, ℕ, ◌<◌, List, [], ◌∷◌, ◌++◌, Bool, true, length, map, get_or, Option, Some, sym, ap, ◌∙◌, arith, cond, ⊎_elim, subst}
-use Rattle.std.specs.List.{find}
-use Rattle.std.specs.Option.{IfSome, option_to_list, option_and_then}
-use Rattle.std.proofs.lemmas.Bool.{cases_Bool}
-use Rattle.std.proofs.lemmas.List.FromFn.{get_or-map-range_with_len, length-map-range_with_len}
-use Rattle.type_layout.specs.declared.home.HomeNo.{HomeNo}
-use Rattle.type_layout.specs.declared.schema.Provided.{Provided}
+-- What the catalogs of a text provide, name by name.
+use Rattle.std.proofs.Common.{◌≡◌, ℕ, zero, suc, ◌+◌, ◌<◌, ◌≤◌, List, [], ◌∷◌, ◌++◌, length, map, take, get_or, refl, sym, ap, ◌∙◌, arith, append_assoc}
+use Rattle.std.specs.List.{flat_map}
+use Rattle.std.proofs.lemmas.List.{append-nil, take_all}
 use Rattle.psdl_tree.specs.Trees.{Provision}
-use Rattle.psdl_names.specs.Declarations.{Declaration}
-use Rattle.psdl_names.specs.Descent.{has, ancestry, concrete_homes, provider}
-use Rattle.psdl_check.specs.HomeNos.{home_nos}
-use Rattle.psdl_names.specs.Lookup.{at, defined}
-use Rattle.psdl_conditions.specs.Schemas.{home_no, scoped_name, provided_home}
-use Rattle.psdl_conditions.proofs.Inherited.{homes_below}
-use Rattle.psdl_conditions.proofs.Repeats.{has_here, has_later}
+use Rattle.psdl_directory.specs.declared.uses.Use.{Use}
+use Rattle.psdl_directory.specs.Declarations.{Declaration}
+use Rattle.psdl_directory.specs.Headers.{used}
+use Rattle.psdl_directory.specs.Lookup.{at, defined}
+use Rattle.psdl_directory.specs.Parts.{provided}
+use Rattle.psdl_lineage.proofs.Listing.{map_more}
 
--- ---- the home that provides another
+map-length : {X Y : Type 0} (f : X → Y) (xs : List X) → length (map f xs) ≡ length xs
+map-length f [] = refl
+map-length f (x ∷ xs) = ap suc (map-length f xs)
 
-find_below : (f : ℕ → Bool) (bound : ℕ) (xs : List ℕ) → ((n : ℕ) → has xs n ≡ true → n < bound) → IfSome (find f xs) (λ n. n < bound)
-find_below f bound [] below = tt
-find_below f bound (x ∷ xs) below =
-    let later : IfSome (find f xs) (λ n. n < bound) = find_below f bound xs (λ n h. below n (has_later x n xs h)) in
-    ⊎_elim
-    (λ t. subst (λ (b : Bool). IfSome (cond b (Some x) (find f xs)) (λ n. n < bound)) (sym t) (below x (has_here x xs)))
-    (λ no. subst (λ (b : Bool). IfSome (cond b (Some x) (find f xs)) (λ n. n < bound)) (sym no) later)
-    (cases_Bool (f x))
+module _ {X : Type 0} (view : X → Provision) (all : List Declaration) (n : ℕ) (ps : List X) (us : List Use) (is : map view ps ≡ provided (at all n).what) (meant : us ≡ map (λ p. used all (n + 1) n p.home) (provided (at all n).what)) where
+  uses_are : us ≡ map (λ p. used all (n + 1) n p.home) (map view ps)
+  uses_are = meant ∙ ap (map (λ p. used all (n + 1) n p.home)) (sym is)
 
--- it is declared
-pub provider_below : (all : List Declaration) (home : ℕ) (found : Option ℕ) → found ≡ provider all home → IfSome found (λ h. h < length all)
-provider_below all home found is =
-    subst (λ (o : Option ℕ). IfSome o (λ h. h < length all)) (sym is) (find_below (λ h. has (ancestry all h) home) (length all) (concrete_homes all) (homes_below all))
+  pub as_many : length us ≡ length ps
+  as_many = ap length uses_are ∙ map-length (λ p. used all (n + 1) n p.home) (map view ps) ∙ map-length view ps
 
--- ---- the numbers of homes
+  use_at : (qs : List X) (i : ℕ) (p : X) (u : Use) → i < length qs → get_or (map (λ q. used all (n + 1) n q.home) (map view qs)) i u ≡ used all (n + 1) n (view (get_or qs i p)).home
+  use_at [] i p u lt = absurd (omega (arith, lt))
+  use_at (q ∷ qs) zero p u lt = refl
+  use_at (q ∷ qs) (suc i) p u lt = use_at qs i p u (omega (arith, lt))
 
-pub length-home_nos : (all : List Declaration) → length (home_nos all) ≡ length all
-length-home_nos all = length-map-range_with_len (home_no all) 0 (length all)
+  -- what the name of a provision means
+  pub meant_at : (i : ℕ) (p : X) (u : Use) → i < length ps → p ≡ get_or ps i p → u ≡ get_or us i u → u.defined ≡ defined all n (view p).home
+  meant_at i p u lt pis uis =
+      ap (λ (v : Use). v.defined) (uis ∙ ap (λ l. get_or l i u) uses_are ∙ use_at ps i p u lt) ∙ ap (λ (q : X). defined all n (view q).home) (sym pis)
 
-pub home_no_at : (all : List Declaration) (numbers : List HomeNo) (h : ℕ) (d : HomeNo) → numbers ≡ home_nos all → h < length all → get_or numbers h d ≡ home_no all h
-home_no_at all numbers h d are lt = ap (λ (ns : List HomeNo). get_or ns h d) are ∙ get_or-map-range_with_len (home_no all) 0 (length all) h h d lt (omega arith)
+-- one more
+pub one_more : {X Y Z : Type 0} (view : X → Y) (each : Y → List Z) (xs : List X) (i : ℕ) (x : X) (first old new : List Z) → i < length xs → x ≡ get_or xs i x → old ≡ first ++ flat_map each (map view (take i xs)) → new ≡ old ++ each (view x)
+    → new ≡ first ++ flat_map each (map view (take (i + 1) xs))
+one_more {X} {Y} {Z} view each xs i x first old new lt is so_far step =
+    step ∙ ap (λ l. l ++ each (view x)) so_far ∙ append_assoc first (flat_map each (map view (take i xs))) (each (view x))
+    ∙ ap (λ l. first ++ l) (sym (flat_one (map view (take i xs)) (view x)) ∙ ap (λ (y : X). flat_map each (map view (take i xs) ++ view y ∷ [])) is ∙ ap (flat_map each) (sym (map_more view xs i x lt)))
+  where
+    flat_one : (ys : List Y) (y : Y) → flat_map each (ys ++ y ∷ []) ≡ flat_map each ys ++ each y
+    flat_one [] y = append-nil (each y)
+    flat_one (z ∷ ys) y = ap (λ l. each z ++ l) (flat_one ys y) ∙ sym (append_assoc (each z) (flat_map each ys) (each y))
 
--- ---- one name of a catalog
-
-abbrev entry_of : List ℕ → List ℕ → HomeNo → Provided
-entry_of catalog name home = record { catalog = catalog; name = name; home = home }
-
-pub one_provided : (all : List Declaration) (n : ℕ) (p : Provision) (found : Option ℕ) (h : ℕ) (catalog name : List ℕ) (home : HomeNo) (list next : List Provided)
-    → found ≡ option_and_then (provider all) (defined all n p.home) → found ≡ Some h → catalog ≡ scoped_name (at all n) → name ≡ p.name.name → home ≡ home_no all h
-    → next ≡ list ++ entry_of catalog name home ∷ [] → next ≡ list ++ provided_home all n (at all n) p
-one_provided all n p found h catalog name home list next is some of_catalog of_name of_home more =
-    more ∙ ap (λ (c : List ℕ). list ++ entry_of c name home ∷ []) of_catalog ∙ ap (λ (m : List ℕ). list ++ entry_of (scoped_name (at all n)) m home ∷ []) of_name
-    ∙ ap (λ (o : HomeNo). list ++ entry_of (scoped_name (at all n)) p.name.name o ∷ []) of_home
-    ∙ ap (λ (o : Option ℕ). list ++ map (λ h. entry_of (scoped_name (at all n)) p.name.name (home_no all h)) (option_to_list o)) (sym some ∙ is)
+-- all of them
+pub all_more : {X Y Z : Type 0} (view : X → Y) (each : Y → List Z) (xs : List X) (ys : List Y) (i : ℕ) (first new : List Z) → length xs ≤ i → map view xs ≡ ys → new ≡ first ++ flat_map each (map view (take i xs)) → new ≡ first ++ flat_map each ys
+all_more {X} {Y} {Z} view each xs ys i first new le is so_far = so_far ∙ ap (λ (l : List X). first ++ flat_map each (map view l)) (take_all i xs le) ∙ ap (λ l. first ++ flat_map each l) is

@@ -2,7 +2,7 @@
 use Rattle.std.specs.Prelude.{ℕ, List, [], map, Bool, ◌&&◌, IsTrue}
 use Rattle.std.specs.List.{list_all}
 use Rattle.type_layout.specs.Sound.{is_name}
-use Rattle.psdl_names.specs.Declarations.{What, IsEnumeration, Declaration, all_identifiers}
+use Rattle.psdl_directory.specs.Declarations.{What, IsEnumeration, Declaration, all_identifiers}
 
 -- the enumerators that an enumeration lists
 abbrev pub listed_enumerators : What → List (List ℕ)

@@ -1,28 +1,24 @@
 // The checks of a text, and its schema.
-ghost use Rattle.std.specs.Prelude.{◌≡◌, ◌⊎◌, None, Some, map, IfOk, IfErr};
+ghost use Rattle.std.specs.Prelude.{◌≡◌, ◌⊎◌, None, Some, IfOk, IfErr};
 ghost use Rattle.psdl_tree.specs.Views.{tree_view};
-ghost use Rattle.psdl_names.specs.declared.fault.CheckKind.TheVariants as kinds;
-ghost use Rattle.psdl_names.specs.Declarations.{all_declarations};
-ghost use Rattle.psdl_names.specs.Directories.{all_of};
-ghost use Rattle.psdl_conditions.specs.Faults.{faults, first_fault};
-ghost use Rattle.psdl_names.specs.Fault.{least};
-ghost use Rattle.psdl_conditions.specs.Lineage.{graph_of};
-ghost use Rattle.psdl_conditions.specs.Owning.{owners};
-ghost use Rattle.psdl_conditions.specs.Prepared.{AreTables};
-ghost use Rattle.psdl_names.specs.Lookup.{lower};
-ghost use Rattle.psdl_conditions.specs.Schemas as schemas;
-ghost use Rattle.psdl_types.specs.Turns.{AreInTurn};
-ghost use Rattle.psdl_check.specs.Verdicts.{IsVerdict};
+ghost use Rattle.psdl_directory.specs.Declarations.{all_declarations};
+ghost use Rattle.psdl_directory.specs.Directories.{all_of};
+ghost use Rattle.psdl_directory.specs.Fault.{least};
+ghost use Rattle.psdl_directory.specs.Headers as of;
+ghost use Rattle.psdl_directory.specs.declared.fault.CheckKind.TheVariants as kinds;
+ghost use Rattle.psdl_lineage.specs.Lineages.{text_of};
+ghost use Rattle.psdl_rules.specs.Faults.{faults};
+ghost use Rattle.psdl_standings.specs.Texts as told;
+ghost use Rattle.psdl_standings.specs.Turns.{AreInTurn};
+ghost use Rattle.psdl_check.specs.Faults.{first_fault};
+ghost use Rattle.psdl_check.specs.Schemas as schemas;
+ghost use Rattle.psdl_check.specs.inner.Verdicts.{IsVerdict};
 
-use crate::making::{Made, make_schema};
-use psdl_conditions::first_fault::first_fault;
-use psdl_conditions::heritage::Heritage;
-use psdl_conditions::tables::{Tables, heritage_of};
-use psdl_names::declaration::Declaration;
-use psdl_names::directory::Directory;
-use psdl_names::fault::{CheckFault, CheckKind};
-use psdl_names::flat::flatten;
-use psdl_names::spelling::Spelling;
+use crate::schemas::{Made, make_schema};
+use crate::text::Text;
+use psdl_directory::{CheckFault, CheckKind, Directory, Header, headers_of};
+use psdl_lineage::Lineage;
+use psdl_standings::Standings;
 use psdl_tree::Tree;
 use pss_base::{NoMemory, Place};
 use std::alloc::Global;
@@ -35,62 +31,62 @@ pub(crate) enum Verdict {
     Refused(CheckFault),
 }
 
-// The names of declarations in small letters.
-fn lowered_names(alloc: Global, declarations: &[Declaration<'_>]) -> Result<Vec<Vec<u8>>, NoMemory>
-    ensures { IfOk result (λ v. map (λ n. n.items) v.items ≡ map (λ d. lower d.name.now) declarations.now) }
-{
-    let mut names = Vec::new(alloc);
-    for declaration in declarations {
-        let name = Spelling::Lower.of(alloc, declaration.name)?;
-        names.push(name)?;
-    }
-    Ok(names)
-}
-
 // The schema of a text that has no fault but in its shape.
-fn schema_of(
+fn schema_of<'t, 'd>(
     alloc: Global,
-    directory: &Directory<'_>,
-    tables: &Tables,
-    heritage: &mut Heritage,
+    lineage: &'t Lineage<'t, 'd>,
+    standings: &'t Standings<'t, 'd>,
+    headers: &'t [Header],
 ) -> Result<Verdict, NoMemory>
-    requires turn { AreInTurn (all_of directory.now) }
-    requires tables { AreTables (all_of directory.now) tables.now }
-    requires graph { heritage.old.graph ≡ graph_of (all_of directory.now) }
-    requires own { heritage.old.own ≡ owners (all_of directory.now) }
-    requires sound { least (faults (all_of directory.now)) ≡ None }
-    ensures { IfOk result (λ v. IsVerdict (all_of directory.now) v) }
+    requires headers { headers.now ≡ of.headers (text_of lineage.now) }
+    requires one { told.text_of standings.now ≡ text_of lineage.now }
+    requires sound { least (faults (text_of lineage.now)) ≡ None }
+    ensures { IfOk result (λ v. IsVerdict (text_of lineage.now) v) }
 {
-    let made = make_schema(alloc, directory, tables, heritage)?;
+    let text = Text::new(alloc, lineage, standings, headers)?;
+    let made = make_schema(alloc, &text)?;
     match made {
         Made::Whole(schema) => Ok(Verdict::Sound(schema)),
         Made::TooLong(home) => Ok(Verdict::Refused(CheckFault {
-            place: directory.place(home),
+            place: lineage.directory().place(home),
             kind: CheckKind::Limit,
         })),
     }
 }
 
-fn judge_declarations(alloc: Global, directory: &Directory<'_>) -> Result<Verdict, NoMemory>
+fn judge_text<'t, 'd>(
+    alloc: Global,
+    lineage: &'t Lineage<'t, 'd>,
+    standings: &'t Standings<'t, 'd>,
+    headers: &'t [Header],
+) -> Result<Verdict, NoMemory>
+    requires headers { headers.now ≡ of.headers (text_of lineage.now) }
+    requires one { told.text_of standings.now ≡ text_of lineage.now }
+    ensures { IfOk result (λ v. IsVerdict (text_of lineage.now) v) }
+{
+    let text = psdl_rules::Text::new(headers, lineage);
+    let first = psdl_rules::first_fault(alloc, &text, standings)?;
+    match first {
+        Some(fault) => Ok(Verdict::Refused(fault)),
+        None => schema_of(alloc, lineage, standings, headers),
+    }
+}
+
+fn judge_directory(alloc: Global, directory: &Directory<'_>) -> Result<Verdict, NoMemory>
     requires { AreInTurn (all_of directory.now) }
     ensures { IfOk result (λ v. IsVerdict (all_of directory.now) v) }
 {
-    let mut heritage = heritage_of(alloc, directory)?;
-    let tables = Tables::new(alloc, directory, &mut heritage)?;
-    let first = first_fault(alloc, directory, &tables, &mut heritage)?;
-    match first {
-        Some(fault) => Ok(Verdict::Refused(fault)),
-        None => schema_of(alloc, directory, &tables, &mut heritage),
-    }
+    let headers = headers_of(alloc, directory)?;
+    let lineage = Lineage::new(alloc, directory, &headers)?;
+    let standings = Standings::new(alloc, directory, &headers)?;
+    judge_text(alloc, &lineage, &standings, &headers)
 }
 
 fn judge(alloc: Global, tree: &Tree) -> Result<Verdict, NoMemory>
     ensures { IfOk result (λ v. IsVerdict (all_declarations (tree_view tree.now)) v) }
 {
-    let flat = flatten(alloc, tree)?;
-    let lowered = lowered_names(alloc, &flat.declarations)?;
-    let directory = Directory::new(alloc, flat, &lowered)?;
-    judge_declarations(alloc, &directory)
+    let directory = Directory::new(alloc, tree)?;
+    judge_directory(alloc, &directory)
 }
 
 /// The schema of a text in which nothing is wrong, or the least of its faults, by place and then by kind. Want of memory

@@ -1,108 +1,97 @@
-// The keys of a schema.
-ghost use Rattle.std.specs.Prelude.{◌≡◌, ◌<◌, List, ℕ, length, map, IfOk, IfSome};
-ghost use Rattle.type_layout.specs.Types.{PlainType};
-ghost use Rattle.type_layout.specs.declared.home.HomeNo.{HomeNo as HomeNumber};
-ghost use Rattle.psdl_names.specs.Directories.{all_of};
-ghost use Rattle.psdl_check.specs.HomeNos as nos;
-ghost use Rattle.psdl_check.specs.KeyRecords.{IsLaidOut, key_with};
-ghost use Rattle.psdl_check.specs.KeyTables.{introduced_in, introduced_view};
-ghost use Rattle.psdl_conditions.specs.Lineage.{graph_of};
-ghost use Rattle.psdl_conditions.specs.Owning.{owners};
-ghost use Rattle.psdl_conditions.specs.Schemas as schemas;
-ghost use Rattle.psdl_names.specs.Standings.{standings};
-ghost use Rattle.psdl_names.specs.Tellings.{tell};
-ghost use Rattle.psdl_types.specs.TypeNodes.{Extends};
-ghost use Rattle.psdl_types.specs.TypeTables.{IsTypeTable};
-ghost use Rattle.psdl_check.specs.TypedMembers.{typed_views};
+// Keys as a schema holds them.
+ghost use Rattle.std.specs.Prelude.{◌≡◌, ◌++◌, IfOk, OnOk};
+ghost use Rattle.std.specs.Str.{bytes_eq};
+ghost use Rattle.std.specs.Option.{option_to_list};
+ghost use Rattle.type_layout.specs.NamePlaces.{place_among};
+ghost use Rattle.type_layout.specs.Factories.{numbers_among};
+ghost use Rattle.psdl_lineage.specs.Descent.{names_of};
+ghost use Rattle.psdl_members.specs.Listings.{listed_view};
+ghost use Rattle.psdl_check.specs.inner.TypedMembers.{typed_names};
 
-use crate::home_layouts::{HomeLayout, home_layout, indexes};
-use crate::key_table::{IntroducedKey, KeyTable};
-use crate::laid_homes::LaidHome;
-use psdl_conditions::heritage::Heritage;
-use psdl_names::directory::Directory;
-use psdl_names::told::Told;
-use psdl_types::type_table::TypeTable;
-use pss_base::{Bytes, NoMemory};
+use crate::members::TypedMember;
+use psdl_members::Listed;
+use psdl_tree::Identifier;
+use pss_base::NoMemory;
 use std::alloc::Global;
-use type_layout::{HomeNo, Key, KeyList};
+use type_layout::{HomeNo, Indexes, Key};
 
-// The home that was laid out last, or another one anew.
-fn laid_home<'a>(
-    alloc: Global,
-    directory: &Directory<'a>,
-    told: &[Told],
-    types: &mut TypeTable<'a>,
-    heritage: &mut Heritage,
-    last: Option<LaidHome<'a>>,
-    home: usize,
-) -> Result<LaidHome<'a>, NoMemory>
-    requires home { home < length (all_of directory.now) }
-    requires told { told.now ≡ map tell (standings (all_of directory.now)) }
-    requires types { IsTypeTable (all_of directory.now) types.old }
-    requires graph { heritage.old.graph ≡ graph_of (all_of directory.now) }
-    requires own { heritage.old.own ≡ owners (all_of directory.now) }
-    requires last { IfSome last (IsLaidOut (all_of directory.now) types.old.types) }
-    ensures same { heritage.new ≡ heritage.old }
-    ensures types { IsTypeTable (all_of directory.now) types.new }
-    ensures kept { Extends types.old.types types.new.types }
-    ensures home { IfOk result (λ laid. laid.home ≡ home) }
-    ensures laid { IfOk result (IsLaidOut (all_of directory.now) types.new.types) }
+fn is_called(member: &TypedMember<'_>, name: &[u8]) -> bool
+    ensures { result ≡ bytes_eq name.now member.now.name.now.name }
 {
-    match last {
-        Some(laid) if laid.home == home => Ok(laid),
-        _ => {
-            let layout = home_layout(alloc, directory, told, types, heritage, home)?;
-            Ok(LaidHome { home, layout })
+    name == member.name.name.as_slice()
+}
+
+// The number of the first member of a name. A home has 255 members at most.
+fn place_of(members: &[TypedMember<'_>], name: &[u8]) -> Option<usize>
+    ensures { result ≡ place_among (typed_names members.now) name.now }
+{
+    for place in 0..members.len() {
+        if is_called(&members[place], name) {
+            return Some(place);
         }
     }
+    None
 }
 
-fn key_record(
-    alloc: Global,
-    layout: &HomeLayout<'_>,
-    number: HomeNo,
-    key: &IntroducedKey<'_>,
-) -> Result<Key, NoMemory>
-    ensures { IfOk result (λ k. (types : List PlainType) (homes : ℕ → List HomeNumber) → k ≡ key_with (typed_views types homes layout.now.members.items) number (introduced_view key.now)) }
+// Adds the number of the first member of a name, where there is one.
+fn add_index(
+    found: &mut Indexes,
+    members: &[TypedMember<'_>],
+    name: &Identifier,
+) -> Result<(), NoMemory>
+    ensures { OnOk result (found.new ≡ found.old ++ option_to_list (place_among (typed_names members.now) name.now.name)) }
 {
-    let mut name = Bytes::new(alloc);
-    name.extend(key.listed.name)?;
-    let members = indexes(alloc, layout, &key.listed.members)?;
+    let Some(place) = place_of(members, name.name.as_slice()) else {
+        return Ok(());
+    };
+    match u32::try_from(place) {
+        Ok(index) => found.push(index),
+        Err(_) => Err(NoMemory),
+    }
+}
+
+// Adds the numbers of the first members of these names.
+fn add_indexes(
+    found: &mut Indexes,
+    members: &[TypedMember<'_>],
+    names: &[Identifier],
+) -> Result<(), NoMemory>
+    ensures { OnOk result (found.new ≡ found.old ++ numbers_among (typed_names members.now) (names_of names.now)) }
+{
+    for name in names {
+        add_index(found, members, name)?;
+    }
+    Ok(())
+}
+
+// The numbers of the members in a key's list.
+fn indexes_of(
+    alloc: Global,
+    members: &[TypedMember<'_>],
+    listed: &Listed<'_>,
+) -> Result<Indexes, NoMemory>
+    ensures { IfOk result (λ found. found ≡ numbers_among (typed_names members.now) (listed_view listed.now).members) }
+{
+    let mut found = Indexes::new(alloc);
+    add_indexes(&mut found, members, listed.first)?;
+    add_indexes(&mut found, members, listed.others)?;
+    Ok(found)
+}
+
+/// A key that a home with these members introduces.
+pub(crate) fn key_of(
+    alloc: Global,
+    home: HomeNo,
+    members: &[TypedMember<'_>],
+    listed: &Listed<'_>,
+) -> Result<Key, NoMemory>
+    ensures { IfOk result (λ key. key ≡ record { name = (listed_view listed.now).name; home = home; members = numbers_among (typed_names members.now) (listed_view listed.now).members }) }
+{
+    let name = listed.name.name.copy()?;
+    let members = indexes_of(alloc, members, listed)?;
     Ok(Key {
         name,
-        home: number,
+        home,
         members,
     })
-}
-
-/// All keys with the numbers of their members in the layouts of the homes that introduce them.
-pub(crate) fn key_list<'a>(
-    alloc: Global,
-    directory: &Directory<'a>,
-    told: &[Told],
-    types: &mut TypeTable<'a>,
-    heritage: &mut Heritage,
-    numbers: &[HomeNo],
-    keys: &KeyTable<'_>,
-) -> Result<KeyList, NoMemory>
-    requires told { told.now ≡ map tell (standings (all_of directory.now)) }
-    requires types { IsTypeTable (all_of directory.now) types.old }
-    requires graph { heritage.old.graph ≡ graph_of (all_of directory.now) }
-    requires own { heritage.old.own ≡ owners (all_of directory.now) }
-    requires numbers { numbers.now ≡ nos.home_nos (all_of directory.now) }
-    requires keys { introduced_in keys.now ≡ schemas.all_introduced (all_of directory.now) }
-    ensures same { heritage.new ≡ heritage.old }
-    ensures types { IsTypeTable (all_of directory.now) types.new }
-    ensures kept { Extends types.old.types types.new.types }
-    ensures keys { IfOk result (λ list. list ≡ map (schemas.key_of (all_of directory.now) (standings (all_of directory.now))) (schemas.all_introduced (all_of directory.now))) }
-{
-    let mut list = KeyList::new(alloc);
-    let mut last = None;
-    for key in &keys.keys {
-        let laid = laid_home(alloc, directory, told, types, heritage, last, key.home)?;
-        let record = key_record(alloc, &laid.layout, numbers[key.home], key)?;
-        list.push(record)?;
-        last = Some(laid);
-    }
-    Ok(list)
 }

@@ -1,27 +1,26 @@
 // The members of layouts: how long their lines in the shape are, and what a schema holds.
-ghost use Rattle.std.specs.Prelude.{◌≡◌, ◌<◌, ◌+◌, ◌++◌, ◌∷◌, [], length, IsTrue, IfOk, OnOk};
+ghost use Rattle.std.specs.Prelude.{◌≡◌, ◌+◌, ◌++◌, ◌∷◌, [], length, IfOk, OnOk};
 ghost use Rattle.std.specs.List.{flat_map};
 ghost use Rattle.type_layout.specs.ShapeText.{member_line};
 ghost use Rattle.type_layout.specs.Views.{plain_type};
-ghost use Rattle.psdl_types.specs.LineLengths.{line_length};
-ghost use Rattle.psdl_check.specs.MemberLines.{members_behind};
-ghost use Rattle.psdl_check.specs.Referring.{homes_in};
-ghost use Rattle.psdl_types.specs.TextLengths.{cut, text_length};
-ghost use Rattle.psdl_check.specs.TypedMembers.{type_by, typed_view, typed_views, is_there, AreThere};
+ghost use Rattle.psdl_standings.specs.TextLengths.{cut, text_length};
+ghost use Rattle.psdl_check.specs.inner.LineLengths.{line_length};
+ghost use Rattle.psdl_check.specs.inner.Lists.{homes_in};
+ghost use Rattle.psdl_check.specs.inner.MemberLines.{members_behind};
+ghost use Rattle.psdl_check.specs.inner.TypedMembers.{type_by, typed_view, typed_views, typed_names, IsTyped, AreTyped};
 
 use crate::line_lengths::{member_line_length, reference_length};
+use crate::members::{MemberType, TypedMember};
 use crate::referents::Referents;
-use crate::typed_members::{MemberType, TypedMember};
-use psdl_types::text_length::TextLength;
-use psdl_types::types::Types;
+use psdl_standings::{TextLength, Types};
 use pss_base::NoMemory;
 use std::alloc::Global;
-use type_layout::{HomeNo, HomeNos, Member, Members, Ty};
+use type_layout::{HomeNo, HomeNos, Member, MemberNames, Members, Names, Ty};
 
 // How long the text of a member's type is.
 fn type_length(types: &Types<'_>, referents: &Referents, member_type: MemberType) -> TextLength
-    requires { IsTrue (is_there (length types.now) referents.now.targets member_type) }
-    ensures { result.0 ≡ text_length (type_by types.now (homes_in referents.now.lists) member_type) }
+    requires { IsTyped (length types.now) member_type }
+    ensures { result.0 ≡ text_length (type_by types.now (homes_in referents.now) member_type) }
 {
     match member_type {
         MemberType::Plain(number) => types.length(number),
@@ -31,8 +30,8 @@ fn type_length(types: &Types<'_>, referents: &Referents, member_type: MemberType
 
 // How long a member's line is.
 fn line_length(types: &Types<'_>, referents: &Referents, member: &TypedMember<'_>) -> TextLength
-    requires { IsTrue (is_there (length types.now) referents.now.targets member.now.member_type) }
-    ensures { result.0 ≡ line_length (member_line (typed_view types.now (homes_in referents.now.lists) member.now)) }
+    requires { IsTyped (length types.now) member.now.member_type }
+    ensures { result.0 ≡ line_length (member_line (typed_view types.now (homes_in referents.now) member.now)) }
 {
     let length = type_length(types, referents, member.member_type);
     member_line_length(member.name.name.as_slice(), length)
@@ -45,8 +44,8 @@ fn with_lines(
     members: &[TypedMember<'_>],
     front: TextLength,
 ) -> TextLength
-    requires { AreThere (length types.now) referents.now.targets members.now }
-    ensures { result.0 ≡ members_behind types.now (homes_in referents.now.lists) front.0 members.now }
+    requires { AreTyped (length types.now) members.now }
+    ensures { result.0 ≡ members_behind types.now (homes_in referents.now) front.0 members.now }
 {
     let mut whole = front;
     for member in members {
@@ -62,8 +61,8 @@ pub(crate) fn with_members(
     members: &[TypedMember<'_>],
     front: TextLength,
 ) -> TextLength
-    requires { AreThere (length types.now) referents.now.targets members.now }
-    ensures { result.0 ≡ cut (front.0 + length (flat_map member_line (typed_views types.now (homes_in referents.now.lists) members.now))) }
+    requires { AreTyped (length types.now) members.now }
+    ensures { result.0 ≡ cut (front.0 + length (flat_map member_line (typed_views types.now (homes_in referents.now) members.now))) }
 {
     with_lines(types, referents, members, front.with(0))
 }
@@ -85,8 +84,8 @@ fn built_type(
     referents: &Referents,
     member_type: MemberType,
 ) -> Result<Ty, NoMemory>
-    requires { IsTrue (is_there (length types.now) referents.now.targets member_type) }
-    ensures { IfOk result (λ t. plain_type t ≡ type_by types.now (homes_in referents.now.lists) member_type) }
+    requires { IsTyped (length types.now) member_type }
+    ensures { IfOk result (λ t. plain_type t ≡ type_by types.now (homes_in referents.now) member_type) }
 {
     match member_type {
         MemberType::Plain(number) => types.build(alloc, number),
@@ -103,8 +102,8 @@ fn add_member(
     list: &mut Members,
     member: &TypedMember<'_>,
 ) -> Result<(), NoMemory>
-    requires { IsTrue (is_there (length types.now) referents.now.targets member.now.member_type) }
-    ensures { OnOk result (list.new ≡ list.old ++ typed_view types.now (homes_in referents.now.lists) member.now ∷ []) }
+    requires { IsTyped (length types.now) member.now.member_type }
+    ensures { OnOk result (list.new ≡ list.old ++ typed_view types.now (homes_in referents.now) member.now ∷ []) }
 {
     let ty = built_type(alloc, types, referents, member.member_type)?;
     let name = member.name.name.copy()?;
@@ -123,12 +122,34 @@ pub(crate) fn member_list(
     referents: &Referents,
     members: &[TypedMember<'_>],
 ) -> Result<Members, NoMemory>
-    requires { AreThere (length types.now) referents.now.targets members.now }
-    ensures { IfOk result (λ list. list ≡ typed_views types.now (homes_in referents.now.lists) members.now) }
+    requires { AreTyped (length types.now) members.now }
+    ensures { IfOk result (λ list. list ≡ typed_views types.now (homes_in referents.now) members.now) }
 {
     let mut list = Members::new(alloc);
     for member in members {
         add_member(alloc, types, referents, &mut list, member)?;
     }
     Ok(list)
+}
+
+// The names of members.
+fn names_of(alloc: Global, members: &[TypedMember<'_>]) -> Result<Names, NoMemory>
+    ensures { IfOk result (λ names. names ≡ typed_names members.now) }
+{
+    let mut names = Names::new(alloc);
+    for member in members {
+        names.push(member.name.name.copy()?)?;
+    }
+    Ok(names)
+}
+
+/// The names of members, which are found by them.
+pub(crate) fn member_names(
+    alloc: Global,
+    members: &[TypedMember<'_>],
+) -> Result<MemberNames, NoMemory>
+    ensures { IfOk result (λ names. names ≡ typed_names members.now) }
+{
+    let names = names_of(alloc, members)?;
+    MemberNames::new(alloc, names)
 }

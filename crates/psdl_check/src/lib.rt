@@ -1,26 +1,25 @@
-//! The checks of a PSDL text, and the schema of a text that passes them.
+//! The checks of a PSDL text, and the schema of a text that passes them: its homes one by one, each measured as it is made.
 #![tactic(auto)]
 
-mod chaining;
 mod checks;
-mod factory_records;
-mod home_layouts;
-mod home_nos;
-mod home_parts;
-mod introduced_keys;
-mod key_chains;
-mod key_nos;
+mod home_factories;
+mod home_keys;
+mod home_numbers;
+mod homes;
+mod key_lines;
 mod key_records;
-mod key_table;
-mod laid_homes;
+mod key_rows;
+mod keys;
 mod layout_members;
+mod layouts;
 mod line_lengths;
-mod making;
+mod members;
+mod numbering;
 mod provided_homes;
 mod referents;
+mod schemas;
 mod scoped_names;
-mod targets;
-mod typed_members;
+mod text;
 
 pub use checks::check;
-pub use psdl_names::fault::{CheckFault, CheckKind};
+pub use psdl_directory::{CheckFault, CheckKind};

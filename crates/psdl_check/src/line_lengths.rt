@@ -1,10 +1,10 @@
 // How many octets the lines of the schema's shape have.
 ghost use Rattle.std.specs.Prelude.{◌≡◌, map};
 ghost use Rattle.type_layout.specs.Types.{RefTo};
-ghost use Rattle.psdl_types.specs.TextLengths.{cut, text_length};
-ghost use Rattle.psdl_types.specs.LineLengths.{numbers_length, ended_length, length_of_member, length_of_home, length_of_key};
+ghost use Rattle.psdl_standings.specs.TextLengths.{text_length};
+ghost use Rattle.psdl_check.specs.inner.LineLengths.{numbers_length, length_of_member, length_of_home, length_of_key};
 
-use psdl_types::text_length::TextLength;
+use psdl_standings::TextLength;
 use type_layout::HomeNo;
 
 // With the numbers of homes behind what stands in front, each with what separates it from the next.

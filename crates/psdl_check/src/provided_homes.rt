@@ -1,69 +1,63 @@
 // What the catalogs of a text provide.
-ghost use Rattle.std.specs.Prelude.{◌≡◌, ◌<◌, ◌++◌, length, IfOk, IfSome, OnOk};
+ghost use Rattle.std.specs.Prelude.{◌≡◌, ◌<◌, ◌++◌, length, map, IfOk, IfSome, OnOk};
 ghost use Rattle.std.specs.List.{flat_map, enumerate_from};
 ghost use Rattle.std.specs.Option.{option_and_then};
 ghost use Rattle.psdl_tree.specs.Views.{provision_view};
-ghost use Rattle.psdl_names.specs.Descent as descent;
-ghost use Rattle.psdl_names.specs.Directories.{all_of};
-ghost use Rattle.psdl_check.specs.HomeNos as nos;
-ghost use Rattle.psdl_names.specs.Lookup as lookups;
-ghost use Rattle.psdl_names.specs.Lookup.{at};
-ghost use Rattle.psdl_conditions.specs.Providing.{AreProviders};
-ghost use Rattle.psdl_conditions.specs.Schemas as schemas;
+ghost use Rattle.psdl_directory.specs.Lookup.{at, defined};
+ghost use Rattle.psdl_directory.specs.Parts.{provided as provided_in};
+ghost use Rattle.psdl_directory.specs.inner.Nodes.{what_view};
+ghost use Rattle.psdl_lineage.specs.Descent as descent;
+ghost use Rattle.psdl_check.specs.Schemas as schemas;
+ghost use Rattle.psdl_check.specs.inner.Texts.{text_in};
 
 use crate::scoped_names::scoped_name;
-use psdl_names::directory::Directory;
-use psdl_names::meant::defined;
-use psdl_names::parts::provisions::provided;
+use crate::text::Text;
+use psdl_directory::{DeclarationNo, Use, What};
 use psdl_tree::Provision;
-use psdl_types::copied::copied;
 use pss_base::NoMemory;
 use std::alloc::Global;
-use type_layout::{HomeNo, Provided, ProvidedList};
+use type_layout::{Provided, ProvidedList};
 
-// The concrete home that provides what a catalog names.
-fn provider_of(
-    alloc: Global,
-    directory: &Directory<'_>,
-    providers: &[Option<usize>],
-    number: usize,
-    provision: &Provision,
-) -> Result<Option<usize>, NoMemory>
-    requires number { number < length (all_of directory.now) }
-    requires providers { AreProviders (all_of directory.now) providers.now }
-    ensures provider { IfOk result (λ r. r ≡ option_and_then (descent.provider (all_of directory.now)) (lookups.defined (all_of directory.now) number (provision_view provision.now).home)) }
-    ensures there { IfOk result (λ r. IfSome r (λ h. h < length (all_of directory.now))) }
+// What a catalog provides.
+fn provisions_in<'t>(what: What<'t>) -> &'t [Provision]
+    ensures { map provision_view result.now ≡ provided_in (what_view what.entry) }
 {
-    let definition = defined(alloc, directory, number, &provision.home)?;
-    match definition {
-        Some(home) => Ok(providers[home]),
-        None => Ok(None),
+    match what {
+        What::Catalog(provisions) => provisions,
+        _ => &[],
+    }
+}
+
+// The concrete home that provides what a name means.
+fn provider_of(text: &Text, meant: Option<DeclarationNo>) -> Option<DeclarationNo>
+    requires { IfSome meant (λ home. home < length (text_in text.now)) }
+    ensures { result ≡ option_and_then (descent.provider (text_in text.now)) meant }
+{
+    match meant {
+        Some(home) => text.lineage.provider(home),
+        None => None,
     }
 }
 
 // Adds what a catalog provides under one name.
 fn add_provided(
     alloc: Global,
-    directory: &Directory<'_>,
-    providers: &[Option<usize>],
-    numbers: &[HomeNo],
+    text: &Text,
     list: &mut ProvidedList,
-    number: usize,
+    catalog: DeclarationNo,
     provision: &Provision,
+    meant: &Use,
 ) -> Result<(), NoMemory>
-    requires number { number < length (all_of directory.now) }
-    requires providers { AreProviders (all_of directory.now) providers.now }
-    requires numbers { numbers.now ≡ nos.home_nos (all_of directory.now) }
-    ensures { OnOk result (list.new ≡ list.old ++ schemas.provided_home (all_of directory.now) number (at (all_of directory.now) number) (provision_view provision.now)) }
+    requires { meant.now.defined ≡ defined (text_in text.now) catalog (provision_view provision.now).home }
+    ensures { OnOk result (list.new ≡ list.old ++ schemas.provided_home (text_in text.now) catalog (at (text_in text.now) catalog) (provision_view provision.now)) }
 {
-    let provider = provider_of(alloc, directory, providers, number, provision)?;
-    let Some(home) = provider else {
+    let Some(home) = provider_of(text, meant.defined) else {
         return Ok(());
     };
     list.push(Provided {
-        catalog: scoped_name(alloc, directory, number)?,
-        name: copied(alloc, provision.name.name.as_slice())?,
-        home: numbers[home],
+        catalog: scoped_name(alloc, text.directory(), catalog)?,
+        name: provision.name.name.copy()?,
+        home: text.home_no(home),
     })?;
     Ok(())
 }
@@ -71,40 +65,34 @@ fn add_provided(
 // Adds all that a catalog provides.
 fn add_catalog(
     alloc: Global,
-    directory: &Directory<'_>,
-    providers: &[Option<usize>],
-    numbers: &[HomeNo],
+    text: &Text,
     list: &mut ProvidedList,
-    number: usize,
+    catalog: DeclarationNo,
 ) -> Result<(), NoMemory>
-    requires number { number < length (all_of directory.now) }
-    requires providers { AreProviders (all_of directory.now) providers.now }
-    requires numbers { numbers.now ≡ nos.home_nos (all_of directory.now) }
-    ensures { OnOk result (list.new ≡ list.old ++ schemas.provided_homes (all_of directory.now) (number, at (all_of directory.now) number)) }
+    ensures { OnOk result (list.new ≡ list.old ++ schemas.provided_homes (text_in text.now) (catalog, at (text_in text.now) catalog)) }
 {
-    let provisions = provided(directory.what(number));
-    for provision in provisions {
+    let provisions = provisions_in(text.directory().what(catalog));
+    let meant = text.provided(catalog);
+    for place in 0..provisions.len() {
         add_provided(
-            alloc, directory, providers, numbers, list, number, provision,
+            alloc,
+            text,
+            list,
+            catalog,
+            &provisions[place],
+            &meant[place],
         )?;
     }
     Ok(())
 }
 
 /// The homes that all catalogs provide, in the order of the text.
-pub(crate) fn provided_homes(
-    alloc: Global,
-    directory: &Directory<'_>,
-    providers: &[Option<usize>],
-    numbers: &[HomeNo],
-) -> Result<ProvidedList, NoMemory>
-    requires providers { AreProviders (all_of directory.now) providers.now }
-    requires numbers { numbers.now ≡ nos.home_nos (all_of directory.now) }
-    ensures { IfOk result (λ provided. provided ≡ flat_map (schemas.provided_homes (all_of directory.now)) (enumerate_from 0 (all_of directory.now))) }
+pub(crate) fn provided_homes(alloc: Global, text: &Text) -> Result<ProvidedList, NoMemory>
+    ensures { IfOk result (λ provided. provided ≡ flat_map (schemas.provided_homes (text_in text.now)) (enumerate_from 0 (text_in text.now))) }
 {
     let mut list = ProvidedList::new(alloc);
-    for number in 0..directory.len() {
-        add_catalog(alloc, directory, providers, numbers, &mut list, number)?;
+    for index in 0..text.directory().len() {
+        add_catalog(alloc, text, &mut list, DeclarationNo::new(index))?;
     }
     Ok(list)
 }

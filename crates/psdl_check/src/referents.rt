@@ -1,157 +1,190 @@
-// The homes that references may have: lists only where a reference is, since many types may derive from one another.
-ghost use Rattle.std.specs.Prelude.{◌≡◌, ◌<◌, ◌+◌, ◌==◌, ◌&&◌, [], ℕ, true, false, length, IfOk, OnOk};
+// The homes that the references of some members may have. Only what these members refer to has a list: many types may derive
+// from one another.
+ghost use Rattle.std.specs.Prelude.{◌≡◌, ◌<◌, ◌==◌, ◌||◌, ℕ, false, filter, length, map, IfOk, OnOk};
 ghost use Rattle.std.proofs.Common.{get_or};
-ghost use Rattle.psdl_check.specs.Conforming.{has_type, IsPutLast};
-ghost use Rattle.psdl_names.specs.Descent as descent;
-ghost use Rattle.psdl_names.specs.Descent.{has, without_repeats};
-ghost use Rattle.psdl_names.specs.Directories.{all_of};
-ghost use Rattle.psdl_conditions.specs.Lineage.{graph_of};
-ghost use Rattle.psdl_check.specs.Referring.{homes_in, lists_in, AreReferents};
-ghost use Rattle.psdl_conditions.specs.Schemas as schemas;
+ghost use Rattle.std.specs.List.{list_any};
+ghost use Rattle.type_layout.specs.Schemas.{given};
+ghost use Rattle.psdl_lineage.specs.Descent.{concrete_homes, type_of_home};
+ghost use Rattle.psdl_lineage.specs.Graph.{conforms_in};
+ghost use Rattle.psdl_check.specs.Schemas as schemas;
+ghost use Rattle.psdl_check.specs.inner.Rising.{IsRising};
+ghost use Rattle.psdl_check.specs.inner.Texts.{text_in};
 
-use crate::targets::targets;
-use psdl_conditions::conformity::type_of_home;
-use psdl_conditions::heritage::Heritage;
-use psdl_conditions::tables::heritage_with;
-use psdl_names::directory::Directory;
+use crate::members::{MemberType, TypedMember};
+use crate::text::Text;
+use psdl_directory::DeclarationNo;
+use psdl_lineage::Graph;
 use pss_base::NoMemory;
 use std::alloc::Global;
 use std::marker::Model;
 use type_layout::HomeNo;
 
-/// Which definitions some reference means, and for each of them the homes that a reference to it may have.
+/// The homes that a reference to a definition may have.
+#[derive(Drop)]
+pub(crate) struct HomesOf {
+    definition: usize,
+    homes: Vec<HomeNo>,
+}
+
+/// The homes that references may have, for each definition that members refer to.
 #[derive(Drop)]
 pub(crate) struct Referents {
-    targets: Vec<bool>,
-    lists: Vec<Vec<HomeNo>>,
+    lists: Vec<HomesOf>,
 }
 
 impl Model for Referents {
-    ghost use Rattle.std.specs.Prelude.{◌≡◌, length};
-    ghost use Rattle.psdl_check.specs.Referring.{Referring, lists_in};
+    ghost use Rattle.std.specs.Prelude.{List, ℕ};
+    ghost use Rattle.type_layout.specs.declared.home.HomeNo.{HomeNo};
+    ghost use Rattle.psdl_check.specs.inner.Lists.{lists_in};
 
-    ghost Value = { Referring };
+    ghost Value = { List (ℕ × List HomeNo) };
 
-    ghost view = { λ r. record { targets = r.targets.items; lists = lists_in r.lists.items } };
-
-    ghost invariant = { λ r. length r.targets.items ≡ length r.lists.items };
+    ghost view = { λ r. lists_in r.lists.items };
 }
 
-// An empty list for each of so many declarations.
-fn empty_lists(alloc: Global, count: usize) -> Result<Vec<Vec<HomeNo>>, NoMemory>
-    ensures sized { IfOk result (λ v. length v.items ≡ count) }
-    ensures none { IfOk result (λ v. (n : ℕ) → homes_in (lists_in v.items) n ≡ []) }
+fn is_set(flags: &[bool], number: usize) -> bool
+    ensures { result ≡ get_or flags.now number false }
 {
-    let mut lists = Vec::new(alloc);
-    for _ in 0..count {
-        lists.push(Vec::new(alloc))?;
-    }
-    Ok(lists)
-}
-
-// The number behind another.
-fn next(number: HomeNo) -> Result<HomeNo, NoMemory>
-    ensures { IfOk result (λ n. n.0 ≡ number.0 + 1) }
-{
-    match number.0.checked_add(1) {
-        Some(next) => Ok(HomeNo(next)),
-        None => Err(NoMemory),
+    match flags.get(number) {
+        Some(flag) => *flag,
+        None => false,
     }
 }
 
-// Puts a home last in one list.
-fn put_last(lists: &mut Vec<Vec<HomeNo>>, number: usize, home: HomeNo) -> Result<(), NoMemory>
-    requires { number < length lists.old.items }
-    ensures sized { OnOk result (length lists.new.items ≡ length lists.old.items) }
-    ensures lists { OnOk result (IsPutLast lists.old.items lists.new.items (λ n. number == n) home) }
-{
-    lists[number].push(home)?;
-    Ok(())
-}
-
-// Puts a home last in the list of each of these.
-fn put_each(lists: &mut Vec<Vec<HomeNo>>, numbers: &[usize], home: HomeNo) -> Result<(), NoMemory>
-    requires below { (n : ℕ) → has numbers.now n ≡ true → n < length lists.old.items }
-    requires distinct { without_repeats (λ a b. a == b) numbers.now ≡ numbers.now }
-    ensures sized { OnOk result (length lists.new.items ≡ length lists.old.items) }
-    ensures lists { OnOk result (IsPutLast lists.old.items lists.new.items (has numbers.now) home) }
+fn is_one_set(flags: &[bool], numbers: &[usize]) -> bool
+    ensures { result ≡ list_any (λ n. get_or flags.now n false) numbers.now }
 {
     for number in numbers {
-        put_last(lists, *number, home)?;
+        if is_set(flags, *number) {
+            return true;
+        }
     }
-    Ok(())
+    false
 }
 
-// Puts the number of a home last in the list of each marked type to which its own conforms.
-fn put_home(
-    alloc: Global,
-    directory: &Directory<'_>,
-    marked: &mut Heritage,
-    lists: &mut Vec<Vec<HomeNo>>,
-    home: usize,
-    number: HomeNo,
-) -> Result<(), NoMemory>
-    requires home { home < length (all_of directory.now) }
-    requires graph { marked.old.graph ≡ graph_of (all_of directory.now) }
-    requires sized { length lists.old.items ≡ length (all_of directory.now) }
-    ensures same { marked.new ≡ marked.old }
-    ensures sized { OnOk result (length lists.new.items ≡ length lists.old.items) }
-    ensures lists { OnOk result (IsPutLast lists.old.items lists.new.items (λ n. get_or marked.old.own n false && has_type (all_of directory.now) home n) number) }
+// Whether a declaration is one, or names one of its heirs.
+fn is_heir(heirs: &[bool], parents: &[usize], number: usize, to: usize) -> bool
+    ensures { result ≡ ((number == to) || list_any (λ p. get_or heirs.now p false) parents.now) }
 {
-    let home_type = type_of_home(alloc, directory, home)?;
-    let Some(found) = home_type else {
-        return Ok(());
-    };
-    let types = marked.contributors(alloc, found)?;
-    put_each(lists, &types, number)?;
-    Ok(())
+    number == to || is_one_set(heirs, parents)
 }
 
-// For each marked declaration the homes whose type conforms to it, rising.
-fn lists_of(
-    alloc: Global,
-    directory: &Directory<'_>,
-    marked: &mut Heritage,
-    homes: &[usize],
-) -> Result<Vec<Vec<HomeNo>>, NoMemory>
-    requires homes { homes.now ≡ descent.concrete_homes (all_of directory.now) }
-    requires graph { marked.old.graph ≡ graph_of (all_of directory.now) }
-    ensures same { marked.new ≡ marked.old }
-    ensures sized { IfOk result (λ v. length v.items ≡ length (all_of directory.now)) }
-    ensures lists { IfOk result (λ v. (n : ℕ) → get_or marked.old.own n false ≡ true → homes_in (lists_in v.items) n ≡ schemas.referents (all_of directory.now) n) }
+// Which declarations conform to one. Each stands behind those that it names.
+fn heirs_of(alloc: Global, graph: &Graph, to: usize) -> Result<Vec<bool>, NoMemory>
+    requires { IsRising graph.now }
+    ensures { IfOk result (λ v. (n : ℕ) → n < length graph.now → get_or v.items n false ≡ conforms_in graph.now n to) }
 {
-    let mut lists = empty_lists(alloc, directory.len())?;
-    let mut last = HomeNo(0);
-    for home in homes {
-        let number = next(last)?;
-        put_home(alloc, directory, marked, &mut lists, *home, number)?;
-        last = number;
+    let mut heirs = vec![in alloc; false; graph.len()]?;
+    for number in 0..graph.len() {
+        let conforms = is_heir(&heirs, graph.parents(number), number, to);
+        heirs[number] = conforms;
     }
-    Ok(lists)
+    Ok(heirs)
+}
+
+// Whether the type of a home is one of these.
+fn is_of_heir(text: &Text, heirs: &[bool], home: DeclarationNo) -> bool
+    ensures { result ≡ given (type_of_home (text_in text.now) home) false (λ t. get_or heirs.now t false) }
+{
+    match text.lineage.type_of_home(home) {
+        Some(home_type) => is_set(heirs, home_type.index()),
+        None => false,
+    }
+}
+
+// The homes whose types are among these, rising.
+fn homes_of(alloc: Global, text: &Text, heirs: &[bool]) -> Result<Vec<HomeNo>, NoMemory>
+    ensures { IfOk result (λ v. v.items ≡ map (schemas.home_no (text_in text.now)) (filter (λ h. given (type_of_home (text_in text.now) h) false (λ t. get_or heirs.now t false)) (concrete_homes (text_in text.now)))) }
+{
+    let mut homes = Vec::new(alloc);
+    for place in 0..text.lineage.home_count() {
+        let Some(home) = text.lineage.home(place) else {
+            return Ok(homes);
+        };
+        if is_of_heir(text, heirs, home) {
+            homes.push(text.home_no(home))?;
+        }
+    }
+    Ok(homes)
+}
+
+// The homes that a reference to a definition may have.
+fn referents_of(alloc: Global, text: &Text, definition: usize) -> Result<Vec<HomeNo>, NoMemory>
+    ensures { IfOk result (λ v. v.items ≡ schemas.referents (text_in text.now) definition) }
+{
+    let heirs = heirs_of(alloc, text.graph(), definition)?;
+    let homes = homes_of(alloc, text, &heirs)?;
+    Ok(homes)
 }
 
 impl Referents {
-    /// For each definition that a reference means the homes whose type conforms to it, rising.
+    ghost use Rattle.std.specs.Prelude.{◌≡◌, ◌++◌, ◌∷◌, [], ℕ, false, true, IfOk, OnOk};
+    ghost use Rattle.psdl_check.specs.inner.Lists.{homes_in, is_held};
+    ghost use Rattle.psdl_check.specs.inner.Referring.{is_reference_to, AreReferents, AreTrue};
+    ghost use Rattle.psdl_check.specs.inner.Texts.{text_in};
+
+    // Whether there is a list for a definition.
+    fn holds(&self, definition: usize) -> bool
+        ensures { result ≡ is_held self.now definition }
+    {
+        for list in &self.lists {
+            if list.definition == definition {
+                return true;
+            }
+        }
+        false
+    }
+
+    // With a list for a definition that has none.
+    fn add(&mut self, alloc: Global, text: &Text, definition: usize) -> Result<(), NoMemory>
+        requires new { is_held self.old definition ≡ false }
+        ensures { OnOk result (self.new ≡ self.old ++ (definition, schemas.referents (text_in text.now) definition) ∷ []) }
+    {
+        let homes = referents_of(alloc, text, definition)?;
+        self.lists.push(HomesOf { definition, homes })?;
+        Ok(())
+    }
+
+    // With a list for what a member refers to.
+    fn learn(&mut self, alloc: Global, text: &Text, member_type: MemberType) -> Result<(), NoMemory>
+        ensures right { OnOk result (AreTrue (text_in text.now) self.old → AreTrue (text_in text.now) self.new) }
+        ensures kept { OnOk result ((n : ℕ) → is_held self.old n ≡ true → is_held self.new n ≡ true) }
+        ensures held { OnOk result ((n : ℕ) → is_reference_to n member_type ≡ true → is_held self.new n ≡ true) }
+    {
+        if let MemberType::Reference(definition) = member_type {
+            if !self.holds(definition) {
+                self.add(alloc, text, definition)?;
+            }
+        }
+        Ok(())
+    }
+
+    /// Those of what these members refer to.
     pub(crate) fn new(
         alloc: Global,
-        directory: &Directory<'_>,
-        homes: &[usize],
+        text: &Text,
+        members: &[TypedMember<'_>],
     ) -> Result<Referents, NoMemory>
-        requires homes { homes.now ≡ descent.concrete_homes (all_of directory.now) }
-        ensures { IfOk result (λ r. AreReferents (all_of directory.now) r) }
+        ensures { IfOk result (λ r. AreReferents (text_in text.now) members.now r) }
     {
-        let targets = targets(alloc, directory)?;
-        let marks = Vec::from_slice(alloc, &targets)?;
-        let mut marked = heritage_with(alloc, directory, marks)?;
-        let lists = lists_of(alloc, directory, &mut marked, homes)?;
-        Ok(Referents { targets, lists })
+        let mut referents = Referents {
+            lists: Vec::new(alloc),
+        };
+        for member in members {
+            referents.learn(alloc, text, member.member_type)?;
+        }
+        Ok(referents)
     }
 
     /// The homes that a reference to a definition may have.
     pub(crate) fn of(&self, definition: usize) -> &[HomeNo]
-        requires { get_or self.now.targets definition false ≡ true }
-        ensures { result.now ≡ homes_in self.now.lists definition }
+        ensures { result.now ≡ homes_in self.now definition }
     {
-        &self.lists[definition]
+        for list in &self.lists {
+            if list.definition == definition {
+                return list.homes.as_slice();
+            }
+        }
+        &[]
     }
 }

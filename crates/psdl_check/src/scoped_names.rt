@@ -1,10 +1,10 @@
 // The names of homes and catalogs with those of the modules round them.
-ghost use Rattle.std.specs.Prelude.{◌≡◌, ◌<◌, [], length, map, IfOk};
-ghost use Rattle.psdl_names.specs.Directories.{all_of};
-ghost use Rattle.psdl_names.specs.Lookup.{at};
-ghost use Rattle.psdl_conditions.specs.Schemas as schemas;
+ghost use Rattle.std.specs.Prelude.{◌≡◌, ◌<◌, [], map, IfOk};
+ghost use Rattle.psdl_directory.specs.Directories.{all_of};
+ghost use Rattle.psdl_directory.specs.Lookup.{at};
+ghost use Rattle.psdl_check.specs.Schemas as schemas;
 
-use psdl_names::directory::Directory;
+use psdl_directory::{DeclarationNo, Directory};
 use pss_base::{Bytes, NoMemory};
 use std::alloc::Global;
 
@@ -26,9 +26,8 @@ fn prefix(alloc: Global, modules: &[&[u8]]) -> Result<Bytes, NoMemory>
 pub(crate) fn scoped_name(
     alloc: Global,
     directory: &Directory<'_>,
-    number: usize,
+    number: DeclarationNo,
 ) -> Result<Bytes, NoMemory>
-    requires { number < length (all_of directory.now) }
     ensures { IfOk result (λ name. name ≡ schemas.scoped_name (at (all_of directory.now) number)) }
 {
     let modules = directory.modules(alloc, number)?;

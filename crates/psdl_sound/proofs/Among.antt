@@ -5,7 +5,7 @@ use Rattle.std.specs.Option.{option_to_list}
 use Rattle.std.proofs.lemmas.Bool.{and_from, and_parts, or_left, or_right, false_from_ne_true, not-true}
 use Rattle.std.proofs.lemmas.List.{map-append}
 use Rattle.type_layout.specs.Sound.{are_distinct}
-use Rattle.psdl_names.specs.Descent.{without_known, without_repeats}
+use Rattle.psdl_lineage.specs.Descent.{without_known, without_repeats}
 
 -- ---- what stands in a list
 

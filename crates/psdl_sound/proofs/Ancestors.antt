@@ -4,18 +4,18 @@ use Rattle.std.specs.List.{flat_map}
 use Rattle.std.specs.Option.{option_to_list}
 use Rattle.std.proofs.lemmas.Bool.{eqb-true, lt-ltb, ltb-true}
 use Rattle.psdl_tree.specs.Trees.{Name}
-use Rattle.psdl_names.specs.Declarations.{What, IsModule, IsConstant, IsAlias, IsStruct, IsEnumeration, IsEnumerator, IsAbstractType, IsConcreteType, IsAbstractHome, IsConcreteHome, IsCatalog, Declaration}
-use Rattle.psdl_names.specs.Descent.{has, same_sort, definitions_of, ancestry}
-use Rattle.psdl_conditions.specs.Faults.{first_fault}
-use Rattle.psdl_conditions.specs.Lineage.{parents_in, ancestry_in, graph_of}
-use Rattle.psdl_names.specs.Lookup.{at, defined}
-use Rattle.psdl_names.specs.Parts.{is_abstract_type, is_abstract_home, bases, implemented, parents}
-use Rattle.psdl_conditions.proofs.Ancestry.{ancestry_is, length-graph_of, parents_are}
-use Rattle.psdl_conditions.proofs.Low.{AreLow, joined_of, same_on}
-use Rattle.psdl_conditions.proofs.Repeats.{once}
+use Rattle.psdl_directory.specs.Declarations.{What, IsModule, IsConstant, IsAlias, IsStruct, IsEnumeration, IsEnumerator, IsAbstractType, IsConcreteType, IsAbstractHome, IsConcreteHome, IsCatalog, Declaration}
+use Rattle.psdl_lineage.specs.Descent.{has, same_sort, definitions_of, ancestry}
+use Rattle.psdl_check.specs.Faults.{first_fault}
+use Rattle.psdl_lineage.specs.Graph.{parents_in, ancestry_in, graph_of}
+use Rattle.psdl_directory.specs.Lookup.{at, defined}
+use Rattle.psdl_directory.specs.Parts.{is_abstract_type, is_abstract_home, bases, implemented, parents}
+use Rattle.psdl_lineage.proofs.Texts.{ancestry_is, length-graph_of, parents_are}
+use Rattle.psdl_lineage.proofs.Low.{AreLow, joined_of, same_on}
+use Rattle.psdl_lineage.proofs.Repeats.{once}
 use Rattle.psdl_sound.proofs.Among.{Among, among_front, among_behind, among_parts, among_flat, among_from, among_chosen, among_passing, among_some, among_fresh, among_once}
-use Rattle.psdl_sound.proofs.Faultless.{no_fault_at}
-use Rattle.psdl_sound.proofs.Memberlists.{has_among}
+use Rattle.psdl_sound.proofs.FaultlessTexts.{no_fault_at}
+use Rattle.psdl_sound.proofs.MemberLists.{has_among}
 use Rattle.psdl_sound.proofs.Parents.{IsOfKind, Stands, IsAbove, base_stands, implemented_stands, above_is, abstract_type_kind, abstract_home_kind, option_among}
 
 -- ---- parents

@@ -12,22 +12,23 @@ use Rattle.type_layout.specs.declared.schema.Home.{Home}
 use Rattle.type_layout.specs.declared.schema.Provided.{Provided}
 use Rattle.type_layout.specs.Schemas.{nth, home_at}
 use Rattle.type_layout.specs.Sound.{same_provided, are_distinct, is_name}
-use Rattle.psdl_names.specs.declared.fault.CheckKind.TheVariants.{Redefined}
-use Rattle.psdl_names.specs.Declarations.{What, IsModule, IsConstant, IsAlias, IsStruct, IsEnumeration, IsEnumerator, IsAbstractType, IsConcreteType, IsAbstractHome, IsConcreteHome, IsCatalog, Declaration, all_declarations}
-use Rattle.psdl_names.specs.Descent.{has, ancestry, concrete_homes, provider}
-use Rattle.psdl_conditions.specs.Faults.{first_fault}
-use Rattle.psdl_names.specs.Lookup.{lower, at, defined}
-use Rattle.psdl_names.specs.Parts.{is_module, is_forward, provided, scopes, body_names}
-use Rattle.psdl_conditions.specs.Schemas.{home_no, home_of, scoped_name, provided_home, provided_homes, schema}
-use Rattle.psdl_names.specs.Scoping.{are_alike, redefined_behind, redefined_in}
-use Rattle.psdl_names.specs.Standings.{standings}
+use Rattle.psdl_directory.specs.declared.fault.CheckKind.TheVariants.{Redefined}
+use Rattle.psdl_directory.specs.Declarations.{What, IsModule, IsConstant, IsAlias, IsStruct, IsEnumeration, IsEnumerator, IsAbstractType, IsConcreteType, IsAbstractHome, IsConcreteHome, IsCatalog, Declaration, all_declarations}
+use Rattle.psdl_lineage.specs.Descent.{has, ancestry, concrete_homes, provider}
+use Rattle.psdl_check.specs.Faults.{first_fault}
+use Rattle.psdl_directory.specs.Lookup.{lower, at, defined}
+use Rattle.psdl_directory.specs.Parts.{is_module, is_forward, provided, scopes, body_names}
+use Rattle.psdl_check.specs.Schemas.{home_no, home_of, scoped_name, provided_home, provided_homes, schema}
+use Rattle.psdl_members.specs.Clashes.{are_alike}
+use Rattle.psdl_rules.specs.Scoping.{redefined_behind, redefined_in}
+use Rattle.psdl_standings.specs.Standings.{standings}
 use Rattle.psdl_check.specs.TextNames.{AreNames}
 use Rattle.psdl_sound.proofs.Among.{Among, at_among, among_at, among_from, among_map, among_some, among_found, any_among, Differ, differ_flat, differ_under, map_tells, map_flat, distinct_told}
-use Rattle.psdl_sound.proofs.Faultless.{both_empty, does_not_hold, no_fault_at}
-use Rattle.psdl_sound.proofs.Housing.{IsHome, is_home, homes_of}
-use Rattle.psdl_sound.proofs.Inscribed.{each_passes, paths_named, name_named}
-use Rattle.psdl_sound.proofs.Sole.{declared_once}
-use Rattle.psdl_sound.proofs.Spelt.{same_scoped}
+use Rattle.psdl_sound.proofs.FaultlessTexts.{both_empty, does_not_hold, no_fault_at}
+use Rattle.psdl_sound.proofs.Homes.{IsHome, is_home, homes_of}
+use Rattle.psdl_sound.proofs.ScopedNames.{each_passes, paths_named, name_named}
+use Rattle.psdl_sound.proofs.DistinctNames.{declared_once}
+use Rattle.psdl_sound.proofs.ScopedSpellings.{same_scoped}
 
 -- ---- homes by their numbers
 

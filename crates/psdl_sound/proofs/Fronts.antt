@@ -7,13 +7,13 @@ use Rattle.std.proofs.lemmas.Bool.{cases_lt}
 use Rattle.std.proofs.lemmas.List.{get_or_append_left, get_or_push, get_or_past}
 use Rattle.psdl_tree.specs.Trees.{Name, Expression}
 use Rattle.type_layout.specs.Schemas.{given}
-use Rattle.psdl_names.specs.Declarations.{Path, Declaration}
-use Rattle.psdl_names.specs.Lookup.{as_is, at, meaning}
-use Rattle.psdl_names.specs.Standings.{Standing, Nothing, number_of, natural, standing, sight, size_by, standing_of, standings_after, standings}
-use Rattle.psdl_names.specs.Values.{assessed}
-use Rattle.psdl_types.proofs.Earlier.{as_many_before, one_behind, standing_is}
-use Rattle.psdl_types.proofs.Telling.{as_many}
-use Rattle.psdl_types.proofs.Turning.{meaning_less}
+use Rattle.psdl_directory.specs.Declarations.{Path, Declaration}
+use Rattle.psdl_directory.specs.Lookup.{as_is, at, meaning}
+use Rattle.psdl_standings.specs.Standings.{Standing, Nothing, number_of, natural, standing, sight, size_by, standing_of, standings_after, standings}
+use Rattle.psdl_standings.specs.Values.{assessed}
+use Rattle.psdl_standings.proofs.Earlier.{as_many_before, one_behind, standing_is}
+use Rattle.psdl_standings.proofs.Earlier.{as_many}
+use Rattle.psdl_standings.proofs.Below.{meaning_less}
 
 -- what the first so many declarations stand for
 abbrev pub front : List Declaration → ℕ → List Standing

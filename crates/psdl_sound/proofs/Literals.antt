@@ -7,10 +7,10 @@ use Rattle.part_readers.specs.Sentences.{maybe}
 use Rattle.psdl_tokens.specs.declared.token.Mark.TheVariants as marks
 use Rattle.psdl_tree.specs.Trees.{Primary, NameOperand, IntegerOperand, TextOperand, Group, Unary, Signed, Product, OneUnary, Multiplied, Sum, OneProduct, Added, Shift, OneSum, Shifted, And, OneShift, Anded, Xor, OneAnd, Xored, Expression, OneXor, Ored}
 use Rattle.psdl_syntax.specs.Grammar as grammar
-use Rattle.psdl_names.specs.Expressions.{in_primary, in_unary, in_product, in_sum, in_shift, in_and, in_xor, operands}
+use Rattle.psdl_standings.specs.Expressions.{in_primary, in_unary, in_product, in_sum, in_shift, in_and, in_xor, operands}
 use Rattle.psdl_sound.specs.SmallLiterals.{is_small}
-use Rattle.psdl_sound.proofs.Worded.{AreFit}
-use Rattle.psdl_sound.proofs.Naming.{split}
+use Rattle.psdl_sound.proofs.TokenWords.{AreFit}
+use Rattle.psdl_sound.proofs.DeclaredNames.{split}
 
 -- operands that are no literals, or small ones
 abbrev AllSmall : List Primary → Type 0

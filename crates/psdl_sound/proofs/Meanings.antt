@@ -6,12 +6,12 @@ use Rattle.std.specs.Str.{bytes_eq}
 use Rattle.std.proofs.lemmas.Bool.{and_parts, eqb-true, not-true}
 use Rattle.std.proofs.lemmas.Slice.Eq.{bytes_eq-Decides}
 use Rattle.psdl_tree.specs.Trees.{Name}
-use Rattle.psdl_names.specs.Declarations.{Declaration}
-use Rattle.psdl_names.specs.Descent.{type_of_home, base_home}
-use Rattle.psdl_names.specs.Lookup.{as_is, at, nothing, named, same_path, is_named, defines, definition, defined}
-use Rattle.psdl_names.specs.Parts.{bases, managed, kind, same_kind, is_forward, is_storage_type, is_concrete_home}
-use Rattle.psdl_names.proofs.Agreeing.{same_path-Decides}
-use Rattle.psdl_names.proofs.Foremost.{first_passes}
+use Rattle.psdl_directory.specs.Declarations.{Declaration}
+use Rattle.psdl_lineage.specs.Descent.{type_of_home, base_home}
+use Rattle.psdl_directory.specs.Lookup.{as_is, at, nothing, named, same_path, is_named, defines, definition, defined}
+use Rattle.psdl_directory.specs.Parts.{bases, managed, kind, same_kind, is_forward, is_storage_type, is_concrete_home}
+use Rattle.psdl_directory.proofs.Agreeing.{same_path-Decides}
+use Rattle.psdl_lineage.proofs.Foremost.{first_passes}
 
 -- ---- definitions
 

@@ -9,22 +9,22 @@ use Rattle.type_layout.specs.declared.schema.Provided.{Provided}
 use Rattle.type_layout.specs.Names.{scoped as behind_scopes, IsScopedName, IsNamedSchema}
 use Rattle.type_layout.specs.Sound.{is_name}
 use Rattle.type_layout.specs.Types.{PlainMember}
-use Rattle.psdl_names.specs.Declarations.{Path, Declaration, all_declarations}
-use Rattle.psdl_names.specs.Descent.{ancestry, Listed, same_listed, listed_factory, home_factories, home_keys}
-use Rattle.psdl_names.specs.Lookup.{at}
-use Rattle.psdl_names.specs.Parts.{provided, factories}
-use Rattle.psdl_names.specs.Standings.{standings}
-use Rattle.psdl_conditions.specs.Schemas.{scoped, scoped_name, factory_of, home_layout, provided_homes, schema}
+use Rattle.psdl_directory.specs.Declarations.{Path, Declaration, all_declarations}
+use Rattle.psdl_lineage.specs.Descent.{ancestry, Listed, same_listed, listed_factory, home_factories, home_keys}
+use Rattle.psdl_directory.specs.Lookup.{at}
+use Rattle.psdl_directory.specs.Parts.{provided, factories}
+use Rattle.psdl_standings.specs.Standings.{standings}
+use Rattle.psdl_check.specs.Schemas.{scoped, scoped_name, factory_of, home_layout, provided_homes, schema}
 use Rattle.psdl_check.specs.TextNames.{AreNames}
 use Rattle.psdl_sound.proofs.Among.{Among, at_among, among_from, among_map, among_fresh}
 use Rattle.psdl_sound.proofs.Catalogs.{provided_of, is_provided, numbered}
-use Rattle.psdl_sound.proofs.Housing.{each_home}
-use Rattle.psdl_sound.proofs.Inscribed.{in_names, each_passes, paths_named, name_named}
-use Rattle.psdl_sound.proofs.Inside.{AreNamedInside, key_inside, factory_inside, provision_inside}
-use Rattle.psdl_sound.proofs.Keynames.{each_key}
-use Rattle.psdl_sound.proofs.Memberlists.{key_told}
-use Rattle.psdl_sound.proofs.Membernames.{body_named, layout_named}
-use Rattle.psdl_sound.proofs.Standnames.{all_stand_named}
+use Rattle.psdl_sound.proofs.Homes.{each_home}
+use Rattle.psdl_sound.proofs.ScopedNames.{in_names, each_passes, paths_named, name_named}
+use Rattle.psdl_sound.proofs.NamedBodies.{AreNamedInside, key_inside, factory_inside, provision_inside}
+use Rattle.psdl_sound.proofs.KeyNames.{each_key}
+use Rattle.psdl_sound.proofs.MemberLists.{key_told}
+use Rattle.psdl_sound.proofs.MemberNames.{body_named, layout_named}
+use Rattle.psdl_sound.proofs.StandingNames.{all_stand_named}
 
 -- ---- names with scopes
 

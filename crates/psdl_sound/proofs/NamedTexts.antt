@@ -3,12 +3,12 @@ use Rattle.std.proofs.Common.{List, ℕ, subst, refl}
 use Rattle.psdl_tree.specs.Trees.{Definitions}
 use Rattle.psdl_syntax.specs.Syntax.{IsTextOf}
 use Rattle.psdl_syntax.specs.Grammar.{definitions}
-use Rattle.psdl_names.specs.Declarations.{all_declarations}
+use Rattle.psdl_directory.specs.Declarations.{all_declarations}
 use Rattle.psdl_sound.specs.TextLaws.{TextsHaveNames, TextsAreNamed, TextsAreSmall, TextsAreSound}
-use Rattle.psdl_sound.proofs.Worded.{AreFit, words_fit}
-use Rattle.psdl_sound.proofs.Bodies.{tree_inside}
+use Rattle.psdl_sound.proofs.TokenWords.{AreFit, words_fit}
+use Rattle.psdl_sound.proofs.BodyNames.{tree_inside}
 use Rattle.psdl_sound.proofs.NamedSchemas.{named_schema}
-use Rattle.psdl_sound.proofs.Naming.{tree_named}
+use Rattle.psdl_sound.proofs.DeclaredNames.{tree_named}
 use Rattle.psdl_sound.proofs.SmallTrees.{tree_small}
 use Rattle.psdl_sound.proofs.SoundSchemas.{sound_schema}
 

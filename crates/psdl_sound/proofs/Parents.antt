@@ -6,20 +6,21 @@ use Rattle.std.proofs.lemmas.Bool.{cases_eq, eq-eqb, ltb-true, not-false}
 use Rattle.std.proofs.lemmas.List.Concat.{flat_map-append}
 use Rattle.psdl_tree.specs.Trees.{Name, Reference}
 use Rattle.type_layout.specs.Schemas.{given}
-use Rattle.psdl_names.specs.declared.fault.CheckKind.TheVariants.{Unknown, WrongCase, WrongKind, Incomplete, Cycle}
-use Rattle.psdl_names.specs.Declarations.{Path, What, IsModule, IsConstant, IsAlias, IsStruct, IsEnumeration, IsEnumerator, IsAbstractType, IsConcreteType, IsAbstractHome, IsConcreteHome, IsCatalog, Declaration}
-use Rattle.psdl_names.specs.Descent.{type_of_home}
-use Rattle.psdl_names.specs.Fault.{fault, fault_if}
-use Rattle.psdl_conditions.specs.Faults.{first_fault}
-use Rattle.psdl_names.specs.Forward.{above, is_defined_by, of_forward, never_defined, is_itself, of_itself, in_struct}
-use Rattle.psdl_names.specs.Lookup.{as_is, lower, at, first, meaning, named, origin, definition, defined, place_of}
-use Rattle.psdl_names.specs.Naming.{of_use}
-use Rattle.psdl_names.specs.Parts.{kind, is_storage_type, is_abstract_type, is_concrete_type, is_abstract_home, is_concrete_home, bases, implemented, managed, parents, states, operations}
-use Rattle.psdl_names.specs.Standings.{Standing, standing, standings}
-use Rattle.psdl_names.specs.Uses.{meets, Use, use_of, base_need, implements_need, in_state_type, in_operation, in_store, uses}
+use Rattle.psdl_directory.specs.declared.fault.CheckKind.TheVariants.{Unknown, WrongCase, WrongKind, Incomplete, Cycle}
+use Rattle.psdl_directory.specs.Declarations.{Path, What, IsModule, IsConstant, IsAlias, IsStruct, IsEnumeration, IsEnumerator, IsAbstractType, IsConcreteType, IsAbstractHome, IsConcreteHome, IsCatalog, Declaration}
+use Rattle.psdl_lineage.specs.Descent.{type_of_home}
+use Rattle.psdl_directory.specs.Fault.{fault, fault_if}
+use Rattle.psdl_check.specs.Faults.{first_fault}
+use Rattle.psdl_rules.specs.Forward.{above, is_defined_by, of_forward, never_defined}
+use Rattle.psdl_standings.specs.Selves.{is_itself, of_itself, in_struct}
+use Rattle.psdl_directory.specs.Lookup.{as_is, lower, at, first, meaning, named, origin, definition, defined, place_of}
+use Rattle.psdl_standings.specs.Naming.{of_use}
+use Rattle.psdl_directory.specs.Parts.{kind, is_storage_type, is_abstract_type, is_concrete_type, is_abstract_home, is_concrete_home, bases, implemented, managed, parents, states, operations}
+use Rattle.psdl_standings.specs.Standings.{Standing, standing, standings}
+use Rattle.psdl_standings.specs.Uses.{meets, Use, use_of, base_need, implements_need, in_state_type, in_operation, in_store, uses}
 use Rattle.psdl_sound.proofs.Among.{Among, among_at, among_front, among_behind, among_image}
-use Rattle.psdl_sound.proofs.Basing.{means_first}
-use Rattle.psdl_sound.proofs.Faultless.{HasNone, both_empty, does_not_hold, none_at, none_given, no_fault_at}
+use Rattle.psdl_sound.proofs.Bases.{means_first}
+use Rattle.psdl_sound.proofs.FaultlessTexts.{HasNone, both_empty, does_not_hold, none_at, none_given, no_fault_at}
 use Rattle.psdl_sound.proofs.Meanings.{IsDefinition, definition_is}
 
 -- ---- what a place needs is told by the kind

@@ -10,15 +10,15 @@ use Rattle.psdl_tree.specs.declared.names.Identifier.{Identifier}
 use Rattle.psdl_tree.specs.Trees.{TypeSpec, Declarator, Constant, TypeDefinition, Struct, AbstractTypeBody, StorageTypeBody, AbstractHomeBody, Definition, ModuleDefinition, ConstantDefinition, TypeDefinitionDefinition, StructDefinition, EnumerationDefinition, AbstractTypeDefinition, StorageTypeDefinition, AbstractHomeDefinition, StorageHomeDefinition, CatalogDefinition, Definitions, NoDefinition, AndDefinition}
 use Rattle.psdl_syntax.specs.Seen.{Seen}
 use Rattle.psdl_syntax.specs.Grammar as grammar
-use Rattle.psdl_names.specs.Declarations.{Path, What, IsConstant, IsAlias, IsStruct, IsEnumerator, IsAbstractType, IsConcreteType, IsAbstractHome, Declaration, declared, all_identifiers, all_declarators, aliases, declared_by, declarations, all_declarations}
-use Rattle.psdl_names.specs.Parts.{all_fields}
-use Rattle.psdl_names.specs.Expressions.{operands}
-use Rattle.psdl_names.specs.Uses.{bounds_of, most_elements, spec_bounds, state_bounds, field_bounds}
+use Rattle.psdl_directory.specs.Declarations.{Path, What, IsConstant, IsAlias, IsStruct, IsEnumerator, IsAbstractType, IsConcreteType, IsAbstractHome, Declaration, declared, all_identifiers, all_declarators, aliases, declared_by, declarations, all_declarations}
+use Rattle.psdl_directory.specs.Parts.{all_fields}
+use Rattle.psdl_standings.specs.Expressions.{operands}
+use Rattle.psdl_standings.specs.Uses.{bounds_of, most_elements, spec_bounds, state_bounds, field_bounds}
 use Rattle.psdl_sound.specs.SmallLiterals.{is_small, expressions_of, has_small, AreSmall}
-use Rattle.psdl_sound.proofs.Worded.{AreFit}
-use Rattle.psdl_sound.proofs.Naming.{split, begun, ended}
+use Rattle.psdl_sound.proofs.TokenWords.{AreFit}
+use Rattle.psdl_sound.proofs.DeclaredNames.{split, begun, ended}
 use Rattle.psdl_sound.proofs.Literals.{expression_small}
-use Rattle.psdl_sound.proofs.Bounded.{both_low, each_low, spec_low, dimensions_low, field_low, state_low, type_members_low, home_operations_low}
+use Rattle.psdl_sound.proofs.BoundLiterals.{both_low, each_low, spec_low, dimensions_low, field_low, state_low, type_members_low, home_operations_low}
 
 -- ---- declarations
 

@@ -1,16 +1,16 @@
 -- The keys, factories and catalogs of the schema of a text without a fault are sound.
 use Rattle.std.proofs.Common.{◌≡◌, List, None}
 use Rattle.psdl_tree.specs.Trees.{Definitions}
-use Rattle.psdl_names.specs.Declarations.{Declaration, all_declarations}
-use Rattle.psdl_conditions.specs.Faults.{first_fault}
-use Rattle.psdl_conditions.specs.Schemas.{schema}
+use Rattle.psdl_directory.specs.Declarations.{Declaration, all_declarations}
+use Rattle.psdl_check.specs.Faults.{first_fault}
+use Rattle.psdl_check.specs.Schemas.{schema}
 use Rattle.psdl_sound.specs.SoundCatalogs.{HasSoundCatalogs}
 use Rattle.psdl_check.specs.TextNames.{AreNames}
-use Rattle.psdl_sound.proofs.Memberlists.{key_members, factories_sound}
-use Rattle.psdl_sound.proofs.Keyholders.{keyed}
-use Rattle.psdl_sound.proofs.Housing.{each_home}
+use Rattle.psdl_sound.proofs.MemberLists.{key_members, factories_sound}
+use Rattle.psdl_sound.proofs.KeyHolders.{keyed}
+use Rattle.psdl_sound.proofs.Homes.{each_home}
 use Rattle.psdl_sound.proofs.Catalogs.{home_there, provided_there, provided_names}
-use Rattle.psdl_sound.proofs.Keynames.{each_key, key_names, factory_names, keys_there}
+use Rattle.psdl_sound.proofs.KeyNames.{each_key, key_names, factory_names, keys_there}
 
 -- what a sound schema says of keys, factories and catalogs, field by field
 pub sound_catalogs : (tree : Definitions) (all : List Declaration) → all ≡ all_declarations tree → first_fault all ≡ None → AreNames all → HasSoundCatalogs (schema all)

@@ -1,18 +1,18 @@
 -- The homes and layouts of the schema of a text without a fault are sound.
 use Rattle.std.proofs.Common.{◌≡◌, List, None}
 use Rattle.psdl_tree.specs.Trees.{Definitions}
-use Rattle.psdl_names.specs.Declarations.{Declaration, all_declarations}
-use Rattle.psdl_conditions.specs.Faults.{first_fault}
-use Rattle.psdl_conditions.specs.Schemas.{schema}
+use Rattle.psdl_directory.specs.Declarations.{Declaration, all_declarations}
+use Rattle.psdl_check.specs.Faults.{first_fault}
+use Rattle.psdl_check.specs.Schemas.{schema}
 use Rattle.psdl_sound.specs.SoundHomes.{HasSoundHomes}
 use Rattle.psdl_check.specs.TextNames.{AreNames}
-use Rattle.psdl_sound.proofs.Basing.{base_lower}
-use Rattle.psdl_sound.proofs.Housing.{each_home, few_homes}
-use Rattle.psdl_sound.proofs.Inscribed.{home_names}
-use Rattle.psdl_sound.proofs.Laid.{sound_layouts, references_stay}
-use Rattle.psdl_sound.proofs.Layered.{few_members, member_names}
-use Rattle.psdl_sound.proofs.Shaping.{short_shape}
-use Rattle.psdl_sound.proofs.Unset.{short_defaults}
+use Rattle.psdl_sound.proofs.Bases.{base_lower}
+use Rattle.psdl_sound.proofs.Homes.{each_home, few_homes}
+use Rattle.psdl_sound.proofs.ScopedNames.{home_names}
+use Rattle.psdl_sound.proofs.SoundLayouts.{sound_layouts, references_stay}
+use Rattle.psdl_sound.proofs.Layouts.{few_members, member_names}
+use Rattle.psdl_sound.proofs.ShapeTexts.{short_shape}
+use Rattle.psdl_sound.proofs.DefaultRecords.{short_defaults}
 
 -- what a sound schema says of homes and layouts, field by field
 pub sound_homes : (tree : Definitions) (all : List Declaration) → all ≡ all_declarations tree → first_fault all ≡ None → AreNames all → HasSoundHomes (schema all)

@@ -2,19 +2,19 @@
 use Rattle.std.proofs.Common.{◌≡◌, List, None}
 use Rattle.psdl_tree.specs.Trees.{Definitions}
 use Rattle.type_layout.specs.Sound.{IsSoundSchema}
-use Rattle.psdl_names.specs.Declarations.{Declaration, all_declarations}
-use Rattle.psdl_conditions.specs.Faults.{first_fault}
-use Rattle.psdl_conditions.specs.Schemas.{schema}
+use Rattle.psdl_directory.specs.Declarations.{Declaration, all_declarations}
+use Rattle.psdl_check.specs.Faults.{first_fault}
+use Rattle.psdl_check.specs.Schemas.{schema}
 use Rattle.psdl_check.specs.TextNames.{AreNames}
 use Rattle.psdl_sound.specs.SmallLiterals.{AreSmall}
-use Rattle.psdl_sound.proofs.Baselines.{home_concrete}
-use Rattle.psdl_sound.proofs.Housing.{each_home}
-use Rattle.psdl_sound.proofs.Keynames.{each_key}
-use Rattle.psdl_sound.proofs.Keytypes.{key_types}
+use Rattle.psdl_sound.proofs.BaseLines.{home_concrete}
+use Rattle.psdl_sound.proofs.Homes.{each_home}
+use Rattle.psdl_sound.proofs.KeyNames.{each_key}
+use Rattle.psdl_sound.proofs.KeyTypes.{key_types}
 use Rattle.psdl_sound.proofs.SoundCatalogs.{sound_catalogs}
 use Rattle.psdl_sound.proofs.SoundHomes.{sound_homes}
-use Rattle.psdl_sound.proofs.Laidout.{all_laid}
-use Rattle.psdl_sound.proofs.Unnumbered.{small_at}
+use Rattle.psdl_sound.proofs.CompleteLayouts.{all_laid}
+use Rattle.psdl_sound.proofs.Expressions.{small_at}
 
 -- all that a sound schema says
 pub sound_schema : (tree : Definitions) (all : List Declaration) → all ≡ all_declarations tree → first_fault all ≡ None → AreNames all → AreSmall all → IsSoundSchema (schema all)

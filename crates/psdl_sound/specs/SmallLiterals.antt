@@ -2,9 +2,9 @@
 use Rattle.std.specs.Prelude.{◌^◌, List, [], ◌∷◌, map, Bool, true, IsTrue, nat_lt}
 use Rattle.std.specs.List.{list_all}
 use Rattle.psdl_tree.specs.Trees.{Primary, IntegerOperand, Expression}
-use Rattle.psdl_names.specs.Declarations.{What, IsConstant, Declaration}
-use Rattle.psdl_names.specs.Expressions.{operands}
-use Rattle.psdl_names.specs.Uses.{bounds}
+use Rattle.psdl_directory.specs.Declarations.{What, IsConstant, Declaration}
+use Rattle.psdl_standings.specs.Expressions.{operands}
+use Rattle.psdl_standings.specs.Uses.{bounds}
 
 -- a literal is below 2^127
 abbrev pub is_small : Primary → Bool

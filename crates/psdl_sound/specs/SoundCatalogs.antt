@@ -8,9 +8,9 @@ use Rattle.type_layout.specs.declared.schema.Provided.{Provided}
 use Rattle.type_layout.specs.declared.schema.Schema.{Schema}
 use Rattle.type_layout.specs.Schemas.{home_at, members_at, descends, has_key}
 use Rattle.type_layout.specs.Sound.{EachHome, EachKey, AreMembers, key_name, same_provided, are_distinct}
-use Rattle.psdl_names.specs.Declarations.{Declaration, all_declarations}
-use Rattle.psdl_conditions.specs.Faults.{first_fault}
-use Rattle.psdl_conditions.specs.Schemas.{schema}
+use Rattle.psdl_directory.specs.Declarations.{Declaration, all_declarations}
+use Rattle.psdl_check.specs.Faults.{first_fault}
+use Rattle.psdl_check.specs.Schemas.{schema}
 use Rattle.psdl_check.specs.TextNames.{AreNames}
 
 -- what a sound schema says of keys, factories and catalogs, field by field as there

@@ -7,9 +7,9 @@ use Rattle.type_layout.specs.Defaults.{default_record}
 use Rattle.type_layout.specs.ShapeText.{shape_text}
 use Rattle.type_layout.specs.Sound.{EachHome, EachMember, IsLower, IsSoundLayout, StaysWithin, are_distinct}
 use Rattle.type_layout.specs.Spelling.{record_spelling}
-use Rattle.psdl_names.specs.Declarations.{Declaration, all_declarations}
-use Rattle.psdl_conditions.specs.Faults.{first_fault}
-use Rattle.psdl_conditions.specs.Schemas.{schema}
+use Rattle.psdl_directory.specs.Declarations.{Declaration, all_declarations}
+use Rattle.psdl_check.specs.Faults.{first_fault}
+use Rattle.psdl_check.specs.Schemas.{schema}
 use Rattle.psdl_check.specs.TextNames.{AreNames}
 
 -- what a sound schema says of homes and layouts, field by field as there

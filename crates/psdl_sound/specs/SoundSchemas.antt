@@ -2,9 +2,9 @@
 use Rattle.std.specs.Prelude.{◌≡◌, List, None}
 use Rattle.psdl_tree.specs.Trees.{Definitions}
 use Rattle.type_layout.specs.Sound.{IsSoundSchema}
-use Rattle.psdl_names.specs.Declarations.{Declaration, all_declarations}
-use Rattle.psdl_conditions.specs.Faults.{first_fault}
-use Rattle.psdl_conditions.specs.Schemas.{schema}
+use Rattle.psdl_directory.specs.Declarations.{Declaration, all_declarations}
+use Rattle.psdl_check.specs.Faults.{first_fault}
+use Rattle.psdl_check.specs.Schemas.{schema}
 use Rattle.psdl_check.specs.TextNames.{AreNames}
 use Rattle.psdl_sound.specs.SmallLiterals.{AreSmall}
 

@@ -4,9 +4,9 @@ use Rattle.psdl_tree.specs.Trees.{Definitions}
 use Rattle.psdl_syntax.specs.Syntax.{IsTextOf}
 use Rattle.type_layout.specs.Names.{IsNamedSchema}
 use Rattle.type_layout.specs.Sound.{IsSoundSchema}
-use Rattle.psdl_names.specs.Declarations.{all_declarations}
-use Rattle.psdl_conditions.specs.Faults.{first_fault}
-use Rattle.psdl_conditions.specs.Schemas.{schema}
+use Rattle.psdl_directory.specs.Declarations.{all_declarations}
+use Rattle.psdl_check.specs.Faults.{first_fault}
+use Rattle.psdl_check.specs.Schemas.{schema}
 use Rattle.psdl_check.specs.TextNames.{AreNames}
 use Rattle.psdl_sound.specs.SmallLiterals.{AreSmall}
 

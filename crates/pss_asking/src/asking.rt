@@ -1,5 +1,6 @@
 // What each data command asks.
 ghost use Rattle.std.specs.Prelude.{◌≡◌, ◌+◌, ◌<◌, ◌^◌, length, ok_or};
+ghost use Rattle.pss_asking.specs.Given.{members_given, making_of};
 ghost use Rattle.type_layout.specs.Members.{plain_member};
 ghost use Rattle.type_layout.specs.Views.{plain_value, plain_values};
 ghost use Rattle.type_layout.specs.Keys.{key_members};
@@ -20,7 +21,7 @@ use pss_catalog::key_at;
 use pss_machine::{Access, Op, Rest};
 use schema_names::NamedSchema;
 use std::alloc::Global;
-use type_layout::{Factory, HomeNo, KeyNo, Member, Record, Value, Values, key_of_values};
+use type_layout::{HomeNo, Indexes, KeyNo, Member, Record, Value, Values, key_of_values};
 
 /// What a data command is asked under: the schema with its names, what the session may do, and the serial that a new
 /// object takes.
@@ -86,24 +87,21 @@ impl Asking<'_> {
         }))
     }
 
-    // The factory of a name.
-    fn factory(&self, home: HomeNo, word: &[u8]) -> Result<&Factory, AskFault>
-        ensures { Tells (λ f. f.now) result (ok_or (factory_named self.now.names.now home word.now) reply.NoFactory) }
+    // The numbers of the members that the caller of a factory gives.
+    fn factory_members(&self, home: HomeNo, word: &[u8]) -> Result<Indexes, AskFault>
+        ensures { Tells (λ numbers. numbers) result (members_given (factory_named self.now.names.now home word.now)) }
     {
-        match self.names.factory(home, word) {
-            Some(factory) => Ok(factory),
+        match self.names.factory_members(self.alloc, home, word)? {
+            Some(numbers) => Ok(numbers),
             None => Err(AskFault::Refused(Refusal::NoFactory)),
         }
     }
 
-    /// `make`: an object of a home, with one value for each member that the factory names, and for each other its
-    /// default.
-    pub fn make(&self, home: &[u8], factory: &[u8], values: &Rest) -> Result<Asked, AskFault>
+    // An object of a home with one value for each of the members with these numbers, and for each other its default.
+    fn make_of(&self, home: HomeNo, numbers: &[u32], values: &Rest) -> Result<Asked, AskFault>
         requires { values.now.column + length values.now.text < 2 ^ 32 }
-        ensures { (session : Session) → session.access ≡ self.now.access → Tells plain_asked result (making self.now.names.now self.now.next session home.now factory.now values.now) }
+        ensures { (session : Session) → session.access ≡ self.now.access → Tells plain_asked result (making_of self.now.names.now self.now.next session home numbers.now values.now) }
     {
-        let home = home_called(self.names, home)?;
-        let numbers = self.factory(home, factory)?.members.as_slice();
         let members = members_at(self.names.schema(), home);
         let given = read_chosen(self.alloc, members, numbers, values)?;
         if only_reads(self.access) {
@@ -114,6 +112,17 @@ impl Asking<'_> {
             home,
             value: made(self.alloc, members, numbers, given)?,
         }))
+    }
+
+    /// `make`: an object of a home, with one value for each member that the factory names, and for each other its
+    /// default.
+    pub fn make(&self, home: &[u8], factory: &[u8], values: &Rest) -> Result<Asked, AskFault>
+        requires { values.now.column + length values.now.text < 2 ^ 32 }
+        ensures { (session : Session) → session.access ≡ self.now.access → Tells plain_asked result (making self.now.names.now self.now.next session home.now factory.now values.now) }
+    {
+        let home = home_called(self.names, home)?;
+        let numbers = self.factory_members(home, factory)?;
+        self.make_of(home, numbers.as_slice(), values)
     }
 
     // The key of a name.

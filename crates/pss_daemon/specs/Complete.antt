@@ -5,8 +5,8 @@ use Rattle.pss_base.specs.Causes.{Rose}
 use Rattle.type_layout.specs.declared.schema.Schema.{Schema}
 use Rattle.pss_catalog.specs.Catalog.{Catalog}
 use Rattle.psdl_tree.specs.Trees.{Definitions}
-use Rattle.psdl_names.specs.Declarations.{all_declarations}
-use Rattle.psdl_conditions.specs.Schemas.{schema}
+use Rattle.psdl_directory.specs.Declarations.{all_declarations}
+use Rattle.psdl_check.specs.Schemas.{schema}
 use Rattle.pss_recovery.specs.Stands.{Stands}
 use Rattle.commit_saving.specs.Saving.{IfTold}
 use Rattle.line_service.specs.Runs.{goes_past}

@@ -7,8 +7,8 @@ use Rattle.pss_disk.proofs.Passing.{weaker}
 use Rattle.type_layout.specs.declared.schema.Schema.{Schema}
 use Rattle.psdl_tree.specs.Trees.{Definitions}
 use Rattle.psdl_tree.specs.Views.{tree_view}
-use Rattle.psdl_names.specs.Declarations.{all_declarations}
-use Rattle.psdl_conditions.specs.Schemas.{schema}
+use Rattle.psdl_directory.specs.Declarations.{all_declarations}
+use Rattle.psdl_check.specs.Schemas.{schema}
 use Rattle.psdl_sound.specs.TextLaws.{TextsAreSound}
 use Rattle.psdl_syntax.specs.Syntax.{IsTextOf}
 use Rattle.pss_machine.specs.Limits.{standard}

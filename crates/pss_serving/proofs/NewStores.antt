@@ -8,8 +8,8 @@ use Rattle.pss_disk.specs.Moments.{Moment, Disk, Through}
 use Rattle.pss_disk.proofs.Passing.{then_come, weaker}
 use Rattle.type_layout.specs.declared.schema.Schema.{Schema}
 use Rattle.psdl_tree.specs.Trees.{Definitions}
-use Rattle.psdl_names.specs.Declarations.{all_declarations}
-use Rattle.psdl_conditions.specs.Schemas.{schema}
+use Rattle.psdl_directory.specs.Declarations.{all_declarations}
+use Rattle.psdl_check.specs.Schemas.{schema}
 use Rattle.line_service.specs.Spoken.{HasSpoken}
 use Rattle.line_service.specs.Turns.{IsWhole}
 use Rattle.store_refusals.specs.Lines.{IsFilled, not_empty_line}

@@ -3,8 +3,8 @@ use Rattle.std.proofs.Common.{◌≡◌, ◌∙◌, sym, subst, ℕ, ◌<◌, Li
 use Rattle.std.specs.declared.option.Option.{Option}
 use Rattle.psdl_tree.specs.Trees.{Definitions}
 use Rattle.psdl_syntax.specs.Syntax.{HasNoTree, IsTextOf, most_bytes}
-use Rattle.psdl_names.specs.Declarations.{all_declarations}
-use Rattle.psdl_conditions.specs.Faults.{first_fault}
+use Rattle.psdl_directory.specs.Declarations.{all_declarations}
+use Rattle.psdl_check.specs.Faults.{first_fault}
 use Rattle.pss_serving.specs.Checked.{HasFault, IsOneThing, IsSound}
 use Rattle.pss_serving.specs.Found.{IsOne}
 use Rattle.pss_serving.specs.declared.reading.Checked.{Checked}

@@ -4,9 +4,9 @@ use Rattle.std.specs.declared.option.Option.TheVariants.{Some, None}
 use Rattle.psdl_tree.specs.Trees.{Definitions}
 use Rattle.psdl_syntax.specs.Syntax.{IsTextOf, IsFault}
 use Rattle.psdl_syntax.specs.Canonical.{canonical}
-use Rattle.psdl_names.specs.Declarations.{all_declarations}
-use Rattle.psdl_conditions.specs.Faults.{first_fault}
-use Rattle.psdl_conditions.specs.Schemas.{schema}
+use Rattle.psdl_directory.specs.Declarations.{all_declarations}
+use Rattle.psdl_check.specs.Faults.{first_fault}
+use Rattle.psdl_check.specs.Schemas.{schema}
 use Rattle.type_layout.specs.declared.schema.Schema.{Schema}
 use Rattle.type_layout.specs.ShapeText.{shape_text}
 use Rattle.pss_serving.specs.declared.schema_fault.SchemaFault.{SchemaFault}

@@ -2,8 +2,8 @@
 use Rattle.std.specs.Prelude.{ℕ, ◌≡◌, List, Bool, true, false, IfSome}
 use Rattle.std.specs.declared.option.Option.{Option}
 use Rattle.psdl_tree.specs.Views.{tree_view}
-use Rattle.psdl_names.specs.Declarations.{all_declarations}
-use Rattle.psdl_conditions.specs.Schemas.{schema}
+use Rattle.psdl_directory.specs.Declarations.{all_declarations}
+use Rattle.psdl_check.specs.Schemas.{schema}
 use Rattle.pss_serving.specs.Checked.{HasFault, IsOneThing, IsSound}
 use Rattle.pss_serving.specs.declared.reading.Checked.{Checked}
 use Rattle.pss_serving.specs.declared.reading.Checked.TheVariants as checked

@@ -14,8 +14,8 @@ use Rattle.store_refusals.specs.Lines.{refusal_of}
 use Rattle.type_layout.specs.declared.schema.Schema.{Schema}
 use Rattle.pss_machine.specs.Limits.{standard}
 use Rattle.psdl_tree.specs.Trees.{Definitions}
-use Rattle.psdl_names.specs.Declarations.{all_declarations}
-use Rattle.psdl_conditions.specs.Schemas.{schema}
+use Rattle.psdl_directory.specs.Declarations.{all_declarations}
+use Rattle.psdl_check.specs.Schemas.{schema}
 use Rattle.line_service.specs.Runs.{Comes, SaidByLines, Says, lines_of}
 use Rattle.line_service.specs.Spoken.{SaidOf}
 use Rattle.line_service.specs.Turns.{IsWhole}

@@ -3,8 +3,7 @@ use Rattle.std.specs.Prelude.{ℕ, List, [], ◌∷◌, ◌++◌, codes, decimal
 use Rattle.pss_base.specs.declared.place.Place.{Place}
 use Rattle.psdl_syntax.specs.declared.syntax_fault.SyntaxKind.{SyntaxKind}
 use Rattle.psdl_syntax.specs.declared.syntax_fault.SyntaxKind.TheVariants as kinds
-use Rattle.psdl_names.specs.declared.fault.CheckKind.{CheckKind}
-use Rattle.psdl_names.specs.declared.fault.CheckKind.TheVariants as checks
+use Rattle.psdl_directory.specs.Fault.{text}
 use Rattle.pss_serving.specs.declared.schema_fault.SchemaFault.{SchemaFault}
 use Rattle.pss_serving.specs.declared.schema_fault.SchemaFault.TheVariants.{Syntax, Check}
 
@@ -20,31 +19,10 @@ kind_text kinds.TooDeep = codes "S7 TooDeep"
 kind_text kinds.TooLong = codes "S8 TooLong"
 kind_text kinds.NoMemory = codes "NoMemory"
 
--- the same of a check
-abbrev pub check_text : CheckKind → List ℕ
-check_text checks.Redefined = codes "C1 Redefined"
-check_text checks.Unknown = codes "C2 Unknown"
-check_text checks.WrongCase = codes "C3 WrongCase"
-check_text checks.WrongKind = codes "C4 WrongKind"
-check_text checks.Incomplete = codes "C5 Incomplete"
-check_text checks.Cycle = codes "C6 Cycle"
-check_text checks.MemberClash = codes "C7 MemberClash"
-check_text checks.KeyMember = codes "C8 KeyMember"
-check_text checks.KeyType = codes "C9 KeyType"
-check_text checks.FactoryMember = codes "C10 FactoryMember"
-check_text checks.NotImplemented = codes "C11 NotImplemented"
-check_text checks.HomeType = codes "C12 HomeType"
-check_text checks.FamilyType = codes "C13 FamilyType"
-check_text checks.ConstRange = codes "C14 ConstRange"
-check_text checks.ConstZero = codes "C15 ConstZero"
-check_text checks.Provides = codes "C16 Provides"
-check_text checks.Limit = codes "C17 Limit"
-check_text checks.NoMemory = codes "NoMemory"
-
 -- the line and the column of the fault, and its kind, as `schema 1:23 S6 LeftOut`
 abbrev pub placed_line : Place → List ℕ → List ℕ
 placed_line place kind = codes "schema " ++ decimal place.line ++ codes ":" ++ decimal place.column ++ codes " " ++ kind ++ 10 ∷ []
 
 abbrev pub refusal_line : SchemaFault → List ℕ
 refusal_line (Syntax fault) = placed_line fault.place (kind_text fault.kind)
-refusal_line (Check fault) = placed_line fault.place (check_text fault.kind)
+refusal_line (Check fault) = placed_line fault.place (text fault.kind)

@@ -1,5 +1,5 @@
 use Rattle.std.proofs.Common.{◌≡◌, drop, map}
-use Rattle.psdl_types.specs.LineLengths.{numbers_length}
+use Rattle.psdl_check.specs.inner.LineLengths.{numbers_length}
 use Rattle.psdl_check.proofs.line_lengths.with_homes.Given as goal
 
 abbrev pub invariant-loop-home : goal.invariant-loop-home

@@ -1,5 +1,5 @@
 use Rattle.std.proofs.Common.{◌≡◌, drop}
-use Rattle.psdl_types.specs.LineLengths.{numbers_length}
+use Rattle.psdl_check.specs.inner.LineLengths.{numbers_length}
 use Rattle.psdl_check.proofs.line_lengths.with_numbers.Given as goal
 
 abbrev pub invariant-loop-number : goal.invariant-loop-number

@@ -1,13 +1,15 @@
-use Rattle.std.proofs.Common.{◌≡◌, ◌++◌, drop, map}
+use Rattle.std.proofs.Common.{◌≡◌, ◌≤◌, ◌++◌, map, take, length}
 use Rattle.std.specs.List.{flat_map}
 use Rattle.psdl_tree.specs.Views.{provision_view}
-use Rattle.psdl_names.specs.Directories.{all_of}
-use Rattle.psdl_names.specs.Lookup.{at}
-use Rattle.psdl_conditions.specs.Schemas.{provided_home}
+use Rattle.psdl_directory.specs.Lookup.{at}
+use Rattle.psdl_check.specs.Schemas.{provided_home}
+use Rattle.psdl_check.specs.inner.Texts.{text_in}
 use Rattle.psdl_check.proofs.provided_homes.add_catalog.Given as goal
 
-abbrev pub invariant-loop-provision : goal.invariant-loop-provision
-invariant-loop-provision l =
-    let all = all_of l.directory in
-    let each = provided_home all l.number (at all l.number) in
-    l.list ++ flat_map each (map provision_view (drop l.provision-index l.provisions)) ≡ l.fn.list ++ flat_map each (map provision_view l.provisions)
+abbrev pub invariant-loop-place : goal.invariant-loop-place
+invariant-loop-place l =
+    let all = text_in l.text in
+    record {
+      within : l.place ≤ length l.provisions;
+      put : l.list ≡ l.fn.list ++ flat_map (provided_home all l.catalog (at all l.catalog)) (map provision_view (take l.place l.provisions));
+    }

@@ -1,9 +1,12 @@
-use Rattle.std.proofs.Common.{◌<◌, length}
-use Rattle.psdl_names.specs.Directories.{all_of}
-use Rattle.psdl_check.proofs.Provisioning.{provider_below}
+use Rattle.std.proofs.Common.{◌≡◌, ◌∙◌, Some, length, ap, sym, rules}
+use Rattle.std.specs.Option.{option_and_then}
+use Rattle.psdl_lineage.specs.Descent.{provider}
+use Rattle.psdl_check.specs.inner.Texts.{text_in}
+use Rattle.psdl_check.proofs.Meant.{some_below}
 use Rattle.psdl_check.proofs.provided_homes.provider_of.Goals as goal
 
-pub returns-in-Some-clause-there : goal.returns-in-Some-clause-there
-returns-in-Some-clause-there c =
-    let there : c.in-Some.home < length (all_of c.args.directory.now) = rw c.in-Some.is at c.in_ok-definition.ensures.there in
-    provider_below (all_of c.args.directory.now) c.in-Some.home _ (c.requires.providers.each c.in-Some.home there)
+pub returns-in-Some : goal.returns-in-Some
+returns-in-Some c =
+    let all = text_in c.args.text.now in
+    let some : c.args.meant ≡ Some c.in-Some.home = search rules in
+    c.provider.ensures (some_below c.args.meant c.in-Some.home (length all) c.requires some) ∙ ap (option_and_then (provider all)) (sym some)

@@ -1,5 +1,5 @@
 use Rattle.std.proofs.Common.{◌≡◌, ◌≤◌, [], drop, length, map}
-use Rattle.psdl_conditions.specs.Schemas.{scoped}
+use Rattle.psdl_check.specs.Schemas.{scoped}
 use Rattle.psdl_check.proofs.scoped_names.prefix.Given as goal
 
 abbrev pub invariant-loop-left : goal.invariant-loop-left

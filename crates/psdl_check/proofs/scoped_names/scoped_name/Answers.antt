@@ -1,6 +1,6 @@
 use Rattle.std.proofs.Common.{map}
-use Rattle.psdl_names.specs.Directories.{all_of}
-use Rattle.psdl_names.specs.Lookup.{at}
+use Rattle.psdl_directory.specs.Directories.{all_of}
+use Rattle.psdl_directory.specs.Lookup.{at}
 use Rattle.psdl_check.proofs.Prefixed.{whole_name}
 use Rattle.psdl_check.proofs.scoped_names.scoped_name.Goals as goal
 

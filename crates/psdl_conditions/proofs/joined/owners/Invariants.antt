@@ -1,6 +1,0 @@
-use Rattle.std.proofs.Common.{◌≡◌, take, filter}
-use Rattle.psdl_conditions.specs.Contributing.{is_own}
-use Rattle.psdl_conditions.proofs.joined.owners.Given as goal
-
-abbrev pub invariant-loop-number : goal.invariant-loop-number
-invariant-loop-number l = l.owners.items ≡ filter (is_own l.own) (take l.number-index l.numbers)

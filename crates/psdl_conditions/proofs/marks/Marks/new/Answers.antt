@@ -1,7 +1,0 @@
-use Rattle.std.proofs.Common.{◌∙◌, ap, ℕ, List}
-use Rattle.psdl_conditions.specs.Marking.{marks_of}
-use Rattle.psdl_conditions.proofs.Marked.{none_marked}
-use Rattle.psdl_conditions.proofs.marks.Marks.new.Goals as goal
-
-pub returns : goal.returns
-returns c = ap (λ (l : List ℕ). marks_of 1 l) (c.in_ok-vec.ensures.items_if_clones_equal (λ y e. e)) ∙ none_marked c.args.count

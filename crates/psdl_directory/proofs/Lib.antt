@@ -1,0 +1,16 @@
+pub mod Spelt
+pub mod Tabled
+pub mod Rows
+pub mod Opening
+pub mod Opened
+pub mod Walked
+pub mod Keyed
+pub mod Indexed
+pub mod Outwards
+pub mod Inside
+pub mod Agreeing
+pub mod Within
+pub mod Defining
+pub mod Unspelled
+pub mod Noting
+pub mod Ranged

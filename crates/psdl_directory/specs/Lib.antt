@@ -1,0 +1,10 @@
+pub mod Declarations
+pub mod Parts
+pub mod Lookup
+pub mod Spelled
+pub mod Fault
+pub mod Noting
+pub mod FaultLaws
+pub mod Directories
+pub mod Headers
+pub mod inner

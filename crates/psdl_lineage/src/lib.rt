@@ -1,0 +1,26 @@
+//! What the types and homes of a PSDL text descend from, over the numbers of declarations.
+#![tactic(auto)]
+
+mod ancestry;
+mod conformity;
+mod contributors;
+mod descendants;
+mod families;
+mod graph;
+mod homes;
+mod joined;
+mod lineage;
+mod lines;
+mod marks;
+mod parents;
+mod providers;
+mod sorts;
+mod sources;
+mod walk;
+
+pub use conformity::Conformity;
+pub use graph::Graph;
+pub use lineage::Lineage;
+pub use marks::Marks;
+pub use sorts::{is_concrete_home, is_home, is_storage_type, same_sort};
+pub use sources::Sources;

@@ -1,0 +1,13 @@
+pub mod Cutting
+pub mod Twice
+pub mod Numbering
+pub mod Bodied
+pub mod Slicing
+pub mod Rowing
+pub mod Pairs
+pub mod Covered
+pub mod FirstLists
+pub mod Entering
+pub mod Listing
+pub mod Entered
+pub mod Owning

@@ -1,0 +1,5 @@
+pub mod Clashes
+pub mod Bodies
+pub mod Listings
+pub mod Texts
+pub mod inner

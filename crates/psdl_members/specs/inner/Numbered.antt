@@ -1,0 +1,22 @@
+-- Names by number, in small letters.
+use Rattle.std.specs.Prelude.{◌≡◌, ℕ, ◌+◌, List, length, map, Bool, false, Option, Some}
+use Rattle.psdl_directory.specs.declared.spellings.Spellings.{Spellings}
+use Rattle.psdl_directory.specs.Declarations.{Declaration}
+use Rattle.psdl_directory.specs.Lookup.{lower}
+use Rattle.psdl_directory.specs.Spelled.{number_of}
+use Rattle.psdl_lineage.specs.Descent.{StateMember}
+use Rattle.psdl_lineage.specs.Sources.{is_own}
+use Rattle.psdl_members.specs.Bodies.{own_members}
+use Rattle.psdl_members.specs.inner.Flat.{flat, begins}
+
+abbrev pub small_number : Spellings → StateMember → Option ℕ
+small_number s m = number_of s (lower m.name.name)
+
+-- the numbers of the names of all members, declaration by declaration
+pub record AreNumbered (all : List Declaration) (s : Spellings) (numbers starts : List ℕ) : Type 0 where
+  pub numbers_are : map (λ n. Some n) numbers ≡ map (small_number s) (flat (own_members all) (length all))
+  pub starts_are : starts ≡ begins (own_members all) (length all + 1)
+
+-- where the flag is not set, there are none
+abbrev pub AreOwners : List Declaration → List Bool → Type 0
+AreOwners all own = (n : ℕ) → is_own own n ≡ false → length (own_members all n) ≡ 0

@@ -1,0 +1,127 @@
+// What types and homes have by descent.
+ghost use Rattle.std.specs.Prelude.{◌≡◌};
+ghost use Rattle.psdl_lineage.specs.Graph.{graph_of};
+ghost use Rattle.psdl_lineage.specs.Lineages.{text_of};
+ghost use Rattle.psdl_members.specs.inner.Asked.{IsAnswered};
+ghost use Rattle.psdl_members.specs.inner.Had.{AreHad, AreFlags, Fits};
+
+use crate::asked::Asked;
+use crate::firsts::Firsts;
+use crate::member::Member;
+use crate::own::{Own, own_of, owners};
+use crate::owners::members_of;
+use crate::type_clash::have_clash;
+use psdl_directory::{DeclarationNo, What};
+use psdl_lineage::{Lineage, Sources, is_home, is_storage_type};
+use pss_base::NoMemory;
+use std::alloc::Global;
+
+/// What the storage types and homes of a text have, of their own and by descent.
+#[derive(Drop)]
+pub struct Inherited<'l, 'd> {
+    lineage: &'l Lineage<'l, 'd>,
+    sources: Sources<'l>,
+    own: Own,
+    firsts: Firsts,
+    asked: Asked,
+    ghost graphed: { sources.graph ≡ graph_of (text_of lineage.now) },
+    ghost flagged: { AreFlags (text_of lineage.now) own sources.own },
+    ghost had: { AreHad (text_of lineage.now) own },
+    ghost fits: { Fits own firsts },
+    ghost answered: { IsAnswered own.lists asked },
+}
+
+impl<'l, 'd> Inherited<'l, 'd> {
+    ghost use Rattle.std.specs.Prelude.{◌≡◌, ◌||◌, not, IfOk};
+    ghost use Rattle.type_layout.specs.Sound.{are_distinct};
+    ghost use Rattle.psdl_directory.specs.inner.Nodes.{what_view};
+    ghost use Rattle.psdl_lineage.specs.Descent.{members, home_keys, home_factories};
+    ghost use Rattle.psdl_lineage.specs.Lineages.{text_of};
+    ghost use Rattle.psdl_members.specs.Bodies.{member_views};
+    ghost use Rattle.psdl_members.specs.Clashes as clashes;
+    ghost use Rattle.psdl_members.specs.Texts.{inherited_in};
+    ghost use Rattle.psdl_members.specs.inner.Had.{AreHad};
+
+    fn with_own(
+        alloc: Global,
+        lineage: &'l Lineage<'l, 'd>,
+        own: Own,
+    ) -> Result<Inherited<'l, 'd>, NoMemory>
+        requires { AreHad (text_of lineage.now) own }
+        ensures { IfOk result (λ i. inherited_in i ≡ text_of lineage.now) }
+    {
+        let flags = owners(alloc, lineage.directory(), &own)?;
+        let sources = Sources::new(alloc, lineage, flags)?;
+        let firsts = Firsts::new(alloc, own.most_names())?;
+        let asked = Asked::new(alloc);
+        Ok(Inherited {
+            lineage,
+            sources,
+            own,
+            firsts,
+            asked,
+        })
+    }
+
+    /// By the lineage of a text.
+    pub fn new(alloc: Global, lineage: &'l Lineage<'l, 'd>) -> Result<Inherited<'l, 'd>, NoMemory>
+        ensures { IfOk result (λ i. inherited_in i ≡ text_of lineage.now) }
+    {
+        let own = own_of(alloc, lineage.directory())?;
+        Inherited::with_own(alloc, lineage, own)
+    }
+
+    /// The members of a type: those of what it descends from, in that order, then its own.
+    pub fn members(
+        &mut self,
+        alloc: Global,
+        number: DeclarationNo,
+    ) -> Result<Vec<Member<'d>>, NoMemory>
+        ensures same { inherited_in self.new ≡ inherited_in self.old }
+        ensures members { IfOk result (λ v. member_views v.items ≡ members (inherited_in self.old) number) }
+    {
+        let sources = self.sources.of(alloc, number)?;
+        let members = members_of(alloc, self.lineage.directory(), &sources)?;
+        Ok(members)
+    }
+
+    fn members_clash(&mut self, alloc: Global, number: DeclarationNo) -> Result<bool, NoMemory>
+        ensures same { inherited_in self.new ≡ inherited_in self.old }
+        ensures clash { IfOk result (λ r. r ≡ not (are_distinct clashes.members_clash (members (inherited_in self.old) number))) }
+    {
+        let sources = self.sources.of(alloc, number)?;
+        let clash = have_clash(&mut self.firsts.marks, &self.own.names, &sources);
+        Ok(clash)
+    }
+
+    fn lists_clash(&mut self, alloc: Global, number: DeclarationNo) -> Result<bool, NoMemory>
+        ensures same { inherited_in self.new ≡ inherited_in self.old }
+        ensures clash { IfOk result (λ r. r ≡ (not (are_distinct clashes.lists_clash (home_keys (inherited_in self.old) number)) || not (are_distinct clashes.lists_clash (home_factories (inherited_in self.old) number)))) }
+    {
+        let sources = self.sources.of(alloc, number)?;
+        let clash = self.asked.clash(&mut self.firsts, &self.own.lists, sources);
+        Ok(clash)
+    }
+
+    /// Whether a type has two members, or a home two keys or two factories, that clash: their names are equal but for case
+    /// and, of keys and factories, their lists differ.
+    pub fn has_clash(
+        &mut self,
+        alloc: Global,
+        number: DeclarationNo,
+        what: What<'_>,
+    ) -> Result<bool, NoMemory>
+        ensures same { inherited_in self.new ≡ inherited_in self.old }
+        ensures clash { IfOk result (λ r. r ≡ clashes.has_clash (inherited_in self.old) number (what_view what.entry)) }
+    {
+        if is_storage_type(what) {
+            let clash = self.members_clash(alloc, number)?;
+            return Ok(clash);
+        }
+        if is_home(what) {
+            let clash = self.lists_clash(alloc, number)?;
+            return Ok(clash);
+        }
+        Ok(false)
+    }
+}

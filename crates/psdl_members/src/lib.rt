@@ -1,0 +1,31 @@
+//! The members of the storage types of a PSDL text, and the keys and factories of its storage homes: those in bodies, and
+//! those by descent.
+#![tactic(auto)]
+
+mod asked;
+mod contested;
+mod entries;
+mod entry;
+mod firsts;
+mod inherited;
+mod list_clash;
+mod list_kind;
+mod list_numbers;
+mod listed;
+mod member;
+mod numbers;
+mod own;
+mod own_lists;
+mod own_members;
+mod owners;
+mod pieces;
+mod rows;
+mod type_clash;
+mod written;
+
+pub use inherited::Inherited;
+pub use list_kind::ListKind;
+pub use list_numbers::ListNumbers;
+pub use listed::Listed;
+pub use member::Member;
+pub use own_lists::add_lists;

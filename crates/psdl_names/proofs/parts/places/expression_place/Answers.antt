@@ -1,7 +1,0 @@
-use Rattle.std.proofs.Common.{sym, ap, ◌∙◌}
-use Rattle.psdl_names.specs.Expressions.{unary_place}
-use Rattle.psdl_names.proofs.Beginning.{operand_begins}
-use Rattle.psdl_names.proofs.parts.places.expression_place.Goals as goal
-
-pub returns : goal.returns
-returns c = c.unary_place.ensures ∙ ap unary_place (sym (operand_begins c.args.expression.now))

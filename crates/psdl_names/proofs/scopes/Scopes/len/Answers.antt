@@ -1,8 +1,0 @@
-use Rattle.std.proofs.Common.{◌≡◌, length, arith, ◌+◌}
-use Rattle.psdl_names.proofs.Rows.{length-paths_of}
-use Rattle.psdl_names.proofs.scopes.Scopes.len.Goals as goal
-
-pub returns-clause-len : goal.returns-clause-len
-returns-clause-len c =
-    let len : length c.args.self.now ≡ length c.self.inside.rows.items + 1 = rw (← c.self.view_is) (length-paths_of c.self.inside.rows.items) in
-    omega (arith, len)

@@ -1,6 +1,0 @@
-use Rattle.std.proofs.Common.{take}
-use Rattle.psdl_names.specs.Tables.{Tabulates}
-use Rattle.psdl_names.proofs.table.table_of.Given as goal
-
-abbrev pub invariant-loop-i : goal.invariant-loop-i
-invariant-loop-i l = Tabulates l.table (take l.i l.names)

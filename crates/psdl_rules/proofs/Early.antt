@@ -1,0 +1,97 @@
+-- Faults of lists that would not be the least.
+use Rattle.std.proofs.Common.{◌≡◌, ℕ, ◌≤◌, List, [], ◌∷◌, ◌++◌, Bool, true, false, ◌||◌, ◌&&◌, ◌==◌, nat_lt, not, Option, Some, None, refl, ap, ◌∙◌, arith}
+use Rattle.std.specs.List.{flat_map, list_any, find}
+use Rattle.psdl_tree.specs.declared.names.Identifier.{Identifier}
+use Rattle.psdl_tree.specs.Trees.{Key, Factory}
+use Rattle.type_layout.specs.Schemas.{given}
+use Rattle.pss_base.specs.declared.place.Place.{Place}
+use Rattle.psdl_directory.specs.declared.fault.CheckFault.{CheckFault}
+use Rattle.psdl_directory.specs.declared.fault.CheckKind.{CheckKind}
+use Rattle.psdl_directory.specs.declared.fault.CheckKind.TheVariants.{KeyMember, KeyType, FactoryMember}
+use Rattle.psdl_directory.specs.Declarations.{Declaration}
+use Rattle.psdl_directory.specs.Fault.{number, fault_if}
+use Rattle.psdl_directory.specs.Noting.{noting, comes_first}
+use Rattle.psdl_directory.specs.Parts.{key_list, factory_list}
+use Rattle.psdl_directory.proofs.Noting.{noting-append, late}
+use Rattle.psdl_lineage.specs.Descent.{StateMember}
+use Rattle.psdl_standings.specs.Standings.{Standing}
+use Rattle.psdl_rules.specs.Members.{is_called, same_name, listed_wrong, is_compound, keyed_wrong}
+use Rattle.psdl_rules.specs.inner.Early.{is_early, key_early, factory_early}
+use Rattle.psdl_rules.specs.inner.Listing.{listed_faults}
+
+later_plain : (p q m n : ℕ) → 8 ≤ n → (nat_lt q p || ((q == p) && nat_lt 8 m)) ≡ false → (nat_lt q p || ((q == p) && nat_lt n m)) ≡ false
+later_plain p q m n le h = grind arith
+
+-- a later kind at one place
+later : (first : Option CheckFault) (kind : CheckKind) (place : Place) → 8 ≤ number kind → comes_first first KeyMember place ≡ false → comes_first first kind place ≡ false
+later None kind place le h = absurd (cc)
+later (Some f) kind place le h = later_plain f.place.offset place.offset (number f.kind) (number kind) le h
+
+pub late_at : (first : Option CheckFault) (kind : CheckKind) (i : Identifier) (holds : Bool) → 8 ≤ number kind → is_early first i ≡ false → noting first (fault_if holds kind i.place) ≡ first
+late_at first kind i holds le h = late first kind i.place holds (later first kind i.place le h)
+
+either : (a b : Bool) → a || b ≡ false → (a ≡ false) × (b ≡ false)
+either true b h = absurd (cc)
+either false b h = (refl, h)
+
+-- where each of some changes nothing, all of them change nothing
+pub late_all : {X : Type 0} (first : Option CheckFault) (early : X → Bool) (f : X → List CheckFault) → ((x : X) → early x ≡ false → noting first (f x) ≡ first)
+    → (xs : List X) → list_any early xs ≡ false → noting first (flat_map f xs) ≡ first
+late_all first early f none [] h = refl
+late_all first early f none (x ∷ xs) h =
+    let both = either (early x) (list_any early xs) h in
+    noting-append first (f x) (flat_map f xs)
+    ∙ ap (λ (o : Option CheckFault). noting o (flat_map f xs)) (none x both.0)
+    ∙ late_all first early f none xs both.1
+
+pub late_listed : (first : Option CheckFault) (kind : CheckKind) (ms : List StateMember) (earlier is : List Identifier) → 8 ≤ number kind → list_any (is_early first) is ≡ false → noting first (listed_wrong kind ms earlier is) ≡ first
+late_listed first kind ms earlier [] le h = refl
+late_listed first kind ms earlier (i ∷ is) le h =
+    let both = either (is_early first i) (list_any (is_early first) is) h in
+    let wrong = not (list_any (is_called i) ms) || list_any (same_name i) earlier in
+    noting-append first (fault_if wrong kind i.place) (listed_wrong kind ms (i ∷ earlier) is)
+    ∙ ap (λ (o : Option CheckFault). noting o (listed_wrong kind ms (i ∷ earlier) is)) (late_at first kind i wrong le both.0)
+    ∙ late_listed first kind ms (i ∷ earlier) is le both.1
+
+late_keyed_one : (all : List Declaration) (done : List Standing) (first : Option CheckFault) (ms : List StateMember) (i : Identifier) → is_early first i ≡ false → noting first (keyed_wrong all done ms i) ≡ first
+late_keyed_one all done first ms i h = by (find (is_called i) ms)
+  where
+    nine : 8 ≤ number KeyType
+    nine = omega arith
+
+    by : (o : Option StateMember) → noting first (given o [] (λ m. fault_if (is_compound all done m) KeyType i.place)) ≡ first
+    by None = refl
+    by (Some m) = late_at first KeyType i (is_compound all done m) nine h
+
+pub late_keyed : (all : List Declaration) (done : List Standing) (first : Option CheckFault) (ms : List StateMember) (is : List Identifier) → list_any (is_early first) is ≡ false
+    → noting first (flat_map (keyed_wrong all done ms) is) ≡ first
+late_keyed all done first ms is h = late_all first (is_early first) (keyed_wrong all done ms) (late_keyed_one all done first ms) is h
+
+late_key_members : (first : Option CheckFault) (ms : List StateMember) (keys : List Key) → list_any (key_early first) keys ≡ false → noting first (flat_map (λ k. listed_wrong KeyMember ms [] (key_list k)) keys) ≡ first
+late_key_members first ms keys h = late_all first (key_early first) (λ k. listed_wrong KeyMember ms [] (key_list k)) (λ k e. late_listed first KeyMember ms [] (key_list k) eight e) keys h
+  where
+    eight : 8 ≤ number KeyMember
+    eight = omega arith
+
+late_key_types : (all : List Declaration) (done : List Standing) (first : Option CheckFault) (ms : List StateMember) (keys : List Key) → list_any (key_early first) keys ≡ false
+    → noting first (flat_map (λ k. flat_map (keyed_wrong all done ms) (key_list k)) keys) ≡ first
+late_key_types all done first ms keys h = late_all first (key_early first) (λ k. flat_map (keyed_wrong all done ms) (key_list k)) (λ k e. late_keyed all done first ms (key_list k) e) keys h
+
+late_factories : (first : Option CheckFault) (ms : List StateMember) (factories : List Factory) → list_any (factory_early first) factories ≡ false
+    → noting first (flat_map (λ f. listed_wrong FactoryMember ms [] (factory_list f)) factories) ≡ first
+late_factories first ms factories h = late_all first (factory_early first) (λ f. listed_wrong FactoryMember ms [] (factory_list f)) (λ f e. late_listed first FactoryMember ms [] (factory_list f) ten e) factories h
+  where
+    ten : 8 ≤ number FactoryMember
+    ten = omega arith
+
+-- the lists of a home
+pub late_lists : (all : List Declaration) (done : List Standing) (first : Option CheckFault) (ms : List StateMember) (keys : List Key) (factories : List Factory)
+    → (list_any (key_early first) keys || list_any (factory_early first) factories) ≡ false → noting first (listed_faults all done ms keys factories) ≡ first
+late_lists all done first ms keys factories h =
+    let both = either (list_any (key_early first) keys) (list_any (factory_early first) factories) h in
+    let a = flat_map (λ k. listed_wrong KeyMember ms [] (key_list k)) keys in
+    let b = flat_map (λ k. flat_map (keyed_wrong all done ms) (key_list k)) keys in
+    let c = flat_map (λ f. listed_wrong FactoryMember ms [] (factory_list f)) factories in
+    noting-append first (a ++ b) c
+    ∙ ap (λ (o : Option CheckFault). noting o c) (noting-append first a b ∙ ap (λ (o : Option CheckFault). noting o b) (late_key_members first ms keys both.0) ∙ late_key_types all done first ms keys both.0)
+    ∙ late_factories first ms factories both.1

@@ -1,0 +1,14 @@
+pub mod Parts
+pub mod Passing
+pub mod Foremost
+pub mod Headers
+pub mod Redefining
+pub mod Noted
+pub mod Kindred
+pub mod Slots
+pub mod Typing
+pub mod Recording
+pub mod Listed
+pub mod Early
+pub mod Found
+pub mod HomeTypes

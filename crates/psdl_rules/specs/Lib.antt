@@ -1,0 +1,10 @@
+pub mod Texts
+pub mod Whole
+pub mod Scoping
+pub mod Forward
+pub mod Members
+pub mod Families
+pub mod Layouts
+pub mod Limits
+pub mod Faults
+pub mod inner

@@ -1,0 +1,16 @@
+pub mod Expressions
+pub mod Values
+pub mod Standings
+pub mod Uses
+pub mod Naming
+pub mod Ranges
+pub mod StateTypes
+pub mod Nesting
+pub mod Depths
+pub mod Selves
+pub mod States
+pub mod Extents
+pub mod Turns
+pub mod TextLengths
+pub mod Texts
+pub mod inner

@@ -1,0 +1,23 @@
+-- What proofs alone speak of.
+pub mod Alone
+pub mod Assessments
+pub mod Widths
+pub mod Classes
+pub mod TypeNodes
+pub mod TypeCodes
+pub mod TextMeasured
+pub mod TypeLengths
+pub mod TypeTables
+pub mod TypeNumbers
+pub mod Tellings
+pub mod Sights
+pub mod Walks
+pub mod Walked
+pub mod Fields
+pub mod Entries
+pub mod Constants
+pub mod Measured
+pub mod Levels
+pub mod KeptCodes
+pub mod Stood
+pub mod Declared

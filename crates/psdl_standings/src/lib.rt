@@ -1,0 +1,38 @@
+//! What the declarations of a PSDL text stand for: types, by number, and values of constants.
+#![tactic(auto)]
+
+mod assess;
+mod assessment;
+mod bodies;
+mod body_faults;
+mod bound;
+mod constants;
+mod copied;
+mod enumeration_length;
+mod extent;
+mod levels;
+mod need;
+mod nesting;
+mod new_types;
+mod operator;
+mod places;
+mod range;
+mod sight;
+mod sorts;
+mod spot;
+mod standings;
+mod state_entry;
+mod structs;
+mod telling;
+mod text_length;
+mod told;
+mod type_extents;
+mod types;
+mod walk;
+mod whole;
+
+pub use extent::Extent;
+pub use standings::Standings;
+pub use state_entry::StateEntry;
+pub use text_length::TextLength;
+pub use types::Types;

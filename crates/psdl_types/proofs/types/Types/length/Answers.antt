@@ -1,7 +1,0 @@
-use Rattle.psdl_types.specs.TypeNodes.{types_of}
-use Rattle.psdl_types.proofs.Numbered.{length_at}
-use Rattle.psdl_types.proofs.types.Types.length.Goals as goal
-
-pub returns : goal.returns
-returns c =
-    rw (← c.self.view_is, c.index.ensures) (length_at c.self.inside.lengths.items (types_of c.self.inside.nodes.items) c.args.number c.index.result.now c.self.invariant.measured (rw c.self.view_is c.requires))

@@ -1,5 +1,0 @@
-use Rattle.std.proofs.Common.{◌≡◌, ◌++◌, ◌∷◌, drop, map}
-use Rattle.psdl_types.proofs.types.names_of.Given as goal
-
-abbrev pub invariant-loop-identifier : goal.invariant-loop-identifier
-invariant-loop-identifier l = l.names ++ map (λ i. i.name) (drop l.identifier-index l.enumerators.others.items) ≡ map (λ i. i.name) (l.enumerators.first ∷ l.enumerators.others.items)

@@ -102,6 +102,3 @@ impl KeyIndex {
         }
     }
 }
-
-#[cfg(test)]
-mod tests;

@@ -5,9 +5,6 @@ ghost use Rattle.std.specs.Option.{option_map};
 ghost use Rattle.link_pool.specs.Rings.{following, first_in, list_in};
 ghost use Rattle.link_pool.specs.Meaning.{empty_pool, row_in, col_in, item_in, first_seat, row_and_item, col_and_item, inserted, unlinked, AreRings, IsCountable};
 
-#[cfg(test)]
-mod tests;
-
 use crate::cells::{
     Cell, Side, add_head, add_last, first_of, next_of, remove_head, seat_of, take_out,
 };

@@ -127,6 +127,3 @@ impl LockTable {
         &self.links.pool
     }
 }
-
-#[cfg(test)]
-mod tests;

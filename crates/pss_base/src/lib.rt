@@ -42,6 +42,3 @@ pub use source::{Source, StdSource};
 pub use steps::Steps;
 pub use stop::{DiskFault, StoreStop};
 pub use whole::{ReadAll, read_all};
-
-#[cfg(test)]
-mod tests;

@@ -71,6 +71,3 @@ pub fn read_short_pid(text: &[u8]) -> Option<u64>
     }
     hex_number(text)
 }
-
-#[cfg(test)]
-mod tests;

@@ -15,6 +15,3 @@ pub use gate::set_gate;
 pub use memory::MemStation;
 pub use real::RealStation;
 pub use station::Station;
-
-#[cfg(test)]
-mod tests;

@@ -1,1 +1,2 @@
+mod NumberWords
 mod Words

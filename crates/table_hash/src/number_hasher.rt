@@ -59,6 +59,23 @@ impl Hasher for NumberHasher {
         self.state = mixed(self.state, word_of(bytes));
     }
 
+    // The word that its four bytes make has them in its high half.
+    #[inline(always)]
+    fn write_u32(&mut self, i: u32) {
+        self.state = mixed(self.state, (i as u64) << 32);
+    }
+
+    // The word that its eight bytes make is the number.
+    #[inline(always)]
+    fn write_u64(&mut self, i: u64) {
+        self.state = mixed(self.state, i);
+    }
+
+    #[inline(always)]
+    fn write_usize(&mut self, i: usize) {
+        self.state = mixed(self.state, i as u64);
+    }
+
     #[inline(always)]
     fn finish(&self) -> u64 {
         self.state

@@ -1,19 +1,23 @@
 -- How the map and the set follow the slots.
-use Rattle.std.proofs.Common.{ℕ, ◌≡◌, List, [], ◌∷◌, Option, Some, None, Bool, true, false, cond, refl, sym, ap, ◌∙◌, IsSome, OnOk, Result, Ok, Err, rules}
+use Rattle.std.proofs.Common.{ℕ, zero, suc, ◌≡◌, List, [], ◌∷◌, Option, Some, None, Bool, true, false, cond, refl, sym, ap, ◌∙◌, IsSome, OnOk, IfOk, Result, Ok, Err, slice_get, rules}
 use Rattle.std.specs.Ordering.{nat_cmp}
 use Rattle.std.specs.Prelude.{◌||◌, ◌&&◌, ◌++◌, not}
 use Rattle.std.specs.List.{filter}
 use Rattle.std.specs.Cmp.Lexicographic.{slice_cmp, texts_ties, nat_list_cmp_total, nat_list_eq_equiv}
 use Rattle.std.specs.Str.{bytes_eq}
-use Rattle.std.specs.Map.{KeepsOthers}
+use Rattle.std.specs.Map.{KeepsOthers, lookup_key, values_of}
+use Rattle.std.specs.Option.{option_map, unwrap_or}
 use Rattle.std.proofs.lemmas.Map.Entries.{lookup-filter-keys}
+use Rattle.std.proofs.lemmas.Map.Made.{lookup_key_passes}
+use Rattle.indexmap.specs.IndexMap.{IndexMap, IsUnique, values, with_value_at}
+use Rattle.indexmap.proofs.CallerLemmas.{updates-with_value_at}
 use Rattle.std.proofs.lemmas.Slice.Eq.{bytes_eq-Decides}
 use Rattle.std.specs.declared.vec.Vec.{Vec}
 use Rattle.std.specs.FinMap as map
 use Rattle.std.specs.FinSet as set
 use Rattle.std.specs.FinMap.{nat_cmp-IsAntisymmetric, slice_cmp-IsAntisymmetric}
 use Rattle.key_index.specs.declared.slots.Slot.{Slot}
-use Rattle.key_index.specs.Slots.{slot_at, long_slot, is_short, bytes_of, joined, Turns, held_of, reserved_of, with_held, with_reserved, serial_of, is_reserved, serial_at, is_reserved_at}
+use Rattle.key_index.specs.Slots.{slot_at, key_at, long_slot, is_short, bytes_of, joined, Turns, held_of, reserved_of, with_held, with_reserved, serial_of, is_reserved, serial_at, is_reserved_at}
 
 same_bytes : (xs ys : List ℕ) → bytes_eq xs ys ≡ true → xs ≡ ys
 same_bytes xs ys h = (bytes_eq-Decides xs ys).0 h
@@ -36,6 +40,10 @@ long_at q es = sym (slot-bytes_of q es)
 pub on_ok : {A E P Q : Type 0} (r : Result A E) → (P → Q) → OnOk r P → OnOk r Q
 on_ok (Ok a) f p = f p
 on_ok (Err e) f p = p
+
+pub given_ok : {A E : Type 0} {P Q : A → Type 0} (r : Result A E) → ((a : A) → P a → Q a) → IfOk r P → IfOk r Q
+given_ok (Ok a) f p = f a p
+given_ok (Err e) f p = p
 
 -- how the table of short keys turns
 pub short_turned : (key : List ℕ) (old new : List (List ℕ × Slot)) (slot : Option Slot) → ((q : List ℕ) → slot_at q new ≡ cond (bytes_eq key q) slot (slot_at q old)) → Turns old new key slot
@@ -99,6 +107,34 @@ turned_long key short old new slot is turns q =
     (λ e here. at_long q short new (ap is_short (same_bytes q key here) ∙ is) ∙ turns q ∙ ap (λ b. cond b slot (slot_at q old)) here)
     (λ e apart. joined_at q short new ∙ ap (cond (is_short q) (slot_at q short)) (turns q ∙ ap (λ b. cond b slot (slot_at q old)) apart) ∙ sym (joined_at q short old))
     refl
+
+-- a slot that turns twice
+pub turned_twice : (a b c : List (List ℕ × Slot)) (key : List ℕ) (s t : Option Slot) → Turns a b key s → Turns b c key t → Turns a c key t
+turned_twice a b c key s t one two q = two q ∙ ap (cond (bytes_eq q key) t) (one q) ∙ over (bytes_eq q key)
+  where
+    over : (e : Bool) → cond e t (cond e s (slot_at q a)) ≡ cond e t (slot_at q a)
+    over true = refl
+    over false = refl
+
+-- the key that was found is the one that was looked for
+pub found_key : (es : List (List ℕ × Slot)) (place : ℕ) (key there : List ℕ) (slot : Slot) → Some there ≡ lookup_key (bytes_eq key) es → slice_get es place ≡ Some (there, slot) → key_at place es ≡ Some key
+found_key es place key there slot is at = ap (option_map (λ e. e.0)) at ∙ ap Some (sym (same_bytes key there (lookup_key_passes (bytes_eq key) es there (sym is))))
+
+-- what stands at a place has its key
+stands : (es : List (List ℕ × Slot)) (place : ℕ) (key : List ℕ) (slot : Slot) → key_at place es ≡ Some key → slice_get (values_of es) place ≡ Some slot → slice_get es place ≡ Some (key, slot)
+stands [] place key slot at is = cc
+stands (e ∷ es) zero key slot at is = λ i. Some (unwrap_or (at i) key, unwrap_or (is i) slot)
+stands (e ∷ es) (suc place) key slot at is = stands es place key slot at is
+
+-- a slot that is written at its place
+pub place_turned : {S : Type 0} (m : IndexMap (List ℕ) Slot S) (place : ℕ) (key : List ℕ) (was slot : Slot) → IsUnique bytes_eq m → key_at place m.entries ≡ Some key → Some was ≡ slice_get (values m) place → Turns m.entries (with_value_at m place slot).entries key (Some slot)
+place_turned m place key was slot unique at is = short_turned key m.entries _ (Some slot) (updates-with_value_at m place slot nat_list_eq_equiv unique key was (stands m.entries place key was at (sym is))).0
+
+-- where a key stands, there is a slot
+pub none_stands : (es : List (List ℕ × Slot)) (place : ℕ) (key : List ℕ) → key_at place es ≡ Some key → None ≡ slice_get (values_of es) place → ⊥
+none_stands [] place key at none = cc
+none_stands (e ∷ es) zero key at none = cc
+none_stands (e ∷ es) (suc place) key at none = none_stands es place key at none
 
 get-with_held : (s : Option ℕ) (k q : List ℕ) (m : map.FinMap (slice_cmp nat_cmp) ℕ) → map.get (with_held s k m) q ≡ cond (bytes_eq q k) s (map.get m q)
 get-with_held None k q m = map.get-remove nat_list_cmp_total m k q ∙ ap (λ b. cond b None (map.get m q)) (sym (texts_ties q k))

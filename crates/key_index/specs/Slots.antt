@@ -1,6 +1,7 @@
 -- What the slots of an index stand for.
-use Rattle.std.specs.Prelude.{ℕ, ◌≡◌, List, [], ◌∷◌, ◌++◌, Option, Some, None, Bool, true, false, cond, not, nat_le, length}
+use Rattle.std.specs.Prelude.{ℕ, ◌≡◌, List, [], ◌∷◌, ◌++◌, Option, Some, None, Bool, true, false, cond, not, nat_le, length, slice_get}
 use Rattle.std.specs.List.{filter}
+use Rattle.std.specs.Option.{option_map}
 use Rattle.std.specs.Ordering.{nat_cmp}
 use Rattle.std.specs.Cmp.Lexicographic.{slice_cmp}
 use Rattle.std.specs.Str.{bytes_eq}
@@ -51,6 +52,10 @@ is_short key = nat_le (length key) 24
 -- the slot of a key
 abbrev pub slot_at : List ℕ → List (List ℕ × Slot) → Option Slot
 slot_at key es = lookup (bytes_eq key) es
+
+-- the key at a place
+abbrev pub key_at : ℕ → List (List ℕ × Slot) → Option (List ℕ)
+key_at place es = option_map (λ e. e.0) (slice_get es place)
 
 -- the slot of this key is another one, and all others stay
 abbrev pub Turns : List (List ℕ × Slot) → List (List ℕ × Slot) → List ℕ → Option Slot → Type 0

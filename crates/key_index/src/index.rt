@@ -59,15 +59,12 @@ impl KeyIndex {
         ensures ok { OnOk result (self.new.reserved ≡ set.insert self.old.reserved key.now) }
         ensures err { OnErr result (self.new.reserved ≡ self.old.reserved) }
     {
-        match read(&self.slots, key) {
+        match add(self.alloc, &mut self.slots, key, Slot::Reserved)? {
             Some(slot) => {
                 write(&mut self.slots, key, slot.and_reserved());
                 Ok(())
             }
-            None => {
-                add(self.alloc, &mut self.slots, key, Slot::Reserved)?;
-                Ok(())
-            }
+            None => Ok(()),
         }
     }
 

@@ -1,6 +1,6 @@
 // The tables behind an index: a slot for each key that is held, reserved or both.
-ghost use Rattle.std.specs.Prelude.{◌≡◌, [], Some, None, true, OnOk, OnErr, IfSome, IsSome};
-ghost use Rattle.key_index.specs.Slots.{slot_at, long_slot, slots_of, bytes_of, Turns};
+ghost use Rattle.std.specs.Prelude.{◌≡◌, [], Some, None, true, OnOk, OnErr, IfOk, IfSome, IsSome};
+ghost use Rattle.key_index.specs.Slots.{slot_at, key_at, long_slot, slots_of, bytes_of, Turns};
 
 use crate::short::{ShortKey, short_of};
 use indexmap::IndexMap;
@@ -64,8 +64,8 @@ type Table<K> = IndexMap<K, Slot, BuildHasherDefault<ByteHasher>>;
 pub struct Slots {
     short: Table<ShortKey>,
     long: Table<Vec<u8>>,
-    // The place behind that of the short key found last, where the next one is looked for first: keys are often asked for in the
-    // order in which they were put. It may be any number.
+    // The place of the short key that was added last, or behind that of the one found last, where the next one is looked for first:
+    // keys are often asked for in the order in which they were put. It may be any number.
     ahead: Cell<usize>,
 }
 
@@ -141,17 +141,44 @@ pub fn write(slots: &mut Slots, key: &[u8], slot: Slot)
     ensures { Turns (slots_of slots.old) (slots_of slots.new) key.now (Some slot) }
 {
     match short_of(key) {
-        Some(short) => write_short(&mut slots.short, &short, slot),
+        Some(short) => write_short(&mut slots.short, &slots.ahead, &short, slot),
         None => write_long(&mut slots.long, key, slot),
     }
 }
 
-fn write_short(table: &mut Table<ShortKey>, key: &ShortKey, slot: Slot)
+fn write_short(table: &mut Table<ShortKey>, ahead: &Cell<usize>, key: &ShortKey, slot: Slot)
     requires { IsSome (slot_at key.now table.old.entries) }
     ensures { Turns table.old.entries table.new.entries key.now (Some slot) }
 {
-    if let Some(place) = table.get_mut(key) {
-        *place = slot;
+    let place = known_place(table, ahead, key);
+    ahead.set(place.wrapping_add(1));
+    if let Some(there) = table.get_index_mut(place) {
+        *there = slot;
+    }
+}
+
+// The place of a key that is there. Where it is the next one, it is not hashed.
+fn known_place(table: &Table<ShortKey>, ahead: &Cell<usize>, key: &ShortKey) -> usize
+    requires { IsSome (slot_at key.now table.now.entries) }
+    ensures { key_at result table.now.entries ≡ Some key.now }
+{
+    let next = ahead.get();
+    if stands_at(table, next, key) {
+        return next;
+    }
+    match table.get_full(key) {
+        Some((place, _, _)) => place,
+        None => unreachable!(),
+    }
+}
+
+// Whether a key stands at a place of the table.
+fn stands_at(table: &Table<ShortKey>, place: usize, key: &ShortKey) -> bool
+    ensures { result ≡ true → key_at place table.now.entries ≡ Some key.now }
+{
+    match table.get_index(place) {
+        Some((there, _)) => there == key,
+        None => false,
     }
 }
 
@@ -178,23 +205,36 @@ pub fn remove(slots: &mut Slots, key: &[u8])
     }
 }
 
-/// Makes a slot for a key.
-pub fn add(alloc: Global, slots: &mut Slots, key: &[u8], slot: Slot) -> Result<(), NoMemory>
+/// Puts a slot for a key, and answers the one that it had. The key is looked for there next.
+pub fn add(
+    alloc: Global,
+    slots: &mut Slots,
+    key: &[u8],
+    slot: Slot,
+) -> Result<Option<Slot>, NoMemory>
+    ensures had { IfOk result (λ had. had ≡ slot_at key.now (slots_of slots.old)) }
     ensures ok { OnOk result (Turns (slots_of slots.old) (slots_of slots.new) key.now (Some slot)) }
     ensures err { OnErr result (slots_of slots.new ≡ slots_of slots.old) }
 {
     match short_of(key) {
-        Some(short) => add_short(&mut slots.short, short, slot),
+        Some(short) => add_short(&mut slots.short, &slots.ahead, short, slot),
         None => add_long(alloc, &mut slots.long, key, slot),
     }
 }
 
-fn add_short(table: &mut Table<ShortKey>, key: ShortKey, slot: Slot) -> Result<(), NoMemory>
+fn add_short(
+    table: &mut Table<ShortKey>,
+    ahead: &Cell<usize>,
+    key: ShortKey,
+    slot: Slot,
+) -> Result<Option<Slot>, NoMemory>
+    ensures had { IfOk result (λ had. had ≡ slot_at key table.old.entries) }
     ensures ok { OnOk result (Turns table.old.entries table.new.entries key (Some slot)) }
     ensures err { OnErr result (table.new.entries ≡ table.old.entries) }
 {
-    table.insert(key, slot)?;
-    Ok(())
+    let (place, had) = table.insert_full(key, slot)?;
+    ahead.set(place);
+    Ok(had)
 }
 
 fn add_long(
@@ -202,11 +242,11 @@ fn add_long(
     table: &mut Table<Vec<u8>>,
     key: &[u8],
     slot: Slot,
-) -> Result<(), NoMemory>
+) -> Result<Option<Slot>, NoMemory>
+    ensures had { IfOk result (λ had. had ≡ long_slot key.now table.old.entries) }
     ensures ok { OnOk result (Turns (bytes_of table.old.entries) (bytes_of table.new.entries) key.now (Some slot)) }
     ensures err { OnErr result (table.new.entries ≡ table.old.entries) }
 {
     let owned = key.to_vec(alloc)?;
-    table.insert(owned, slot)?;
-    Ok(())
+    Ok(table.insert(owned, slot)?)
 }

@@ -1,8 +1,9 @@
 // Owners as they are called, by number.
-ghost use Rattle.std.specs.Prelude.{◌≡◌, ◌-◌, ◌<◌, ◌^◌, IsSome, IsSomeAnd, OnOk, OnErr, option_copied};
+ghost use Rattle.std.specs.Prelude.{◌≡◌, ◌-◌, ◌<◌, ◌^◌, Some, true, IsSome, IsSomeAnd, OnOk, OnErr, option_copied};
 ghost use Rattle.std.specs.FinMap as map;
 ghost use Rattle.incarnations.specs.Maps.{IsWith};
 ghost use Rattle.owner_titles.specs.Meaning.{marked, one_more, unspent};
+ghost use Rattle.owner_titles.specs.inner.Places.{number_at, called_at};
 
 use crate::called::Called;
 use indexmap::IndexMap;
@@ -12,10 +13,14 @@ use std::hash::BuildHasherDefault;
 use std::marker::Model;
 use table_hash::NumberHasher;
 
+type Table = IndexMap<u32, Called, BuildHasherDefault<NumberHasher>>;
+
 /// A finite map from the numbers of owners to how they are called.
 #[derive(Drop)]
 pub struct TitleTable {
-    table: IndexMap<u32, Called, BuildHasherDefault<NumberHasher>>,
+    table: Table,
+    // The place of the owner that was counted for last, where the next one is looked for first. It may be any number.
+    last: usize,
 }
 
 impl Model for TitleTable {
@@ -32,12 +37,47 @@ impl Model for TitleTable {
     ghost view = { λ t. from_entries t.table.entries };
 }
 
+// Whether an owner stands at a place of the table.
+fn stands_at(table: &Table, place: usize, owner: u32) -> bool
+    ensures { result ≡ true → number_at place table.now.entries ≡ Some owner }
+{
+    match table.get_index(place) {
+        Some((there, _)) => *there == owner,
+        None => false,
+    }
+}
+
+// The place of an owner by its hash.
+#[inline(never)]
+fn find_place(table: &Table, owner: u32) -> usize
+    requires { IsSome (called_at owner table.now.entries) }
+    ensures { number_at result table.now.entries ≡ Some owner }
+{
+    match table.get_full(&owner) {
+        Some((place, _, _)) => place,
+        None => unreachable!(),
+    }
+}
+
+// The place of an owner, looked for first at this one.
+fn place_of(table: &Table, last: usize, owner: u32) -> usize
+    requires { IsSome (called_at owner table.now.entries) }
+    ensures { number_at result table.now.entries ≡ Some owner }
+{
+    if stands_at(table, last, owner) {
+        last
+    } else {
+        find_place(table, owner)
+    }
+}
+
 impl TitleTable {
     pub fn new(alloc: Global) -> TitleTable
         ensures { result ≡ map.empty }
     {
         TitleTable {
             table: IndexMap::with_hasher(alloc, BuildHasherDefault::new()),
+            last: 0,
         }
     }
 
@@ -66,11 +106,14 @@ impl TitleTable {
         }
     }
 
+    #[inline(always)]
     pub fn count(&mut self, owner: OwnerNo)
         requires { IsSomeAnd (map.get self.old owner.0) (λ called. called.commands < 2 ^ 32 - 1) }
         ensures { IsWith self.old self.new owner.0 one_more }
     {
-        match self.table.get_mut(&owner.0) {
+        let place = place_of(&self.table, self.last, owner.0);
+        self.last = place;
+        match self.table.get_index_mut(place) {
             Some(called) => called.commands += 1,
             None => unreachable!(),
         }

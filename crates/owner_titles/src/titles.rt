@@ -170,6 +170,7 @@ impl Titles {
     }
 
     /// An owner has done one data command more.
+    #[inline(always)]
     pub fn count(&mut self, owner: OwnerNo)
         requires { IsSomeAnd (map.get self.old.called owner.0) (λ called. called.commands < 2 ^ 32 - 1) }
         ensures { self.new ≡ changed one_more self.old owner }

@@ -1,6 +1,7 @@
-use Rattle.std.proofs.Common.{ℕ, List, map, refl, sym, subst, arith, None, ◌∙◌, []}
+use Rattle.std.proofs.Common.{ℕ, List, map, refl, sym, ap, subst, arith, None, ◌≡◌, ◌∙◌, []}
 use Rattle.std.specs.declared.option.Option.{Option}
 use Rattle.pss_base.specs.Lines.{line_of}
+use Rattle.pss_base.specs.Reading.{Reading}
 use Rattle.pss_disk.proofs.Passing.{none_came}
 use Rattle.line_service.specs.Turns.{IsLine, after}
 use Rattle.line_service.specs.declared.machine.Turn.TheVariants as turns
@@ -197,7 +198,7 @@ pub lines-preserved-in-Went : goal.lines-preserved-in-Went
 lines-preserved-in-Went g c =
     let so_far = c.lines.invariant.so_far in
     let taken = takes_of c.lines.reader c.next-line.new.self _ _ c.next-line.result c.next-line.ensures.step c.in-Line.is in
-    record {
+    rw c.give_back.ensures (record {
       so_far = goes_on _ _ _ _ _ _ _ _ c.lines.reader c.next-line.new.self _ _ _ _ _ _ c.next-line.result so_far taken (c.in-Went.ensures.went refl) c.in-Went.ensures.speaks (c.in-Went.ensures.served refl);
       moments = λ s is. whole_line g.M.LineMachine.turn g.M.LineMachine.passes (λ t disk. (machine : g.row.M.Denot) × (content : Option (List ℕ)) × g.M.LineMachine.is_in machine t content disk) _ _ _ c.lines.reader _ _ s is _ _ _ c.next-line.new.self c.next-line.result so_far.taken so_far.served taken _ _ _ _ turns.Went (λ e. cc)
           (c.lines.invariant.moments s is) (c.in-Went.ensures.moments _ (so_far.served.state s is));
@@ -205,13 +206,13 @@ lines-preserved-in-Went g c =
       read = c.next-line.ensures.cause.kept (not_fault c.next-line.result c.in-Line.is) ∙ c.lines.invariant.read;
       speak = c.in-Went.ensures.speech.kept refl ∙ c.lines.invariant.speak;
       disk = c.in-Went.ensures.disk.kept refl ∙ c.lines.invariant.disk;
-    }
+    })
 
 pub lines-preserved : goal.lines-preserved
 lines-preserved g c =
     let so_far = c.lines.invariant.so_far in
     let taken = takes_of c.lines.reader c.next-line.new.self _ _ c.next-line.result c.next-line.ensures.step c.in-Line.is in
-    record {
+    rw c.give_back.ensures (record {
       so_far = goes_on _ _ _ _ _ _ _ _ c.lines.reader c.next-line.new.self _ _ _ _ _ _ c.next-line.result so_far taken (c.in-Went.ensures.went refl) c.in-Went.ensures.speaks (c.in-Went.ensures.served refl);
       moments = λ s is. whole_line g.M.LineMachine.turn g.M.LineMachine.passes (λ t disk. (machine : g.row.M.Denot) × (content : Option (List ℕ)) × g.M.LineMachine.is_in machine t content disk) _ _ _ c.lines.reader _ _ s is _ _ _ c.next-line.new.self c.next-line.result so_far.taken so_far.served taken _ _ _ _ turns.Went (λ e. cc)
           (c.lines.invariant.moments s is) (c.in-Went.ensures.moments _ (so_far.served.state s is));
@@ -219,14 +220,16 @@ lines-preserved g c =
       read = c.next-line.ensures.cause.kept (not_fault c.next-line.result c.in-Line.is) ∙ c.lines.invariant.read;
       speak = c.in-Went.ensures.speech.kept refl ∙ c.lines.invariant.speak;
       disk = c.in-Went.ensures.disk.kept refl ∙ c.lines.invariant.disk;
-    }
+    })
 
 pub lines-smaller-in-Went : goal.lines-smaller-in-Went
 lines-smaller-in-Went g c =
     let taken = takes_of c.lines.reader c.next-line.new.self _ _ c.next-line.result c.next-line.ensures.step c.in-Line.is in
-    omega (arith, taken.lines)
+    let kept : c.give_back.new.self.lines_left ≡ c.next-line.new.self.lines_left = ap (λ (r : Reading). r.lines_left) c.give_back.ensures in
+    omega (arith, taken.lines, kept)
 
 pub lines-smaller : goal.lines-smaller
 lines-smaller g c =
     let taken = takes_of c.lines.reader c.next-line.new.self _ _ c.next-line.result c.next-line.ensures.step c.in-Line.is in
-    omega (arith, taken.lines)
+    let kept : c.give_back.new.self.lines_left ≡ c.next-line.new.self.lines_left = ap (λ (r : Reading). r.lines_left) c.give_back.ensures in
+    omega (arith, taken.lines, kept)

@@ -70,7 +70,7 @@ pub fn serve<M: LineMachine, C: Source, W: Station>(
             LineStep::ReadFault => return Ending::ReadFault,
             LineStep::NoMemory => return Ending::NoMemory,
             LineStep::Line(_) | LineStep::TooLong => match machine.serve_line(&line, station) {
-                Turn::Went => {}
+                Turn::Went => reader.give_back(line),
                 Turn::DiskFault => return Ending::DiskFault,
                 Turn::SpeakFault => return Ending::SpeakFault,
                 Turn::NoMemory => return Ending::NoMemory,

@@ -10,6 +10,7 @@ use crate::part::{LONGEST, Part, Stop, read_part};
 use crate::{Bytes, Source};
 use std::alloc::Global;
 use std::marker::Model;
+use std::mem::replace;
 
 /// What a call of a reader of lines brings.
 #[derive(Drop)]
@@ -36,6 +37,8 @@ pub enum LineStep {
 pub struct LineReader {
     alloc: Global,
     ahead: Ahead,
+    // A text that was given back: the next line takes its room.
+    spare: Bytes,
     lines_left: u32,
     bytes_left: u64,
     at_end: bool,
@@ -58,6 +61,7 @@ impl LineReader {
         LineReader {
             alloc,
             ahead: Ahead::new(),
+            spare: Bytes::new(alloc),
             lines_left: max_lines,
             bytes_left: max_bytes,
             at_end: false,
@@ -87,12 +91,22 @@ impl LineReader {
             return LineStep::End;
         }
         let most = most_of(self.lines_left, self.bytes_left);
-        match read_part(self.alloc, &mut self.ahead, src, most) {
+        let room = replace(&mut self.spare, Bytes::new(self.alloc));
+        match read_part(room, &mut self.ahead, src, most) {
             Ok(part) => self.take(part),
             Err(stop) => {
                 self.live = false;
                 stopped(stop)
             }
+        }
+    }
+
+    /// Takes a step back that is not needed any more: the next line takes the room of its text.
+    pub fn give_back(&mut self, step: LineStep)
+        ensures { self.new ≡ self.old }
+    {
+        if let LineStep::Line(text) = step {
+            self.spare = text;
         }
     }
 

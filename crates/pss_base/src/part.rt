@@ -8,7 +8,6 @@ ghost use Rattle.pss_base.specs.Parts.{PartOf, StopsAt, is_stopped_by_fault, IsP
 use crate::ahead::Ahead;
 use crate::keep::extend_within;
 use crate::{Bytes, NoMemory, Source};
-use std::alloc::Global;
 
 /// The greatest number of bytes of a line that is handed out, without its line feed.
 pub const LONGEST: u64 = 65536;
@@ -97,10 +96,10 @@ fn take_piece(ahead: &mut Ahead, text: &mut Bytes, count: u64, most: u64) -> Res
     Ok(piece)
 }
 
-/// Reads to the next line feed or the end, and at most so many bytes. It reads from the source only where neither a
-/// line feed nor a byte too many is ahead.
+/// Reads to the next line feed or the end, and at most so many bytes, into the room of another text. It reads from the source
+/// only where neither a line feed nor a byte too many is ahead.
 pub fn read_part<C: Source>(
-    alloc: Global,
+    mut text: Bytes,
     ahead: &mut Ahead,
     source: &mut C,
     most: u64,
@@ -111,7 +110,7 @@ pub fn read_part<C: Source>(
     ensures unread { IsTrue (holds_line most ahead.old) → source.new ≡ source.old }
     ensures cause { HasCauseIf (C.faults source.old) (C.faults source.new) (is_stopped_by_fault result) }
 {
-    let mut text = Bytes::new(alloc);
+    text.clear();
     let mut count = 0;
     'pieces: loop {
         let Ok(()) = ahead.refill(source) else {

@@ -11,7 +11,7 @@ use crate::replying::reply_to;
 use crate::saying::say;
 use connector::Connector;
 use line_service::{LineMachine, Turn};
-use pss_base::{LineStep, StoreStop};
+use pss_base::{Bytes, LineStep, StoreStop};
 use pss_disk::Station;
 use pss_recovery::a_mounted_store_stands;
 use std::alloc::Global;
@@ -22,6 +22,8 @@ pub struct Daemon {
     alloc: Global,
     connector: Connector,
     served: u32,
+    // The line that was spoken last: the next one takes its room.
+    spoken: Bytes,
 }
 
 impl Daemon {
@@ -34,6 +36,7 @@ impl Daemon {
             alloc,
             connector,
             served: 0,
+            spoken: Bytes::new(alloc),
         }
     }
 
@@ -69,11 +72,12 @@ impl LineMachine for Daemon {
 
     ghost served = { served_by };
 
+    #[inline(always)]
     fn serve_line<W: Station>(&mut self, line: &LineStep, station: &mut W) -> Turn {
         a_mounted_store_stands();
         self.served += 1;
         match reply_to(self.alloc, &mut self.connector, line, station) {
-            Ok(Some(reply)) => say(self.alloc, &reply, station),
+            Ok(Some(reply)) => say(&mut self.spoken, &reply, station),
             Ok(None) => Turn::Went,
             Err(StoreStop::DiskFault) => Turn::DiskFault,
             Err(StoreStop::NoMemory) => Turn::NoMemory,

@@ -1,5 +1,5 @@
 // Replies are spoken.
-ghost use Rattle.std.specs.Prelude.{◌≡◌, false, IsTrue, IfOk};
+ghost use Rattle.std.specs.Prelude.{◌≡◌, false, IsTrue, OnOk};
 ghost use Rattle.pss_base.specs.Causes.{HasCauseIf};
 ghost use Rattle.pss_disk.specs.Moments.{Through};
 ghost use Rattle.line_service.specs.Spoken.{HasSpoken};
@@ -11,19 +11,18 @@ use line_service::{Turn, speak};
 use pss_base::{Bytes, NoMemory};
 use pss_disk::Station;
 use pss_machine::Reply;
-use script_text::print_reply;
-use std::alloc::Global;
+use script_text::append_reply;
 
 /// What is spoken for the reply of most commands.
 const DONE: &[u8] = b"OK\n";
 
 // The text of a reply with its line feed.
-fn print_line(alloc: Global, reply: &Reply) -> Result<Bytes, NoMemory>
-    ensures { IfOk result (λ bytes. bytes ≡ line_for reply.now) }
+fn print_line(line: &mut Bytes, reply: &Reply) -> Result<(), NoMemory>
+    ensures { OnOk result (line.new ≡ line_for reply.now) }
 {
-    let mut line = print_reply(alloc, reply)?;
-    line.push(b'\n')?;
-    Ok(line)
+    line.clear();
+    append_reply(line, reply)?;
+    line.push(b'\n')
 }
 
 fn is_done(reply: &Reply) -> bool
@@ -51,8 +50,9 @@ fn speak_line<W: Station>(line: &[u8], station: &mut W) -> Turn
     }
 }
 
-/// Speaks a reply with its line feed in one call. Want of memory comes before anything is spoken.
-pub fn say<W: Station>(alloc: Global, reply: &Reply, station: &mut W) -> Turn
+/// Speaks a reply with its line feed in one call, which is made in the room of another line. Want of memory comes before anything
+/// is spoken.
+pub fn say<W: Station>(line: &mut Bytes, reply: &Reply, station: &mut W) -> Turn
     ensures speaks { Speaks result (line_for reply.now) (W.now station.old).spoken (W.now station.new).spoken }
     ensures disk { (W.now station.new).disk ≡ (W.now station.old).disk }
     ensures content { W.content station.new ≡ W.content station.old }
@@ -64,8 +64,8 @@ pub fn say<W: Station>(alloc: Global, reply: &Reply, station: &mut W) -> Turn
     if is_done(reply) {
         return speak_line(DONE, station);
     }
-    match print_line(alloc, reply) {
-        Ok(line) => speak_line(line.as_slice(), station),
+    match print_line(line, reply) {
+        Ok(()) => speak_line(line.as_slice(), station),
         Err(_) => Turn::NoMemory,
     }
 }

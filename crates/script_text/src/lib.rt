@@ -17,4 +17,4 @@ mod words;
 pub use command::{GetWords, read_command, read_get};
 pub use fault::CommandFault;
 pub use laws::lines_say_one_thing;
-pub use reply::print_reply;
+pub use reply::{append_reply, print_reply};

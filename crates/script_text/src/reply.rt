@@ -35,6 +35,13 @@ fn append_object(out: &mut Bytes, word: &[u8], pid: Pid) -> Result<(), NoMemory>
     append_pid(out, pid)
 }
 
+fn append_value(out: &mut Bytes, value: &Bytes) -> Result<(), NoMemory>
+    ensures { OnOk result (out.new ≡ out.old ++ text (Reply.Val value.now)) }
+{
+    out.extend(b"OK ")?;
+    out.extend(value.as_slice())
+}
+
 fn append_entry(out: &mut Bytes, entry: u32, pid: Pid) -> Result<(), NoMemory>
     ensures { OnOk result (out.new ≡ out.old ++ text (Reply.Entry entry pid)) }
 {
@@ -129,7 +136,8 @@ fn append_stat(out: &mut Bytes, counts: &[(&[u8], u64)]) -> Result<(), NoMemory>
     append_numbers(out, counts)
 }
 
-fn append_reply(out: &mut Bytes, reply: &Reply) -> Result<(), NoMemory>
+/// Adds the text of a reply, without a line feed.
+pub fn append_reply(out: &mut Bytes, reply: &Reply) -> Result<(), NoMemory>
     ensures { OnOk result (out.new ≡ out.old ++ text reply.now) }
 {
     match reply {
@@ -137,7 +145,7 @@ fn append_reply(out: &mut Bytes, reply: &Reply) -> Result<(), NoMemory>
         Reply::Entry { entry, pid } => append_entry(out, *entry, *pid),
         Reply::Reference(pid) => append_object(out, b"OK", *pid),
         Reply::PidAndShort(pid) => append_pid_and_short(out, *pid),
-        Reply::Val(value) => append_behind(out, b"OK", value.as_slice()),
+        Reply::Val(value) => append_value(out, value),
         Reply::Truth(truth) => append_behind(out, b"OK", truth_text(*truth)),
         Reply::Count(count) => append_number(out, b"OK", *count),
         Reply::State(state) => append_behind(out, b"OK", state_text(*state)),

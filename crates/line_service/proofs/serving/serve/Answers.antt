@@ -194,20 +194,6 @@ returns-in-NoMemory-serve_line-clause-disk g c = still_cause _ _ (c.in-NoMemory-
 
 -- ---- the next line
 
-pub lines-preserved-in-Went : goal.lines-preserved-in-Went
-lines-preserved-in-Went g c =
-    let so_far = c.lines.invariant.so_far in
-    let taken = takes_of c.lines.reader c.next-line.new.self _ _ c.next-line.result c.next-line.ensures.step c.in-Line.is in
-    rw c.give_back.ensures (record {
-      so_far = goes_on _ _ _ _ _ _ _ _ c.lines.reader c.next-line.new.self _ _ _ _ _ _ c.next-line.result so_far taken (c.in-Went.ensures.went refl) c.in-Went.ensures.speaks (c.in-Went.ensures.served refl);
-      moments = λ s is. whole_line g.M.LineMachine.turn g.M.LineMachine.passes (λ t disk. (machine : g.row.M.Denot) × (content : Option (List ℕ)) × g.M.LineMachine.is_in machine t content disk) _ _ _ c.lines.reader _ _ s is _ _ _ c.next-line.new.self c.next-line.result so_far.taken so_far.served taken _ _ _ _ turns.Went (λ e. cc)
-          (c.lines.invariant.moments s is) (c.in-Went.ensures.moments _ (so_far.served.state s is));
-      live = still_live c.next-line.result c.next-line.new.self.live c.next-line.ensures.live c.in-Line.is;
-      read = c.next-line.ensures.cause.kept (not_fault c.next-line.result c.in-Line.is) ∙ c.lines.invariant.read;
-      speak = c.in-Went.ensures.speech.kept refl ∙ c.lines.invariant.speak;
-      disk = c.in-Went.ensures.disk.kept refl ∙ c.lines.invariant.disk;
-    })
-
 pub lines-preserved : goal.lines-preserved
 lines-preserved g c =
     let so_far = c.lines.invariant.so_far in
@@ -221,12 +207,6 @@ lines-preserved g c =
       speak = c.in-Went.ensures.speech.kept refl ∙ c.lines.invariant.speak;
       disk = c.in-Went.ensures.disk.kept refl ∙ c.lines.invariant.disk;
     })
-
-pub lines-smaller-in-Went : goal.lines-smaller-in-Went
-lines-smaller-in-Went g c =
-    let taken = takes_of c.lines.reader c.next-line.new.self _ _ c.next-line.result c.next-line.ensures.step c.in-Line.is in
-    let kept : c.give_back.new.self.lines_left ≡ c.next-line.new.self.lines_left = ap (λ (r : Reading). r.lines_left) c.give_back.ensures in
-    omega (arith, taken.lines, kept)
 
 pub lines-smaller : goal.lines-smaller
 lines-smaller g c =

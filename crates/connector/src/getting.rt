@@ -18,6 +18,7 @@ impl Connector {
     /// Performs a `get`, as `perform` does, by its words as they stand in the line. It stores nothing and leaves the store alone.
     ///
     /// `NoMemory`: there was no memory. The connector is not live any more, and nothing more is said of it.
+    #[inline(always)]
     pub fn get(&mut self, s: &[u8], entry: u64, member: &[u8]) -> Result<Reply, NoMemory>
         requires live { is_live self.old ≡ true }
         requires kept { AnyKept self.old }

@@ -155,6 +155,7 @@ pub fn perform_counted<L: Ledger, W: Station>(
 }
 
 /// What a `get` of these words comes to, with a count of steps that nobody reads.
+#[inline(always)]
 pub fn get_counted<L: Ledger>(
     parts: &mut Parts,
     s: &[u8],

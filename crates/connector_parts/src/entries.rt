@@ -9,6 +9,7 @@ use crate::parts::Parts;
 use pss_base::{Pid, SessionNo};
 
 /// The number of an entry, as far as entries may have it. None: no entry has so high a number.
+#[inline(always)]
 pub fn entry_number(entry: u64) -> Option<u32>
     ensures { MatchOption result (2 ^ 32 ≤ entry) (λ n. n ≡ entry) }
 {
@@ -20,6 +21,7 @@ pub fn entry_number(entry: u64) -> Option<u32>
 
 impl Parts {
     /// The object of a session's entry. None exactly where the session has no such entry.
+    #[inline(always)]
     pub fn pid_of(&self, session: SessionNo, entry: u64) -> Option<Pid>
         ensures { (k : Kept) → IsAt self.now k → result ≡ option_map (λ e. e.pid) (entry_numbered (copies_of k session) entry) }
     {

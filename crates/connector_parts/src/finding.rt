@@ -20,6 +20,7 @@ pub struct Found {
 
 impl Parts {
     /// The session of a name. None exactly where no session has it.
+    #[inline(always)]
     pub fn session(&self, name: &[u8]) -> Option<Found>
         ensures { (k : Kept) → Stands self.now k → MatchOption result (session_named k.sessions name.now ≡ None) (IsFound k name.now) }
     {

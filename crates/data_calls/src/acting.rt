@@ -19,6 +19,7 @@ pub struct Acting {
 }
 
 // The transaction that a session of this association acts for.
+#[inline(always)]
 fn active_in(association: Association) -> Option<OwnerNo>
     ensures { result ≡ machine_active_in association }
 {
@@ -31,6 +32,7 @@ fn active_in(association: Association) -> Option<OwnerNo>
 }
 
 // The session as it acts for an owner. None: it acts for nobody.
+#[inline(always)]
 fn acting_for(found: Found) -> Option<Acting>
     ensures { (session : Session) → session.kind ≡ found.kind → session.association ≡ found.association → MatchOption result (machine_acts_for session ≡ None) (ActsFor session found) }
 {
@@ -55,6 +57,7 @@ fn acting_for(found: Found) -> Option<Acting>
 
 /// The session of a name as it acts for an owner. Else the reply to every data command in it: no session has the name, or
 /// it acts for nobody.
+#[inline(always)]
 pub fn acts_in(parts: &Parts, name: &[u8]) -> Result<Acting, Reply>
     ensures { (k : Kept) → IsAt parts.now k → MatchResult result (IsNamed k name.now) (IsIdle parts.now k name.now) }
 {

@@ -9,6 +9,7 @@ use connector_parts::Parts;
 use pss_asking::{Asking, Named};
 
 /// What a command in the session is asked under.
+#[inline(always)]
 pub fn asking(parts: &Parts, acting: Acting) -> Asking<'_>
     ensures schema { result.names.now ≡ parts.now.schema }
     ensures access { result.access ≡ acting.access }
@@ -23,6 +24,7 @@ pub fn asking(parts: &Parts, acting: Acting) -> Asking<'_>
 }
 
 /// The entry of the session that a command names.
+#[inline(always)]
 pub fn named(parts: &Parts, acting: Acting, entry: u64) -> Named
     ensures number { result.number ≡ entry }
     ensures object { (k : Kept) → IsAt parts.now k → IsNamed (copies_of k acting.session) result }

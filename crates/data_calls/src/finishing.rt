@@ -52,6 +52,7 @@ fn finish<L: Ledger>(
 }
 
 /// The reply to a command by what its words ask. After `NoMemory` nothing is said of the parts.
+#[inline(never)]
 pub fn ask<L: Ledger>(
     parts: &mut Parts,
     acting: Acting,

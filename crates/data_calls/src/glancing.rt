@@ -21,6 +21,7 @@ use std::sync::ledger::Ledger;
 use type_layout::Value;
 
 // The member that an operation reads.
+#[inline(always)]
 fn member_read(op: &Op) -> Option<u32>
     ensures { IfSome result (λ member. (p : Pid) × (plain_op op.now ≡ Ask (Get p member))) }
 {
@@ -32,6 +33,7 @@ fn member_read(op: &Op) -> Option<u32>
 
 // The value of the member that a basic session asks for, as the body has it on which the named entry stands. None: it asks for
 // something else, is no basic session, or the entry stands on no body.
+#[inline(always)]
 fn glance(parts: &Parts, acting: Acting, asked: &Asked) -> Result<Option<Value>, NoMemory>
     ensures { IfOk result (λ found. IfSome found (λ value. IsReading (plain_asked asked.now) × ((m : MayTake parts.now acting (plain_asked asked.now)) → IsGlance m (plain_value value)))) }
 {
@@ -52,6 +54,7 @@ fn glance(parts: &Parts, acting: Acting, asked: &Asked) -> Result<Option<Value>,
 
 // The reply to what a body has told: nothing is locked or changed, the entry stands where it stood, and the owner has done a
 // command more.
+#[inline(always)]
 fn tell(parts: &mut Parts, acting: Acting, asked: &Asked, value: &Value) -> Result<Reply, NoMemory>
     requires { (m : MayTake parts.old acting (plain_asked asked.now)) × IsReading (plain_asked asked.now) × IsGlance m (plain_value value.now) }
     ensures { IfOk result (λ reply. (m : MayTake parts.old acting (plain_asked asked.now)) → IsReading (plain_asked asked.now) → IsGlance m (plain_value value.now) → Follows parts.old m.asks.kept (decision_on m.asks) reply parts.new) }
@@ -62,6 +65,7 @@ fn tell(parts: &mut Parts, acting: Acting, asked: &Asked, value: &Value) -> Resu
 }
 
 // What words ask is told by a body, or else asked.
+#[inline(always)]
 fn tell_or_ask<L: Ledger>(
     parts: &mut Parts,
     acting: Acting,
@@ -80,6 +84,7 @@ fn tell_or_ask<L: Ledger>(
 
 /// The reply to a command by what its words ask, as `ask` has it; a member that a basic session reads is told by a body at once
 /// where one has it. After `NoMemory` nothing is said of the parts.
+#[inline(always)]
 pub fn read<L: Ledger>(
     parts: &mut Parts,
     acting: Acting,

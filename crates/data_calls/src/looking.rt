@@ -33,6 +33,7 @@ pub struct Followed {
 }
 
 /// The values of the body on which an entry of the session stands.
+#[inline(always)]
 pub fn values_of(parts: &Parts, session: SessionNo, entry: Option<u64>) -> Option<&Record>
     ensures hold { AreCopies parts.now.attended.copies }
     ensures values { IfSome (option_copied result) (λ values. IsSomeAnd entry (λ n. option_and_then (get parts.now.attended.copies.bodies) (body_under parts.now.attended.copies (slot session n)) ≡ Some values)) }
@@ -49,6 +50,7 @@ pub fn values_of(parts: &Parts, session: SessionNo, entry: Option<u64>) -> Optio
 }
 
 /// The value of a member.
+#[inline(always)]
 pub fn value_at(alloc: Global, values: &Record, member: u32) -> Result<Option<Value>, NoMemory>
     ensures { IfOk result (λ found. option_map plain_value found ≡ slice_get values.now member) }
 {

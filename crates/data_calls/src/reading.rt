@@ -34,6 +34,7 @@ pub fn exists<L: Ledger>(
 }
 
 /// `get`, by its words as they stand in the line.
+#[inline(always)]
 pub fn get_by<L: Ledger>(
     parts: &mut Parts,
     name: &[u8],

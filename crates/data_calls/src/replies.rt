@@ -19,6 +19,7 @@ use type_layout::{HomeNo, KeyNo, Member, Value};
 use value_text::print_value;
 
 // The member of an object with this number.
+#[inline(always)]
 fn member_of(parts: &Parts, pid: Pid, member: u32) -> Option<&Member>
     ensures { option_map (λ m. plain_member m.now) result ≡ member_at parts.now.schema (home_of pid) member }
 {
@@ -29,6 +30,7 @@ fn member_of(parts: &Parts, pid: Pid, member: u32) -> Option<&Member>
 }
 
 /// The text of a value that was read.
+#[inline(always)]
 pub fn value_text(parts: &Parts, op: &Op, value: &Value) -> Result<Bytes, NoMemory>
     requires { MayPrint parts.now.schema (plain_op op.now) (plain_value value.now) }
     ensures { IfOk result (λ text. text ≡ text_in parts.now.schema (plain_op op.now) (plain_value value.now)) }

@@ -78,6 +78,7 @@ impl Incarnations {
     /// Whatever was done, numbers are from 1 to the last one that was given, counts are not 0, a session has at most one
     /// entry for an object, an entry stands on a body that is there, and on each body stands an entry. The call does
     /// nothing: its contract is the law.
+    #[inline(always)]
     pub fn copies_hold(&self)
         ensures { AreCopies self.now }
     {
@@ -190,6 +191,7 @@ impl Incarnations {
     }
 
     /// The object of an entry. None exactly where the session has no such entry.
+    #[inline(always)]
     pub fn pid_of(&self, session: SessionNo, number: u32) -> Option<Pid>
         ensures { result ≡ option_map (λ e. e.pid) (entry_at self.now session number) }
     {
@@ -211,6 +213,7 @@ impl Incarnations {
 
     /// The value of the body that an entry stands on. None exactly where it stands on none, or the session has no such
     /// entry. Nothing is copied.
+    #[inline(always)]
     pub fn value(&self, session: SessionNo, number: u32) -> Option<&Record>
         ensures { option_copied result ≡ option_and_then (get self.now.bodies) (body_under self.now (slot session number)) }
     {

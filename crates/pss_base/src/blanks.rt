@@ -4,6 +4,7 @@ ghost use Rattle.std.specs.List.{prefix_len};
 ghost use Rattle.pss_base.specs.Blanks.{is_blank, behind_blanks};
 
 /// Tells whether a byte is a space or a tab.
+#[inline(always)]
 pub fn is_blank(byte: u8) -> bool
     ensures { result ≡ is_blank byte }
 {
@@ -11,6 +12,7 @@ pub fn is_blank(byte: u8) -> bool
 }
 
 // How many blanks a text begins with.
+#[inline(always)]
 fn count_blanks(text: &[u8]) -> usize
     ensures count { result ≡ prefix_len is_blank text.now }
     ensures within { result ≤ length text.now }
@@ -19,6 +21,7 @@ fn count_blanks(text: &[u8]) -> usize
 }
 
 /// What stands behind the blanks that a text begins with.
+#[inline(always)]
 pub fn skip_blanks(text: &[u8]) -> &[u8]
     ensures { result.now ≡ behind_blanks text.now }
 {

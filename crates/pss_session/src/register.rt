@@ -32,6 +32,7 @@ pub struct Found {
 
 impl SessionRecord {
     /// What the session is, and how it is associated.
+    #[inline(always)]
     pub fn standing(&self) -> Standing
         ensures { (result.kind ≡ self.now.kind) × (result.access ≡ self.now.access) × (result.association ≡ self.now.association) }
     {

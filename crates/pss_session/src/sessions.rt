@@ -104,6 +104,7 @@ impl Sessions {
     }
 
     // The session at a place of the rows, where that of this name stands there.
+    #[inline(always)]
     fn found_there(&self, place: usize, name: &[u8]) -> Option<Found>
         ensures { IfSome result (IsFound self.now name.now) }
     {
@@ -117,6 +118,7 @@ impl Sessions {
     }
 
     // The session of a name by its hash. The next one is looked for at its place.
+    #[inline(never)]
     fn look_up(&self, name: &[u8]) -> Option<Found>
         ensures { MatchOption result (number_named self.now name.now ≡ None) (IsFound self.now name.now) }
     {
@@ -132,6 +134,7 @@ impl Sessions {
 
     /// The session of a name, and its standing: `find` and `standing` by one look-up, and by none where it was the session found last.
     /// None exactly where no session has the name.
+    #[inline(always)]
     pub fn find_standing(&self, name: &[u8]) -> Option<Found>
         ensures { MatchOption result (number_named self.now name.now ≡ None) (IsFound self.now name.now) }
     {

@@ -121,6 +121,7 @@ impl NamedSchema {
     }
 
     // The names of what a home has, where the home is there.
+    #[inline(always)]
     fn names_at(&self, home: HomeNo) -> Option<&HomeNames>
         ensures { MatchOption result (home_in self.now home ≡ None) (λ names. AreNamesAt self.now home names.now) }
     {
@@ -131,6 +132,7 @@ impl NamedSchema {
     }
 
     /// The place, from 0, of a home's member of a name. None: the home is not there, or has no such member.
+    #[inline(always)]
     pub fn member(&self, home: HomeNo, word: &[u8]) -> Option<u32>
         ensures { result ≡ member_named self.now home word.now }
     {

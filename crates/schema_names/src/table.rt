@@ -21,6 +21,7 @@ pub fn empty<T: Copy + Drop>(alloc: Global) -> NameTable<T>
 const FEW: usize = 4;
 
 // What stands at a place of the table, where the name stands there.
+#[inline(always)]
 fn value_there<T: Copy + Drop>(table: &NameTable<T>, place: usize, name: &[u8]) -> Option<T>
     ensures { IfSome result (λ value. value_at table.now.entries name.now ≡ Some value) }
 {
@@ -31,6 +32,7 @@ fn value_there<T: Copy + Drop>(table: &NameTable<T>, place: usize, name: &[u8]) 
 }
 
 // What stands behind a name that is one of the first.
+#[inline(always)]
 fn read_first<T: Copy + Drop>(table: &NameTable<T>, name: &[u8]) -> Option<T>
     ensures { IfSome result (λ value. value_at table.now.entries name.now ≡ Some value) }
 {
@@ -43,6 +45,7 @@ fn read_first<T: Copy + Drop>(table: &NameTable<T>, name: &[u8]) -> Option<T>
 }
 
 /// What stands behind a name, if something does.
+#[inline(always)]
 pub fn read<T: Copy + Drop>(table: &NameTable<T>, name: &[u8]) -> Option<T>
     ensures { result ≡ value_at table.now.entries name.now }
 {

@@ -56,6 +56,7 @@ fn reply_to_command<W: Station>(
 }
 
 // The reply to a line by the command that is read of its text, if it has one.
+#[inline(never)]
 fn reply_to_any<W: Station>(
     alloc: Global,
     connector: &mut Connector,
@@ -91,6 +92,7 @@ fn reply_to_any<W: Station>(
 }
 
 // Performs the `get` of these words, and tells the reply.
+#[inline(always)]
 fn reply_to_get(connector: &mut Connector, words: GetWords<'_>) -> Result<Option<Reply>, StoreStop>
     requires ready { IsReady connector.old }
     ensures reply { IfOk result (λ reply. (k : Kept) → Keeps connector.old k
@@ -107,6 +109,7 @@ fn reply_to_get(connector: &mut Connector, words: GetWords<'_>) -> Result<Option
 }
 
 // The reply to a line by its text, if it has one.
+#[inline(always)]
 fn reply_to_text<W: Station>(
     alloc: Global,
     connector: &mut Connector,
@@ -135,6 +138,7 @@ fn reply_to_text<W: Station>(
 }
 
 /// Does what a line says, and tells the reply, if it has one. Nothing is spoken. After an error the connector is not used again.
+#[inline(always)]
 pub fn reply_to<W: Station>(
     alloc: Global,
     connector: &mut Connector,

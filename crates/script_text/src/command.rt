@@ -316,6 +316,7 @@ fn read_from(alloc: Global, word: Word<'_>) -> Result<Command, CommandFault>
     }
 }
 
+#[inline(always)]
 fn begins_comment(word: &[u8]) -> bool
     ensures { result ≡ spelling.begins_comment word.now }
 {
@@ -326,6 +327,7 @@ fn begins_comment(word: &[u8]) -> bool
 }
 
 // The first word of a line that has a reply.
+#[inline(always)]
 fn first_word<'a>(line: &'a [u8]) -> Option<Word<'a>>
     requires { length line.now ≤ 65536 }
     ensures first { MatchOption result (IsTrue (is_silent (words line.now))) (λ word. words line.now ≡ seen_word word ∷ words_in (seen word.rest)) }
@@ -351,6 +353,7 @@ pub struct GetWords<'a> {
 }
 
 // The words behind `get`.
+#[inline(always)]
 fn get_words<'a>(tail: Tail<'a>) -> Result<GetWords<'a>, CommandFault>
     ensures { Gives (λ words. command.Get words.s.now words.entry words.member.now) result (meaning.command_in (Verb.Member MemberVerb.Get) (seen tail.entry)) }
 {
@@ -365,6 +368,7 @@ const GET: &[u8] = b"get";
 
 /// The words of a line of at most 65,536 bytes that says a `get`, which are not copied. None: it says something else, or spells no
 /// command.
+#[inline(always)]
 pub fn read_get<'a>(line: &'a [u8]) -> Option<GetWords<'a>>
     requires { length line.now ≤ 65536 }
     ensures { IfSome result (λ words. meaning.meaning line.now ≡ Says (command.Get words.s.now words.entry words.member.now)) }

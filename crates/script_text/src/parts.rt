@@ -13,12 +13,14 @@ use crate::tail::Tail;
 use crate::words::word_in;
 use pss_base::{Pid, read_pid, read_short_pid};
 
+#[inline(always)]
 fn is_name_byte(byte: u8) -> bool
     ensures { result ≡ spec.is_name_byte byte }
 {
     byte.is_ascii_alphanumeric() || byte == b'_'
 }
 
+#[inline(always)]
 fn are_name_bytes(bytes: &[u8]) -> bool
     ensures { result ≡ list_all spec.is_name_byte bytes.now }
 {
@@ -27,6 +29,7 @@ fn are_name_bytes(bytes: &[u8]) -> bool
 
 const MOST_BEHIND_LETTER: usize = 31;
 
+#[inline(always)]
 fn is_name(word: &[u8]) -> bool
     ensures { result ≡ spec.is_name word.now }
 {
@@ -40,6 +43,7 @@ fn is_name(word: &[u8]) -> bool
 
 /// The name of a session or a transaction: a letter, and at most 31 letters, digits or `_` behind it.
 #[tactic(auto, unfolding(crate::specs::Meaning::step))]
+#[inline(always)]
 pub fn name_in<'a>(tail: Tail<'a>) -> Result<(&'a [u8], Tail<'a>), CommandFault>
     ensures { Gives (λ x. (x.0.now, seen x.1)) result (step OfName (seen tail.entry)) }
 {
@@ -53,6 +57,7 @@ pub fn name_in<'a>(tail: Tail<'a>) -> Result<(&'a [u8], Tail<'a>), CommandFault>
 
 /// Any word.
 #[tactic(auto, unfolding(crate::specs::Meaning::step))]
+#[inline(always)]
 pub fn any_in<'a>(tail: Tail<'a>) -> Result<(&'a [u8], Tail<'a>), CommandFault>
     ensures { Gives (λ x. (x.0.now, seen x.1)) result (step OfWord (seen tail.entry)) }
 {
@@ -63,6 +68,7 @@ pub fn any_in<'a>(tail: Tail<'a>) -> Result<(&'a [u8], Tail<'a>), CommandFault>
 const MOST_ENTRY_DIGITS: usize = 10;
 
 // The number that at most ten digits write.
+#[inline(always)]
 fn read_number(digits: &[u8]) -> Option<u64>
     requires { length digits.now ≤ 10 }
     ensures { result ≡ (if list_all is_ascii_digit digits.now then Some (digits_value 10 digits.now) else None) }
@@ -77,12 +83,14 @@ fn read_number(digits: &[u8]) -> Option<u64>
     Some(number)
 }
 
+#[inline(always)]
 fn has_leading_zero(digits: &[u8]) -> bool
     ensures { result ≡ meaning.has_leading_zero digits.now }
 {
     digits.len() > 1 && digits[0] == b'0'
 }
 
+#[inline(always)]
 fn read_entry(word: &[u8]) -> Option<u64>
     ensures { result ≡ meaning.entry_of word.now }
 {
@@ -99,6 +107,7 @@ fn read_entry(word: &[u8]) -> Option<u64>
 
 /// An entry: `i` and a number of at most ten digits without leading zero.
 #[tactic(auto, unfolding(crate::specs::Meaning::step))]
+#[inline(always)]
 pub fn entry_in<'a>(tail: Tail<'a>) -> Result<(u64, Tail<'a>), CommandFault>
     ensures { Gives (λ x. (x.0, seen x.1)) result (step OfEntry (seen tail.entry)) }
 {

@@ -21,6 +21,7 @@ pub struct Word<'a> {
 }
 
 // How many bytes a text has in front of its first blank.
+#[inline(always)]
 fn count_word(text: &[u8]) -> usize
     ensures count { result ≡ prefix_len (λ b. not (blanks.is_blank b)) text.now }
     ensures within { result ≤ length text.now }
@@ -29,6 +30,7 @@ fn count_word(text: &[u8]) -> usize
 }
 
 /// The first word of what is left of a line.
+#[inline(always)]
 pub fn next_word<'a>(tail: Tail<'a>) -> Option<Word<'a>>
     ensures { MatchOption result (words_in (seen tail.entry) ≡ []) (λ word. words_in (seen tail.entry) ≡ seen_word word ∷ words_in (seen word.rest)) }
 {
@@ -49,6 +51,7 @@ pub fn next_word<'a>(tail: Tail<'a>) -> Option<Word<'a>>
     })
 }
 
+#[inline(always)]
 fn end_column(tail: Tail<'_>) -> u32
     ensures { result ≡ end_of (seen tail.entry) }
 {
@@ -56,6 +59,7 @@ fn end_column(tail: Tail<'_>) -> u32
 }
 
 /// The first word, which must be there.
+#[inline(always)]
 pub fn word_in<'a>(tail: Tail<'a>) -> Result<Word<'a>, CommandFault>
     ensures { Gives seen_word result (meaning.word_in (seen tail.entry)) }
 {
@@ -67,6 +71,7 @@ pub fn word_in<'a>(tail: Tail<'a>) -> Result<Word<'a>, CommandFault>
 
 /// No word may be left.
 #[tactic(auto, unfolding(crate::specs::Meaning::nothing_in))]
+#[inline(always)]
 pub fn finish(tail: Tail<'_>) -> Result<(), CommandFault>
     ensures { Gives (λ x. x) result (meaning.nothing_in (seen tail.entry)) }
 {

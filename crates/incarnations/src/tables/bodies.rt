@@ -55,6 +55,7 @@ impl BodyTable {
     }
 
     // The body at a place of the table, where that of this name stands there.
+    #[inline(always)]
     fn body_there(&self, place: usize, name: BodyName) -> Option<&BodyRecord>
         ensures { IfSome (option_copied result) (λ body. map.get self.now name ≡ Some body) }
     {
@@ -65,6 +66,7 @@ impl BodyTable {
     }
 
     // The body of a name by its hash. The next one is looked for at its place.
+    #[inline(never)]
     fn look_up(&self, name: BodyName) -> Option<&BodyRecord>
         ensures { option_copied result ≡ map.get self.now name }
     {
@@ -78,6 +80,7 @@ impl BodyTable {
     }
 
     // The body of a name, looked for first where the last one was found.
+    #[inline(always)]
     fn find(&self, name: BodyName) -> Option<&BodyRecord>
         ensures { option_copied result ≡ map.get self.now name }
     {
@@ -98,6 +101,7 @@ impl BodyTable {
     }
 
     /// The value of a body, where there is such a body.
+    #[inline(always)]
     pub fn value(&self, name: BodyName) -> Option<&Record>
         ensures { option_copied result ≡ option_map (λ b. b.value) (map.get self.now name) }
     {

@@ -38,6 +38,7 @@ impl Model for EntryTable {
 }
 
 // The record at a place of the table, where that of this slot stands there.
+#[inline(always)]
 fn record_there(table: &Table, place: usize, slot: Slot) -> Option<EntryRecord>
     ensures { IfSome result (λ found. lookup (same_slot slot) table.now.entries ≡ Some found) }
 {
@@ -48,6 +49,7 @@ fn record_there(table: &Table, place: usize, slot: Slot) -> Option<EntryRecord>
 }
 
 // The record that a slot has by its hash. The next one is looked for at its place.
+#[inline(never)]
 fn look_up(table: &Table, last: &Cell<usize>, slot: Slot) -> Option<EntryRecord>
     ensures { result ≡ lookup (same_slot slot) table.now.entries }
 {
@@ -61,6 +63,7 @@ fn look_up(table: &Table, last: &Cell<usize>, slot: Slot) -> Option<EntryRecord>
 }
 
 // The record of a slot, looked for first where the last one was found.
+#[inline(always)]
 fn record_of(table: &Table, last: &Cell<usize>, slot: Slot) -> Option<EntryRecord>
     ensures { result ≡ lookup (same_slot slot) table.now.entries }
 {
@@ -87,6 +90,7 @@ impl EntryTable {
         self.table.len()
     }
 
+    #[inline(always)]
     pub fn get(&self, slot: Slot) -> Option<EntryRecord>
         ensures { result ≡ map.get self.now slot }
     {

@@ -13,7 +13,7 @@ use Rattle.type_layout.specs.Schemas.{given}
 use Rattle.type_layout.specs.ShapeText.{key_line, key_text, listed}
 use Rattle.psdl_directory.specs.Declarations.{Declaration}
 use Rattle.psdl_lineage.specs.Descent.{Listed, has, ancestry, same_listed}
-use Rattle.psdl_rules.specs.Limits.{most_shape}
+use Rattle.psdl_rules.specs.Faults.Limit.{most_shape}
 use Rattle.psdl_standings.specs.Standings.{standings}
 use Rattle.psdl_standings.specs.TextLengths.{cut}
 use Rattle.psdl_check.specs.Schemas.{Introduced, all_introduced, key_number, key_of, schema}

@@ -9,7 +9,7 @@ use Rattle.type_layout.specs.declared.key.KeyNo.{KeyNo}
 use Rattle.type_layout.specs.ShapeText.{key_line}
 use Rattle.psdl_directory.specs.Declarations.{Declaration}
 use Rattle.psdl_lineage.specs.Descent.{Listed, ancestry, base_home, concrete_homes, has, home_keys, same_listed}
-use Rattle.psdl_rules.specs.Limits.{most_shape}
+use Rattle.psdl_rules.specs.Faults.Limit.{most_shape}
 use Rattle.psdl_standings.specs.TextLengths.{cut}
 use Rattle.psdl_check.specs.Schemas.{Introduced, introduced, all_introduced, key_number, schema}
 use Rattle.psdl_check.specs.inner.HeldKeys.{base_has}

@@ -24,11 +24,14 @@ use Rattle.psdl_lineage.specs.Graph.{graph_of}
 use Rattle.psdl_lineage.proofs.Foremost.{first_passes}
 use Rattle.psdl_lineage.proofs.Repeats.{has-append, has_kept}
 use Rattle.psdl_lineage.proofs.Texts.{parents_are}
-use Rattle.psdl_rules.specs.Faults.{faults, scope_faults, body_faults, definition_faults, member_faults, home_faults}
-use Rattle.psdl_rules.specs.Forward.{above, cycle, incomplete, is_defined_by, of_forward, never_defined}
-use Rattle.psdl_rules.specs.Limits.{long_type, deep_type, many_homes}
+use Rattle.psdl_rules.specs.Faults.{faults, body_faults, definition_faults, member_faults, home_faults}
+use Rattle.psdl_rules.specs.Faults.Redefined.{redefined_faults}
+use Rattle.psdl_rules.specs.Faults.Incomplete.{incomplete, is_defined_by, of_forward, never_defined}
+use Rattle.psdl_rules.specs.Faults.Cycle.{cycle, cycle_faults}
+use Rattle.psdl_rules.specs.Words.{above}
+use Rattle.psdl_rules.specs.Faults.Limit.{limit_faults}
 use Rattle.psdl_standings.specs.Standings.{Standing, standings}
-use Rattle.psdl_standings.specs.Selves.{is_itself, of_itself}
+use Rattle.psdl_standings.specs.Selves.{is_itself, of_itself, of_selves}
 use Rattle.psdl_check.specs.inner.Rising.{IsRising}
 
 -- ---- lists that are empty
@@ -248,13 +251,12 @@ unfolding faults
 conditions all e =
     let done : List Standing = standings all in
     let none : faults all ≡ [] = nothing_least (faults all) e in
-    let homes = both_empty (scope_faults all ++ body_faults all done ++ definition_faults all done ++ member_faults all done) (home_faults all) none in
-    let members = both_empty (scope_faults all ++ body_faults all done ++ definition_faults all done) (member_faults all done) homes.0 in
-    let definitions = both_empty (scope_faults all ++ body_faults all done) (definition_faults all done) members.0 in
-    let many = both_empty (each (incomplete all) all ++ each (cycle all) all ++ each (long_type all done) all ++ each (deep_type all done) all) (each (many_homes all) all) definitions.1 in
-    let deep = both_empty (each (incomplete all) all ++ each (cycle all) all ++ each (long_type all done) all) (each (deep_type all done) all) many.0 in
-    let long = both_empty (each (incomplete all) all ++ each (cycle all) all) (each (long_type all done) all) deep.0 in
-    both_empty (each (incomplete all) all) (each (cycle all) all) long.0
+    let homes = both_empty (redefined_faults all ++ body_faults all done ++ definition_faults all done ++ member_faults all done) (home_faults all) none in
+    let members = both_empty (redefined_faults all ++ body_faults all done ++ definition_faults all done) (member_faults all done) homes.0 in
+    let definitions = both_empty (redefined_faults all ++ body_faults all done) (definition_faults all done) members.0 in
+    let limits = both_empty (each (incomplete all) all ++ cycle_faults all) (limit_faults all done) definitions.1 in
+    let cycles = both_empty (each (incomplete all) all) (cycle_faults all) limits.0 in
+    (cycles.0, (both_empty (each (cycle all) all) (each (of_selves all) all) cycles.1).0)
 
 -- of names that lie in front of others
 front : {X A : Type 0} (f : X → List A) (xs ys : List X) → flat_map f (xs ++ ys) ≡ [] → flat_map f xs ≡ []

@@ -5,7 +5,7 @@ use Rattle.type_layout.specs.ShapeText.{key_line}
 use Rattle.psdl_directory.specs.Declarations.{Declaration}
 use Rattle.psdl_lineage.specs.Descent.{Listed, base_home, concrete_homes}
 use Rattle.psdl_lineage.specs.Graph.{graph_of}
-use Rattle.psdl_rules.specs.Limits.{most_shape}
+use Rattle.psdl_rules.specs.Faults.Limit.{most_shape}
 use Rattle.psdl_standings.specs.TextLengths.{cut}
 use Rattle.psdl_check.specs.Schemas.{Introduced, introduced, home_no, key_numbers, schema}
 use Rattle.psdl_check.specs.declared.home_keys.HeldKey.{HeldKey}

@@ -13,7 +13,7 @@ use Rattle.type_layout.specs.ShapeText.{home_lines, lines_from}
 use Rattle.psdl_directory.specs.Declarations.{Declaration}
 use Rattle.psdl_lineage.specs.Descent.{concrete_homes}
 use Rattle.psdl_check.specs.Faults.{passing}
-use Rattle.psdl_rules.specs.Limits.{most_shape}
+use Rattle.psdl_rules.specs.Faults.Limit.{most_shape}
 use Rattle.psdl_check.specs.inner.Made.{lines_at, lines_before}
 use Rattle.psdl_check.specs.Schemas.{home_of, schema}
 use Rattle.psdl_standings.specs.Standings.{standings}

@@ -8,7 +8,7 @@ use Rattle.psdl_directory.specs.Declarations.{Declaration}
 use Rattle.psdl_directory.specs.Parts.{is_concrete_home}
 use Rattle.psdl_directory.specs.Lookup.{at}
 use Rattle.psdl_lineage.specs.Descent.{has, concrete_homes}
-use Rattle.psdl_rules.specs.Limits.{home_number}
+use Rattle.psdl_rules.specs.Faults.Limit.{home_number}
 use Rattle.psdl_check.specs.inner.HomeNos.{homes_in_front, home_nos}
 use Rattle.std.proofs.lemmas.List.FromFn.{get_or-map-range_with_len, length-map-range_with_len}
 use Rattle.psdl_check.specs.Schemas.{home_no}

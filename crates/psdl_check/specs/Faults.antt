@@ -10,7 +10,7 @@ use Rattle.psdl_directory.specs.declared.fault.CheckKind.TheVariants.{Limit}
 use Rattle.psdl_directory.specs.Declarations.{Declaration}
 use Rattle.psdl_directory.specs.Lookup.{at}
 use Rattle.psdl_lineage.specs.Descent.{concrete_homes}
-use Rattle.psdl_rules.specs.Limits.{most_shape}
+use Rattle.psdl_rules.specs.Faults.Limit.{most_shape}
 use Rattle.psdl_rules.specs.Faults.{faults}
 use Rattle.psdl_check.specs.Schemas.{schema}
 use Rattle.psdl_directory.specs.Fault.{fault, least}

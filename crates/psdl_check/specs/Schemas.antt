@@ -19,7 +19,7 @@ use Rattle.psdl_directory.specs.Lookup.{at, defined}
 use Rattle.psdl_standings.specs.Standings.{Standing, standings}
 use Rattle.psdl_lineage.specs.Descent.{has, ancestry, conforms, type_of_home, base_home, Listed, same_listed, home_keys, home_factories, concrete_homes, provider}
 use Rattle.psdl_rules.specs.Layouts.{layout}
-use Rattle.psdl_rules.specs.Limits.{home_number}
+use Rattle.psdl_rules.specs.Faults.Limit.{home_number}
 
 abbrev pub home_no : List Declaration → ℕ → HomeNo
 home_no all h = record { 0 = home_number all h }

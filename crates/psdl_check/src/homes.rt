@@ -5,7 +5,7 @@ ghost use Rattle.std.specs.Option.{option_and_then};
 ghost use Rattle.type_layout.specs.Schemas.{nth};
 ghost use Rattle.type_layout.specs.ShapeText.{base_number};
 ghost use Rattle.psdl_lineage.specs.Descent as descent;
-ghost use Rattle.psdl_rules.specs.Limits.{most_shape};
+ghost use Rattle.psdl_rules.specs.Faults.Limit.{most_shape};
 ghost use Rattle.psdl_standings.specs.Standings.{standings};
 ghost use Rattle.psdl_standings.specs.Texts.{types_in};
 ghost use Rattle.psdl_standings.specs.TextLengths.{cut};

@@ -5,7 +5,7 @@ ghost use Rattle.type_layout.specs.ShapeText.{key_line};
 ghost use Rattle.psdl_directory.specs.Declarations.{Declaration};
 ghost use Rattle.psdl_lineage.specs.Lineages.{asked_of};
 ghost use Rattle.psdl_lineage.specs.Descent.{Listed as ListedView};
-ghost use Rattle.psdl_rules.specs.Limits.{most_shape};
+ghost use Rattle.psdl_rules.specs.Faults.Limit.{most_shape};
 ghost use Rattle.psdl_standings.specs.TextLengths.{cut};
 ghost use Rattle.psdl_check.specs.Schemas.{Introduced, all_introduced, schema};
 ghost use Rattle.psdl_check.specs.declared.key_rows.KeyIds.{KeyIds as Ids};

@@ -25,7 +25,7 @@ impl Least {
     ghost use Rattle.psdl_directory.specs.Fault.{lesser, fault_if};
     ghost use Rattle.psdl_directory.specs.Noting.{noting, comes_first};
 
-    /// Of no faults.
+    /// The least of no faults.
     pub fn new() -> Least
         ensures { result ≡ None }
     {
@@ -70,7 +70,7 @@ impl Least {
     }
 }
 
-/// Of faults that are noted one by one, the least is left.
+/// When faults are noted one by one, the least is left.
 pub fn noting_leaves_least()
     ensures { LeavesLeast }
 {}

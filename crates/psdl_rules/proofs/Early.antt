@@ -15,7 +15,8 @@ use Rattle.psdl_directory.specs.Parts.{key_list, factory_list}
 use Rattle.psdl_directory.proofs.Noting.{noting-append, late}
 use Rattle.psdl_lineage.specs.Descent.{StateMember}
 use Rattle.psdl_standings.specs.Standings.{Standing}
-use Rattle.psdl_rules.specs.Members.{is_called, same_name, listed_wrong, is_compound, keyed_wrong}
+use Rattle.psdl_rules.specs.Words.{is_called, same_name, listed_wrong}
+use Rattle.psdl_rules.specs.Faults.KeyType.{is_compound, keyed_wrong}
 use Rattle.psdl_rules.specs.inner.Early.{is_early, key_early, factory_early}
 use Rattle.psdl_rules.specs.inner.Listing.{listed_faults}
 

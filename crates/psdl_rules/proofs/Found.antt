@@ -13,6 +13,9 @@ noting_from first (f ∷ fs) = noting_from (lesser first (Some f)) fs ∙ lesser
 pub one_found : (f : List Declaration → List CheckFault) (first new found : Option CheckFault) (told all : List Declaration) → told ≡ all → found ≡ least (f told) → new ≡ lesser first found → new ≡ noting first (f all)
 one_found f first new found told all same is e = e ∙ ap (lesser first) (is ∙ ap (λ (ds : List Declaration). least (f ds)) same) ∙ sym (noting_from first (f all))
 
+pub two_found : (first x new : Option CheckFault) (a b : List CheckFault) → x ≡ noting first a → new ≡ noting x b → new ≡ noting first (a ++ b)
+two_found first x new a b p q = q ∙ ap (λ (o : Option CheckFault). noting o b) p ∙ sym (noting-append first a b)
+
 pub four_found : (first x y z new : Option CheckFault) (a b c d : List CheckFault) → x ≡ noting first a → y ≡ noting x b → z ≡ noting y c → new ≡ noting z d → new ≡ noting first (a ++ b ++ c ++ d)
 four_found first x y z new a b c d p q r s =
     s ∙ ap (λ (o : Option CheckFault). noting o d) (r ∙ ap (λ (o : Option CheckFault). noting o c) (q ∙ ap (λ (o : Option CheckFault). noting o b) p))

@@ -16,9 +16,12 @@ use Rattle.psdl_directory.specs.Lookup.{at, nothing, named, defines, definition,
 use Rattle.psdl_directory.specs.Parts.{parents, bases, implemented, managed, provided}
 use Rattle.psdl_lineage.specs.Descent.{type_of_home, provider}
 use Rattle.psdl_standings.specs.Selves.{of_itself}
-use Rattle.psdl_rules.specs.Forward as forward
-use Rattle.psdl_rules.specs.Families.{of_types, differs_from_base, is_other_kind, has_wrong_type, of_implemented, home_type, of_provision, not_provided}
-use Rattle.psdl_rules.specs.Whole.{has_whole_header}
+use Rattle.psdl_rules.specs.Words as words
+use Rattle.psdl_rules.specs.Words.{of_types, has_whole_header}
+use Rattle.psdl_rules.specs.Faults.Incomplete.{is_defined_by, of_forward}
+use Rattle.psdl_rules.specs.Faults.HomeType.{differs_from_base, is_other_kind, has_wrong_type, home_type}
+use Rattle.psdl_rules.specs.Faults.NotImplemented.{of_implemented}
+use Rattle.psdl_rules.specs.Faults.Provides.{of_provision, not_provided}
 use Rattle.psdl_rules.specs.inner.Headed.{no_header, above, are_meant, forward_use, own_use, implemented_use, differs_as_base, managed_use, provided_use, AreThere}
 use Rattle.psdl_rules.proofs.Foremost.{first_there}
 
@@ -36,7 +39,7 @@ alone : (all : List Declaration) (n : ℕ) (o : Option Name) → option_to_list 
 alone all n None = refl
 alone all n (Some name) = refl
 
-pub above_are : (all : List Declaration) (n : ℕ) → above (header all n) ≡ map (used all (n + 1) n) (forward.above (at all n).what)
+pub above_are : (all : List Declaration) (n : ℕ) → above (header all n) ≡ map (used all (n + 1) n) (words.above (at all n).what)
 above_are all n =
     let what = (at all n).what in
     let f : Name → Use = used all (n + 1) n in
@@ -45,14 +48,14 @@ above_are all n =
     ∙ sym (map-append f (parents what) (option_to_list (managed what)))
 
 pub over_above : (all : List Declaration) (n : ℕ) (f : Use → List CheckFault) (g : Name → List CheckFault) → ((name : Name) → f (used all (n + 1) n name) ≡ g name)
-    → flat_map f (above (header all n)) ≡ flat_map g (forward.above (at all n).what)
-over_above all n f g same = ap (λ (l : List Use). flat_map f l) (above_are all n) ∙ over_names all n f g same (forward.above (at all n).what)
+    → flat_map f (above (header all n)) ≡ flat_map g (words.above (at all n).what)
+over_above all n f g same = ap (λ (l : List Use). flat_map f l) (above_are all n) ∙ over_names all n f g same (words.above (at all n).what)
 
-pub forward_is : (all : List Declaration) (n : ℕ) (name : Name) → forward_use n (used all (n + 1) n name) ≡ forward.of_forward all n name
+pub forward_is : (all : List Declaration) (n : ℕ) (name : Name) → forward_use n (used all (n + 1) n name) ≡ of_forward all n name
 forward_is all n name = by (named all n name)
   where
     by : (o : Option ℕ) → fault_if (given o false (λ _. not (given (option_and_then (definition all) o) false (λ k. nat_lt k (n + 1))))) Incomplete (place_of name)
-        ≡ given o [] (λ j. fault_if (not (forward.is_defined_by all n j)) Incomplete (place_of name))
+        ≡ given o [] (λ j. fault_if (not (is_defined_by all n j)) Incomplete (place_of name))
     by None = refl
     by (Some j) = refl
 
@@ -129,7 +132,7 @@ whole_is all n =
     ∙ ap (λ (x : Bool). x && c) (sym (list_all-append test (header all n).bases (header all n).implemented))
     ∙ sym (list_all-append test ((header all n).bases ++ (header all n).implemented) (option_to_list (header all n).managed))
     ∙ ap (λ (l : List Use). list_all test l) (above_are all n)
-    ∙ list_all-map test f (forward.above what)
+    ∙ list_all-map test f (words.above what)
   where
     and_assoc : (a b c : Bool) → (a && b) && c ≡ a && (b && c)
     and_assoc true b c = refl

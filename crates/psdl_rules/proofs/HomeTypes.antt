@@ -10,7 +10,8 @@ use Rattle.psdl_directory.specs.Parts.{keys, factories, key_list, factory_list}
 use Rattle.psdl_lineage.specs.Descent.{members, type_of_home}
 use Rattle.psdl_standings.specs.Standings.{Standing}
 use Rattle.psdl_rules.specs.Faults as faults
-use Rattle.psdl_rules.specs.Members.{listed_wrong, keyed_wrong}
+use Rattle.psdl_rules.specs.Words.{listed_wrong}
+use Rattle.psdl_rules.specs.Faults.KeyType.{keyed_wrong}
 use Rattle.psdl_rules.specs.inner.Listing.{listed_faults}
 
 module _ (all : List Declaration) (done : List Standing) (n : ℕ) where

@@ -13,8 +13,8 @@ use Rattle.psdl_directory.specs.Parts.{is_concrete_home}
 use Rattle.psdl_directory.specs.Lookup.{at, nothing}
 use Rattle.psdl_directory.proofs.Tabled.{is_eq-nat_cmp}
 use Rattle.psdl_lineage.specs.Descent.{type_of_home, family}
-use Rattle.psdl_rules.specs.declared.family_type.Membership.{Membership}
-use Rattle.psdl_rules.specs.Families.{shares_type}
+use Rattle.psdl_rules.specs.declared.faults.family_type.Membership.{Membership}
+use Rattle.psdl_rules.specs.Faults.FamilyType.{shares_type}
 use Rattle.psdl_rules.specs.inner.Related.{membership, memberships_before, same_membership, by_membership, has_membership, met, AreMet, has_earlier}
 use Rattle.psdl_rules.proofs.Noted.{any_push}
 

@@ -12,3 +12,4 @@ pub mod Listed
 pub mod Early
 pub mod Found
 pub mod HomeTypes
+pub mod Bodies

@@ -19,7 +19,8 @@ use Rattle.psdl_standings.specs.declared.state_entry.StateEntry.{StateEntry}
 use Rattle.psdl_standings.specs.Standings.{standings}
 use Rattle.psdl_standings.specs.States.{type_kept, is_compound_kept}
 use Rattle.psdl_rules.specs.Layouts.{member_type}
-use Rattle.psdl_rules.specs.Members.{is_called, same_name, listed_wrong, keyed_wrong}
+use Rattle.psdl_rules.specs.Words.{is_called, same_name, listed_wrong}
+use Rattle.psdl_rules.specs.Faults.KeyType.{keyed_wrong}
 use Rattle.psdl_rules.specs.inner.Listing.{type_faults}
 use Rattle.psdl_rules.specs.inner.Typed.{AreTypes, default_types}
 use Rattle.psdl_rules.proofs.Noted.{before, before_more}

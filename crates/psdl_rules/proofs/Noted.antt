@@ -12,7 +12,7 @@ use Rattle.psdl_directory.specs.Noting.{noting}
 use Rattle.psdl_directory.proofs.Noting.{noting-append}
 use Rattle.psdl_lineage.proofs.Listing.{map_more}
 use Rattle.psdl_members.specs.Clashes.{are_alike}
-use Rattle.psdl_rules.specs.Scoping.{redefined_behind}
+use Rattle.psdl_rules.specs.Faults.Redefined.{redefined_behind}
 
 or_swap : (a b c : Bool) → a || (b || c) ≡ b || (a || c)
 or_swap true true c = refl

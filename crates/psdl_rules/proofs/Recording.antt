@@ -16,7 +16,7 @@ use Rattle.psdl_standings.specs.Extents.{Extent, cut, followed, extent}
 use Rattle.psdl_standings.specs.Standings.{standings, all_there}
 use Rattle.psdl_standings.specs.States.{type_kept}
 use Rattle.psdl_rules.specs.Layouts.{layout_member, member_type}
-use Rattle.psdl_rules.specs.Limits.{most_members, has_long_default}
+use Rattle.psdl_rules.specs.Faults.Limit.{most_members, has_long_default}
 use Rattle.psdl_rules.specs.inner.Typed.{AreTypes, default_types, defaults_extent, are_long}
 use Rattle.psdl_standings.proofs.Defaulting.{short, chained, followed_short, chained-assoc, chained_nothing, octets, fields_octets, field_octets}
 use Rattle.psdl_rules.proofs.Typing.{as_many}

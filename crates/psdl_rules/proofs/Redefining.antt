@@ -10,7 +10,7 @@ use Rattle.type_layout.specs.Schemas.{given}
 use Rattle.psdl_directory.specs.Declarations.{Path, Declaration}
 use Rattle.psdl_directory.specs.Parts.{is_module, is_forward, same_kind, kind}
 use Rattle.psdl_directory.specs.Lookup.{as_is, lower, same_path, at, nothing, first, is_named, defines, definition}
-use Rattle.psdl_rules.specs.Scoping.{takes_name_of}
+use Rattle.psdl_rules.specs.Faults.Redefined.{takes_name_of}
 use Rattle.psdl_directory.specs.inner.Tables.{after}
 use Rattle.psdl_rules.specs.inner.Others.{same_thing, first_alike, is_other, is_taken, is_below, AreOthers, noted}
 use Rattle.psdl_directory.proofs.Agreeing.{same_path-Decides}

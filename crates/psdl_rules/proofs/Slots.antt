@@ -7,7 +7,7 @@ use Rattle.psdl_directory.specs.Declarations.{Declaration}
 use Rattle.psdl_directory.specs.Parts.{is_concrete_home}
 use Rattle.psdl_directory.specs.Lookup.{at}
 use Rattle.psdl_lineage.specs.Descent.{concrete_homes}
-use Rattle.psdl_rules.specs.Limits.{home_number, most_homes}
+use Rattle.psdl_rules.specs.Faults.Limit.{home_number, most_homes}
 
 differ : (a n : ℕ) → a < n → (a == n) ≡ false
 differ a n lt = grind arith

@@ -1,10 +1,5 @@
 pub mod Texts
-pub mod Whole
-pub mod Scoping
-pub mod Forward
-pub mod Members
-pub mod Families
 pub mod Layouts
-pub mod Limits
+pub mod Words
 pub mod Faults
 pub mod inner

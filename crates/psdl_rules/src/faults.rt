@@ -1,49 +1,53 @@
-// The least of all faults of a text. The conditions, and where they are found out:
+// The least of all faults of a text. The conditions, each in a file of its own, and all in the order of their numbers:
 //
-// C1 redefined, redefined_inside; C2, C3 and C4 in the standings, as bodies are walked; C5 incomplete; C6 cycle, and in the
-// standings of structs; C7 member_clash; C8, C9 and C10 home_lists; C11 not_implemented; C12 home_type; C13 family_type;
-// C14 and C15 in the standings; C16 provides; C17 long_type, limits.
+// C1 redefined; C2 unknown, C3 wrong_case and C4 wrong_kind, in psdl_standings, as bodies are walked; C5 incomplete; C6 cycle;
+// C7 member_clash; C8 key_member, C9 key_type and C10 factory_member, in one pass, home_lists; C11 not_implemented;
+// C12 home_type; C13 family_type; C14 const_range and C15 const_zero, in psdl_standings, as bodies are walked; C16 provides;
+// C17 limit.
 //
 // Each goes over all declarations. C17 comes before what goes by members: so a list of members is never long where that
 // could still matter.
 ghost use Rattle.std.specs.Prelude.{◌≡◌, IfOk, OnOk};
-ghost use Rattle.psdl_directory.specs.Fault.{least as least_of, lesser};
+ghost use Rattle.psdl_directory.specs.Fault.{least as least_of};
 ghost use Rattle.psdl_directory.specs.Noting.{noting};
 ghost use Rattle.psdl_rules.specs.Faults as of;
 ghost use Rattle.psdl_rules.specs.Texts.{judged};
 ghost use Rattle.psdl_standings.specs.Standings.{standings as standings_of};
 ghost use Rattle.psdl_standings.specs.Texts.{text_of as told_of};
 
-use crate::cycle::cycle;
-use crate::family_type::family_type;
-use crate::home_lists::listed_members;
-use crate::home_type::home_type;
-use crate::incomplete::incomplete;
-use crate::limits::{deep_type, many_homes};
-use crate::long_type::long_type;
-use crate::member_clash::member_clash;
-use crate::not_implemented::not_implemented;
-use crate::provides::not_provided;
-use crate::redefined::redefined;
-use crate::redefined_inside::redefined_inside;
+mod cycle;
+mod factory_member;
+mod family_type;
+mod home_lists;
+mod home_type;
+mod incomplete;
+mod key_member;
+mod key_type;
+mod limit;
+mod member_clash;
+mod not_implemented;
+mod provides;
+mod redefined;
+
+use crate::found::note_found;
 use crate::text::Text;
+use cycle::cycle;
+use family_type::family_type;
+use home_lists::listed_members;
+use home_type::home_type;
+use incomplete::incomplete;
+use limit::limit;
+use member_clash::member_clash;
+use not_implemented::not_implemented;
+use provides::not_provided;
+use redefined::redefined;
 use psdl_directory::{CheckFault, Least};
 use psdl_members::Inherited;
 use psdl_standings::Standings;
 use pss_base::NoMemory;
 use std::alloc::Global;
 
-#[tactic(auto, using(psdl_directory::proofs::Noting::lesser_none))]
-fn note_found(found: Option<CheckFault>, least: &mut Least)
-    ensures { least.new ≡ lesser least.old found }
-{
-    match found {
-        Some(fault) => least.note(fault),
-        None => {}
-    }
-}
-
-// C2, C3, C4, C14, C15, and C6 of structs.
+// C2, C3, C4, C14 and C15.
 fn body_faults(text: &Text, standings: &Standings, least: &mut Least)
     requires told { told_of standings.now ≡ judged text.now }
     ensures { least.new ≡ noting least.old (of.body_faults (judged text.now) (standings_of (judged text.now))) }
@@ -51,17 +55,6 @@ fn body_faults(text: &Text, standings: &Standings, least: &mut Least)
     note_found(standings.names_fault(), least);
     note_found(standings.strings_fault(), least);
     note_found(standings.values_fault(), least);
-    note_found(standings.selves_fault(), least);
-}
-
-// C1.
-#[tactic(auto, using(crate::proofs::Parts::by_parts))]
-fn scope_faults(alloc: Global, text: &Text, least: &mut Least) -> Result<(), NoMemory>
-    ensures { OnOk result (least.new ≡ noting least.old (of.scope_faults (judged text.now))) }
-{
-    redefined(alloc, text, least)?;
-    redefined_inside(alloc, text, least)?;
-    Ok(())
 }
 
 // C5, C6 and C17.
@@ -76,10 +69,8 @@ fn definition_faults(
     ensures { OnOk result (least.new ≡ noting least.old (of.definition_faults (judged text.now) (standings_of (judged text.now)))) }
 {
     incomplete(text, least);
-    cycle(text, least);
-    long_type(alloc, text, standings, least)?;
-    deep_type(text, standings, least);
-    many_homes(text, least);
+    cycle(text, standings, least);
+    limit(alloc, text, standings, least)?;
     Ok(())
 }
 
@@ -96,7 +87,7 @@ fn member_faults(
 {
     let mut inherited = Inherited::new(alloc, text.lineage())?;
     member_clash(alloc, text, &mut inherited, least)?;
-    listed_members(alloc, text, standings, &mut inherited, least)?;
+    listed_members(alloc, text, standings, inherited, least)?;
     Ok(())
 }
 
@@ -122,7 +113,7 @@ fn note_all(
     requires told { told_of standings.now ≡ judged text.now }
     ensures { OnOk result (least.new ≡ noting least.old (of.faults_by (judged text.now) (standings_of (judged text.now)))) }
 {
-    scope_faults(alloc, text, least)?;
+    redefined(alloc, text, least)?;
     body_faults(text, standings, least);
     definition_faults(alloc, text, standings, least)?;
     member_faults(alloc, text, standings, least)?;

@@ -5,8 +5,8 @@ ghost use Rattle.std.specs.Str.{bytes_eq};
 ghost use Rattle.psdl_directory.specs.Fault.{fault_if};
 ghost use Rattle.psdl_directory.specs.Noting.{noting};
 ghost use Rattle.psdl_members.specs.Bodies.{member_view, member_views};
-ghost use Rattle.psdl_rules.specs.Members as conditions;
-ghost use Rattle.psdl_rules.specs.Members.{is_called};
+ghost use Rattle.psdl_rules.specs.Words as conditions;
+ghost use Rattle.psdl_rules.specs.Words.{is_called};
 ghost use Rattle.psdl_rules.specs.inner.Scopes.{has_name};
 
 use crate::redefined_inside::enter;

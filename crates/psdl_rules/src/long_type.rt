@@ -6,17 +6,17 @@ ghost use Rattle.psdl_directory.specs.Lookup.{at};
 ghost use Rattle.psdl_directory.specs.Noting.{noting};
 ghost use Rattle.psdl_directory.specs.Parts as parts;
 ghost use Rattle.psdl_directory.specs.inner.Nodes.{what_view};
-ghost use Rattle.psdl_rules.specs.Limits as conditions;
+ghost use Rattle.psdl_rules.specs.Faults.Limit as conditions;
 ghost use Rattle.psdl_rules.specs.Texts.{judged};
 ghost use Rattle.psdl_rules.specs.inner.Typed.{HaveMembers, default_types, defaults_extent, are_long};
 ghost use Rattle.psdl_standings.specs.Extents.{extent, extent_view};
 ghost use Rattle.psdl_standings.specs.Standings.{standings as standings_of};
 ghost use Rattle.psdl_standings.specs.Texts.{text_of as told_of, types_in};
 
-use crate::member_clash::is_whole;
 use crate::member_types::{member_sources, types_of_members};
 use crate::sorts::is_concrete_type;
 use crate::text::Text;
+use crate::whole::is_whole;
 use psdl_directory::{CheckKind, DeclarationNo, Least, What};
 use psdl_lineage::{Sources, is_storage_type};
 use psdl_standings::{Extent, Standings, StateEntry};
@@ -88,7 +88,7 @@ fn long_type_at(
     Ok(())
 }
 
-/// C17 of types: more than 255 members, or, of a concrete type, a default record of more than 8,000 octets.
+/// Notes each type that has more than 255 members, or, if it is concrete, a default record of more than 8,000 octets.
 pub(crate) fn long_type(
     alloc: Global,
     text: &Text,

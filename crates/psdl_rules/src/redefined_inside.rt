@@ -9,7 +9,7 @@ ghost use Rattle.psdl_directory.specs.Lookup.{at, lower};
 ghost use Rattle.psdl_directory.specs.Noting.{noting};
 ghost use Rattle.psdl_directory.specs.Parts as parts;
 ghost use Rattle.psdl_directory.specs.inner.Nodes.{what_view};
-ghost use Rattle.psdl_rules.specs.Scoping as conditions;
+ghost use Rattle.psdl_rules.specs.Faults.Redefined as conditions;
 ghost use Rattle.psdl_rules.specs.Texts.{judged};
 ghost use Rattle.psdl_rules.specs.inner.Scopes.{has_name};
 
@@ -130,7 +130,7 @@ fn redefined_inside_at(
     Ok(())
 }
 
-/// C1 inside declarations: an identifier of a body or of a list of parameters equals, but for case, an earlier one of it.
+/// Notes each identifier of a body or of a list of parameters that equals, but for case, an earlier one of it.
 pub(crate) fn redefined_inside(
     alloc: Global,
     text: &Text,

@@ -11,7 +11,7 @@ use Rattle.type_layout.specs.Schemas.{given, base_of, descends_within, descends}
 use Rattle.psdl_directory.specs.Declarations.{What, IsModule, IsConstant, IsAlias, IsStruct, IsEnumeration, IsEnumerator, IsAbstractType, IsConcreteType, IsAbstractHome, IsConcreteHome, IsCatalog, Declaration}
 use Rattle.psdl_lineage.specs.Descent.{ancestry, base_home, concrete_homes, Listed, same_listed, listed_key, home_keys}
 use Rattle.psdl_check.specs.Faults.{first_fault}
-use Rattle.psdl_rules.specs.Limits.{home_number}
+use Rattle.psdl_rules.specs.Faults.Limit.{home_number}
 use Rattle.psdl_directory.specs.Lookup.{at, defined}
 use Rattle.psdl_directory.specs.Parts.{is_storage_type, is_home, is_abstract_home, is_concrete_home, bases, implemented, parents, keys}
 use Rattle.psdl_check.specs.Schemas.{home_no, schema}

@@ -14,9 +14,10 @@ use Rattle.psdl_directory.specs.Declarations.{Path, Declaration}
 use Rattle.psdl_lineage.specs.Descent.{base_home}
 use Rattle.psdl_directory.specs.Fault.{fault_if}
 use Rattle.psdl_check.specs.Faults.{first_fault}
-use Rattle.psdl_rules.specs.Forward.{above, is_defined_by, of_forward, never_defined}
+use Rattle.psdl_rules.specs.Words.{above}
+use Rattle.psdl_rules.specs.Faults.Incomplete.{is_defined_by, of_forward, never_defined}
 use Rattle.psdl_standings.specs.Selves.{is_itself, of_itself, in_struct}
-use Rattle.psdl_rules.specs.Limits.{home_number}
+use Rattle.psdl_rules.specs.Faults.Limit.{home_number}
 use Rattle.psdl_directory.specs.Lookup.{as_is, at, nothing, below, first, first_of, first_inside, outwards, inwards, beginning, meaning, named, origin, place_of, is_named}
 use Rattle.psdl_directory.specs.Parts.{is_module, is_concrete_home, bases, implemented}
 use Rattle.psdl_check.specs.Schemas.{home_no}

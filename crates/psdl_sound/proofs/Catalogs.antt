@@ -20,7 +20,7 @@ use Rattle.psdl_directory.specs.Lookup.{lower, at, defined}
 use Rattle.psdl_directory.specs.Parts.{is_module, is_forward, provided, scopes, body_names}
 use Rattle.psdl_check.specs.Schemas.{home_no, home_of, scoped_name, provided_home, provided_homes, schema}
 use Rattle.psdl_members.specs.Clashes.{are_alike}
-use Rattle.psdl_rules.specs.Scoping.{redefined_behind, redefined_in}
+use Rattle.psdl_rules.specs.Faults.Redefined.{redefined_behind, redefined_in}
 use Rattle.psdl_standings.specs.Standings.{standings}
 use Rattle.psdl_check.specs.TextNames.{AreNames}
 use Rattle.psdl_sound.proofs.Among.{Among, at_among, among_at, among_from, among_map, among_some, among_found, any_among, Differ, differ_flat, differ_under, map_tells, map_flat, distinct_told}

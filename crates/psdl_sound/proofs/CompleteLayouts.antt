@@ -15,7 +15,8 @@ use Rattle.psdl_directory.specs.Declarations.{Path, What, IsModule, IsConstant, 
 use Rattle.psdl_lineage.specs.Descent.{StateMember, ancestry, members_in, members, type_of_home}
 use Rattle.psdl_standings.specs.Expressions.{operands}
 use Rattle.psdl_check.specs.Faults.{first_fault}
-use Rattle.psdl_rules.specs.Forward.{above, of_forward, never_defined}
+use Rattle.psdl_rules.specs.Words.{above}
+use Rattle.psdl_rules.specs.Faults.Incomplete.{of_forward, never_defined}
 use Rattle.psdl_standings.specs.StateTypes.{state_type_by}
 use Rattle.psdl_rules.specs.Layouts.{member_type, layout_member, layout}
 use Rattle.psdl_directory.specs.Lookup.{as_is, at, nothing, same_path, is_named, meaning, defines, definition, defined}

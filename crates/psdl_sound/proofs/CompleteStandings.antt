@@ -10,7 +10,7 @@ use Rattle.psdl_directory.specs.declared.fault.CheckKind.TheVariants.{Cycle}
 use Rattle.psdl_directory.specs.Declarations.{Path, What, IsModule, IsConstant, IsAlias, IsStruct, IsEnumeration, IsEnumerator, IsAbstractType, IsConcreteType, IsAbstractHome, IsConcreteHome, IsCatalog, Declaration, all_declarations}
 use Rattle.psdl_standings.specs.Expressions.{operands}
 use Rattle.psdl_check.specs.Faults.{first_fault}
-use Rattle.psdl_rules.specs.Forward.{above}
+use Rattle.psdl_rules.specs.Words.{above}
 use Rattle.psdl_standings.specs.Selves.{is_itself, of_itself, in_struct}
 use Rattle.psdl_directory.specs.Lookup.{as_is, at, meaning, origin, place_of}
 use Rattle.psdl_standings.specs.Naming.{of_use, of_texts, of_text_value, of_strings_in}

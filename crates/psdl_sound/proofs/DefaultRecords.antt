@@ -14,12 +14,13 @@ use Rattle.psdl_directory.specs.declared.fault.CheckFault.{CheckFault}
 use Rattle.psdl_directory.specs.declared.fault.CheckKind.TheVariants.{HomeType}
 use Rattle.psdl_directory.specs.Declarations.{What, IsModule, IsConstant, IsAlias, IsStruct, IsEnumeration, IsEnumerator, IsAbstractType, IsConcreteType, IsAbstractHome, IsConcreteHome, IsCatalog, Declaration}
 use Rattle.psdl_lineage.specs.Descent.{StateMember, members}
-use Rattle.psdl_rules.specs.Families.{is_other_kind, has_wrong_type, of_types, differs_from_base}
+use Rattle.psdl_rules.specs.Faults.HomeType.{is_other_kind, has_wrong_type, differs_from_base}
+use Rattle.psdl_rules.specs.Words.{of_types}
 use Rattle.psdl_directory.specs.Fault.{fault_if}
 use Rattle.psdl_check.specs.Faults.{first_fault}
 use Rattle.psdl_standings.specs.StateTypes.{state_type_by}
 use Rattle.psdl_rules.specs.Layouts.{layout_member, layout}
-use Rattle.psdl_rules.specs.Limits.{most_octets, has_long_default}
+use Rattle.psdl_rules.specs.Faults.Limit.{most_octets, has_long_default}
 use Rattle.psdl_directory.specs.Lookup.{at, named, defined, place_of}
 use Rattle.psdl_directory.specs.Parts.{kind, bases, is_abstract_type, is_concrete_type, is_storage_type, is_concrete_home}
 use Rattle.psdl_check.specs.Schemas.{home_layout, referents}

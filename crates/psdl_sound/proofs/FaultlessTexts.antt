@@ -14,22 +14,31 @@ use Rattle.psdl_tree.specs.Trees.{Name}
 use Rattle.psdl_directory.specs.declared.fault.CheckKind.TheVariants.{Limit, MemberClash}
 use Rattle.psdl_directory.specs.Declarations.{Declaration, Path, What, IsModule, IsConstant, IsAlias, IsStruct, IsEnumeration, IsEnumerator, IsAbstractType, IsConcreteType, IsAbstractHome, IsConcreteHome, IsCatalog}
 use Rattle.psdl_directory.specs.Parts.{bases, implemented, is_concrete_type, is_forward, is_storage_type, managed, operations, parents, states}
-use Rattle.psdl_rules.specs.Families.{not_implemented, home_type, family_type, not_provided}
+use Rattle.psdl_rules.specs.Faults.NotImplemented.{not_implemented}
+use Rattle.psdl_rules.specs.Faults.HomeType.{home_type}
+use Rattle.psdl_rules.specs.Faults.FamilyType.{family_type}
+use Rattle.psdl_rules.specs.Faults.Provides.{not_provided}
 use Rattle.psdl_directory.specs.Fault.{fault_if, each, each_from, is_after, least, lesser}
-use Rattle.psdl_rules.specs.Faults.{faults, listed_wrong}
+use Rattle.psdl_rules.specs.Faults.{faults, wrong_names, wrong_values, listed_wrong}
+use Rattle.psdl_rules.proofs.Bodies.{names_alike_at, values_alike_at}
 use Rattle.psdl_check.specs.Faults.{long_shape, or_else, all_faults, first_fault}
-use Rattle.psdl_rules.specs.Forward.{above, cycle, incomplete}
-use Rattle.psdl_rules.specs.Limits.{deep_type, has_long_default, long_type, many_homes, most_members}
+use Rattle.psdl_rules.specs.Words.{above}
+use Rattle.psdl_rules.specs.Faults.Cycle.{cycle}
+use Rattle.psdl_rules.specs.Faults.Incomplete.{incomplete}
+use Rattle.psdl_rules.specs.Faults.Limit.{deep_type, has_long_default, long_type, many_homes, most_members}
 use Rattle.psdl_directory.specs.Lookup.{as_is, at, meaning}
-use Rattle.psdl_rules.specs.Members.{member_clash, key_members, key_types, factory_members}
-use Rattle.psdl_rules.specs.Whole.{has_whole_header}
+use Rattle.psdl_rules.specs.Faults.MemberClash.{member_clash}
+use Rattle.psdl_rules.specs.Faults.KeyMember.{key_members}
+use Rattle.psdl_rules.specs.Faults.KeyType.{key_types}
+use Rattle.psdl_rules.specs.Faults.FactoryMember.{factory_members}
+use Rattle.psdl_rules.specs.Words.{has_whole_header}
 use Rattle.psdl_members.specs.Clashes.{has_clash}
 use Rattle.psdl_lineage.specs.Descent.{members}
 use Rattle.psdl_standings.specs.Naming.{of_names, of_strings, of_use}
 use Rattle.psdl_standings.specs.Selves.{in_struct, of_itself, of_selves}
 use Rattle.psdl_standings.specs.Uses.{Use, base_need, implements_need, in_operation, in_state_type, in_store, use_of, uses}
 use Rattle.psdl_standings.specs.Ranges.{of_values}
-use Rattle.psdl_rules.specs.Scoping.{redefined, redefined_inside}
+use Rattle.psdl_rules.specs.Faults.Redefined.{redefined, redefined_inside}
 use Rattle.psdl_standings.specs.Standings.{Standing, standings}
 
 -- ---- lists that are empty
@@ -190,18 +199,18 @@ no_fault_at all e n lt =
     let on_definitions = both_empty _ _ on_members.0 in
     let on_bodies = both_empty _ _ on_definitions.0 in
     let scopes = both_empty _ _ on_bodies.0 in
-    let selves = both_empty _ _ on_bodies.1 in
-    let values = both_empty _ _ selves.0 in
+    let values = both_empty _ _ on_bodies.1 in
     let texts = both_empty _ _ values.0 in
-    let many = both_empty _ _ on_definitions.1 in
-    let deep = both_empty _ _ many.0 in
-    let long = both_empty _ _ deep.0 in
-    let circles = both_empty _ _ long.0 in
+    let limits = both_empty _ _ on_definitions.1 in
+    let circles = both_empty _ _ limits.0 in
+    let cycles = both_empty _ _ circles.1 in
+    let many = both_empty _ _ limits.1 in
+    let long = both_empty _ _ many.0 in
     let clashes = both_empty _ _ on_members.1 in
     let provisions = both_empty _ _ on_homes.1 in
     let kin = both_empty _ _ provisions.0 in
     let typed = both_empty _ _ kin.0 in
-    let names : of_names all done n (at all n) ≡ [] = at_one all (of_names all done) texts.0 n lt in
+    let names : of_names all done n (at all n) ≡ [] = names_alike_at all done n (at all n) ∙ at_one all (wrong_names all done) texts.0 n lt in
     let whole = whole_header all n names in
     let listed = both_empty _ _ (at_one all (listed_wrong all done) clashes.1 n lt) in
     let keyed = both_empty _ _ listed.0 in
@@ -211,11 +220,11 @@ no_fault_at all e n lt =
       no_redefined_inside = at_one all redefined_inside scopes.1 n lt;
       no_names = names;
       no_strings = at_one all (of_strings all done) texts.1 n lt;
-      no_values = at_one all (of_values all done) values.1 n lt;
-      no_cycle = flat_map-append (of_itself all n) (above d.what) (in_struct n d.what) ∙ ap (λ xs. xs ++ flat_map (of_itself all n) (in_struct n d.what)) (at_one all (cycle all) circles.1 n lt) ∙ at_one all (of_selves all) selves.1 n lt;
+      no_values = values_alike_at all done n (at all n) ∙ at_one all (wrong_values all done) values.1 n lt;
+      no_cycle = flat_map-append (of_itself all n) (above d.what) (in_struct n d.what) ∙ ap (λ xs. xs ++ flat_map (of_itself all n) (in_struct n d.what)) (at_one all (cycle all) cycles.0 n lt) ∙ at_one all (of_selves all) cycles.1 n lt;
       no_incomplete = at_one all (incomplete all) circles.0 n lt;
-      no_long_type = of_whole (has_whole_header all n) Limit d.place (is_storage_type d.what && not (is_forward d.what)) _ whole (at_one all (long_type all done) long.1 n lt);
-      no_deep_type = at_one all (deep_type all done) deep.1 n lt;
+      no_long_type = of_whole (has_whole_header all n) Limit d.place (is_storage_type d.what && not (is_forward d.what)) _ whole (at_one all (long_type all done) long.0 n lt);
+      no_deep_type = at_one all (deep_type all done) long.1 n lt;
       no_many_homes = at_one all (many_homes all) many.1 n lt;
       no_clash = of_whole (has_whole_header all n) MemberClash d.place (not (is_forward d.what)) _ whole (at_one all (member_clash all) clashes.0 n lt);
       no_key_members = keyed.0;

@@ -7,7 +7,7 @@ use Rattle.type_layout.specs.declared.home.HomeNo.{HomeNo}
 use Rattle.type_layout.specs.Sound.{Rise}
 use Rattle.psdl_directory.specs.Declarations.{Declaration}
 use Rattle.psdl_lineage.specs.Descent.{concrete_homes}
-use Rattle.psdl_rules.specs.Limits.{home_number}
+use Rattle.psdl_rules.specs.Faults.Limit.{home_number}
 use Rattle.psdl_directory.specs.Lookup.{at}
 use Rattle.psdl_check.specs.inner.HomeNos.{homes_in_front}
 use Rattle.psdl_directory.specs.Parts.{is_concrete_home}

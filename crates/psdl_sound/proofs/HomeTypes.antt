@@ -9,7 +9,9 @@ use Rattle.type_layout.specs.Schemas.{given}
 use Rattle.psdl_directory.specs.declared.fault.CheckKind.TheVariants.{NotImplemented, HomeType}
 use Rattle.psdl_directory.specs.Declarations.{What, IsModule, IsConstant, IsAlias, IsStruct, IsEnumeration, IsEnumerator, IsAbstractType, IsConcreteType, IsAbstractHome, IsConcreteHome, IsCatalog, Declaration}
 use Rattle.psdl_lineage.specs.Descent.{same_sort, ancestry, conforms, type_of_home}
-use Rattle.psdl_rules.specs.Families.{type_of_named, of_types, of_implemented, differs_from_base, is_other_kind, has_wrong_type}
+use Rattle.psdl_rules.specs.Words.{type_of_named, of_types}
+use Rattle.psdl_rules.specs.Faults.NotImplemented.{of_implemented}
+use Rattle.psdl_rules.specs.Faults.HomeType.{differs_from_base, is_other_kind, has_wrong_type}
 use Rattle.psdl_directory.specs.Fault.{fault_if}
 use Rattle.psdl_check.specs.Faults.{first_fault}
 use Rattle.psdl_directory.specs.Lookup.{at, named, defined, place_of}

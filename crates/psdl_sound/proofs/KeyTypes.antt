@@ -23,7 +23,8 @@ use Rattle.psdl_standings.specs.StateTypes.{state_type_by}
 use Rattle.psdl_rules.specs.Layouts.{member_type, layout_member, layout}
 use Rattle.psdl_directory.specs.Lookup.{lower, at, defined}
 use Rattle.psdl_members.specs.Clashes.{members_clash}
-use Rattle.psdl_rules.specs.Members.{is_called, same_name, listed_wrong, is_compound, keyed_wrong}
+use Rattle.psdl_rules.specs.Words.{is_called, same_name, listed_wrong}
+use Rattle.psdl_rules.specs.Faults.KeyType.{is_compound, keyed_wrong}
 use Rattle.psdl_directory.specs.Parts.{keys, key_list, states}
 use Rattle.psdl_check.specs.Schemas.{Introduced, indexes, referents, home_layout, home_no, home_of, schema}
 use Rattle.psdl_standings.specs.Standings.{Standing, standings, sight, plain_by, all_there}

@@ -15,7 +15,7 @@ use Rattle.psdl_directory.specs.Declarations.{Declaration}
 use Rattle.psdl_lineage.specs.Descent.{StateMember, members, type_of_home}
 use Rattle.psdl_check.specs.Faults.{first_fault}
 use Rattle.psdl_rules.specs.Layouts.{member_type, layout_member, layout}
-use Rattle.psdl_rules.specs.Limits.{most_members, has_long_default}
+use Rattle.psdl_rules.specs.Faults.Limit.{most_members, has_long_default}
 use Rattle.psdl_directory.specs.Lookup.{lower, at}
 use Rattle.psdl_members.specs.Clashes.{members_clash, has_clash}
 use Rattle.psdl_directory.specs.Parts.{is_forward, is_storage_type, is_concrete_type}

@@ -21,7 +21,7 @@ use Rattle.psdl_lineage.specs.Descent.{StateMember, has, ancestry, members, type
 use Rattle.psdl_check.specs.Faults.{first_fault}
 use Rattle.psdl_lineage.specs.Graph.{ancestry_in, graph_of}
 use Rattle.psdl_directory.specs.Lookup.{at}
-use Rattle.psdl_rules.specs.Members.{is_called, same_name, listed_wrong}
+use Rattle.psdl_rules.specs.Words.{is_called, same_name, listed_wrong}
 use Rattle.psdl_directory.specs.Parts.{keys, factories, managed, key_list, factory_list}
 use Rattle.psdl_check.specs.Schemas.{Introduced, indexes, factory_of, home_layout, home_no, schema}
 use Rattle.psdl_standings.specs.Standings.{standings}

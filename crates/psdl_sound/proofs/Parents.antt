@@ -11,7 +11,8 @@ use Rattle.psdl_directory.specs.Declarations.{Path, What, IsModule, IsConstant, 
 use Rattle.psdl_lineage.specs.Descent.{type_of_home}
 use Rattle.psdl_directory.specs.Fault.{fault, fault_if}
 use Rattle.psdl_check.specs.Faults.{first_fault}
-use Rattle.psdl_rules.specs.Forward.{above, is_defined_by, of_forward, never_defined}
+use Rattle.psdl_rules.specs.Words.{above}
+use Rattle.psdl_rules.specs.Faults.Incomplete.{is_defined_by, of_forward, never_defined}
 use Rattle.psdl_standings.specs.Selves.{is_itself, of_itself, in_struct}
 use Rattle.psdl_directory.specs.Lookup.{as_is, lower, at, first, meaning, named, origin, definition, defined, place_of}
 use Rattle.psdl_standings.specs.Naming.{of_use}

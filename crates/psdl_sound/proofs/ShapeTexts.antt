@@ -14,7 +14,7 @@ use Rattle.psdl_directory.specs.Declarations.{Declaration}
 use Rattle.psdl_lineage.specs.Descent.{concrete_homes}
 use Rattle.psdl_directory.specs.Fault.{fault}
 use Rattle.psdl_check.specs.Faults.{first_fault, passing, long_shape}
-use Rattle.psdl_rules.specs.Limits.{most_shape}
+use Rattle.psdl_rules.specs.Faults.Limit.{most_shape}
 use Rattle.psdl_directory.specs.Lookup.{at}
 use Rattle.psdl_check.specs.Schemas.{schema}
 use Rattle.psdl_sound.proofs.FaultlessTexts.{no_long_shape}

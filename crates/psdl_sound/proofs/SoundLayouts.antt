@@ -13,7 +13,7 @@ use Rattle.type_layout.specs.Types.{PlainType, RefTo, PlainMember}
 use Rattle.psdl_directory.specs.Declarations.{Declaration, all_declarations}
 use Rattle.psdl_lineage.specs.Descent.{StateMember, members, concrete_homes}
 use Rattle.psdl_check.specs.Faults.{first_fault}
-use Rattle.psdl_rules.specs.Limits.{most_shape}
+use Rattle.psdl_rules.specs.Faults.Limit.{most_shape}
 use Rattle.psdl_standings.specs.StateTypes.{state_type_by}
 use Rattle.psdl_rules.specs.Layouts.{member_type, layout_member}
 use Rattle.psdl_directory.specs.Lookup.{at, defined}

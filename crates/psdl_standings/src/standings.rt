@@ -46,7 +46,7 @@ impl<'l, 'd> Standings<'l, 'd> {
     ghost use Rattle.psdl_standings.specs.inner.TypeNodes.{type_at};
     ghost use Rattle.psdl_standings.specs.inner.Walked.{text_in};
 
-    // Of a text whose declarations were all walked.
+    // The standings of a text whose declarations were all walked.
     fn of_walk(
         alloc: Global,
         walk: Walk<'l, 'd>,
@@ -70,7 +70,7 @@ impl<'l, 'd> Standings<'l, 'd> {
         })
     }
 
-    /// Of a text, by what the names in its headers mean. All declarations of a tree are in turn.
+    /// The standings of a text, by what the names in its headers mean. All declarations of a tree are in turn.
     pub fn new(
         alloc: Global,
         directory: &'l Directory<'d>,

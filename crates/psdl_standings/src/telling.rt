@@ -59,7 +59,6 @@ impl<'b, 'a> Walk<'b, 'a> {
     ghost use Rattle.psdl_directory.specs.Directories.{all_of};
     ghost use Rattle.psdl_directory.specs.Headers.{header_of, header as header_at, headers as headers_in};
     ghost use Rattle.psdl_directory.specs.Lookup.{at, origin};
-    ghost use Rattle.psdl_directory.specs.Parts as parts;
     ghost use Rattle.psdl_standings.specs.declared.need.Need.TheVariants as needs;
     ghost use Rattle.std.specs.Option.{option_and_then};
     ghost use Rattle.psdl_directory.specs.Declarations as whats;

@@ -13,4 +13,5 @@ pub use laws::{a_printed_text_is_read_again, a_text_has_a_tree_or_a_fault, a_tex
 pub use parsing::parse;
 pub use printing::print;
 pub use psdl_tokens::MOST_BYTES;
+pub use psdl_tree::Tree;
 pub use syntax_fault::{SyntaxFault, SyntaxKind};

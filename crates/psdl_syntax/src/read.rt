@@ -1,6 +1,6 @@
 // The tree of a list of tokens, by recursive descent.
 ghost use Rattle.std.specs.Prelude.{◌≡◌, map, IfOk, OnOk, Some};
-ghost use Rattle.part_readers.specs.Reading.{Gives, starts, many, whole};
+ghost use Rattle.part_readers.specs.Reading.{Gives, starts, whole};
 ghost use Rattle.part_readers.specs.Sentences.{IsFirstFault};
 ghost use Rattle.psdl_syntax.specs.Seen.{seen};
 ghost use Rattle.psdl_tree.specs.Trees.{Definitions};

@@ -12,7 +12,7 @@ use Rattle.psdl_directory.specs.Fault.{fault_if}
 use Rattle.psdl_directory.specs.Headers.{Header}
 use Rattle.psdl_directory.specs.Lookup.{at}
 use Rattle.psdl_lineage.specs.Descent.{conforms, type_of_home, provider}
-use Rattle.psdl_rules.specs.Families.{differs_from_base, is_other_kind}
+use Rattle.psdl_rules.specs.Faults.HomeType.{differs_from_base, is_other_kind}
 
 -- of what has none
 abbrev pub no_header : Header

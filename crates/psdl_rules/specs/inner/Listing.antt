@@ -13,7 +13,8 @@ use Rattle.psdl_directory.specs.Fault.{fault_if}
 use Rattle.psdl_directory.specs.Parts.{key_list, factory_list}
 use Rattle.psdl_lineage.specs.Descent.{StateMember}
 use Rattle.psdl_standings.specs.Standings.{Standing}
-use Rattle.psdl_rules.specs.Members.{listed_wrong, keyed_wrong}
+use Rattle.psdl_rules.specs.Words.{listed_wrong}
+use Rattle.psdl_rules.specs.Faults.KeyType.{keyed_wrong}
 
 -- by the type of the member that an identifier of a key names
 abbrev pub type_faults : Identifier → Option PlainType → List CheckFault

@@ -10,8 +10,8 @@ use Rattle.psdl_directory.specs.Declarations.{Declaration}
 use Rattle.psdl_directory.specs.Parts.{is_concrete_home}
 use Rattle.psdl_directory.specs.Lookup.{at}
 use Rattle.psdl_lineage.specs.Descent.{type_of_home, family}
-use Rattle.psdl_rules.specs.declared.family_type.Membership.{Membership}
-use Rattle.psdl_rules.specs.Families.{shares_type}
+use Rattle.psdl_rules.specs.declared.faults.family_type.Membership.{Membership}
+use Rattle.psdl_rules.specs.Faults.FamilyType.{shares_type}
 
 -- the family and the type of a concrete home that has a type
 abbrev pub membership : List Declaration → ℕ → Option Membership

@@ -1,6 +1,6 @@
 // Members of storage types and homes.
 ghost use Rattle.std.specs.Prelude.{◌≡◌, ◌-◌, map, option_map};
-ghost use Rattle.part_readers.specs.Reading.{Gives, starts, both, optional, many};
+ghost use Rattle.part_readers.specs.Reading.{Gives, starts, both, optional};
 ghost use Rattle.psdl_syntax.specs.Seen.{seen};
 ghost use Rattle.psdl_tree.specs.Views.{state_view, parameter_view, parameters_view, operation_result_view, operation_view, key_members_view, key_view, factory_view, identifiers_view};
 ghost use Rattle.psdl_syntax.specs.Productions.{is_mark, is_state, is_direction, is_identifier, behind_sign, state_at, readonly_at, direction_at, parameter_at, parameters_at, operation_result_at, operation_parameters_at, operation_at, key_members_at, key_at, factory_members_at, factory_at, identifiers_at, identifier_at, sign_at};

@@ -1,9 +1,9 @@
 // Storage types, storage homes and catalogs.
 ghost use Rattle.std.specs.Prelude.{◌≡◌, ◌-◌, map, option_map};
-ghost use Rattle.part_readers.specs.Reading.{Gives, starts, many};
+ghost use Rattle.part_readers.specs.Reading.{Gives, starts};
 ghost use Rattle.psdl_syntax.specs.Seen.{seen};
-ghost use Rattle.psdl_tree.specs.Views.{names_view, name_view, abstract_type_member_view, abstract_type_body_view, abstract_type_view, state_view, storage_type_body_view, storage_type_view, abstract_home_member_view, abstract_home_body_view, abstract_home_view, home_member_view, storage_home_view, provision_view, catalog_view, key_view};
-ghost use Rattle.psdl_syntax.specs.Productions.{is_inside, is_abstract_type_body, is_storage_type_body, braces, bases_at, base_at, implements_at, abstract_type_member_at, abstract_type_members_at, abstract_type_body_at, abstract_type_at, state_at, states_at, storage_type_body_at, storage_type_at, abstract_home_member_at, abstract_home_members_at, abstract_home_body_at, abstract_home_at, primary_key_at, home_member_at, home_members_at, storage_home_at, provision_at, provisions_at, catalog_at};
+ghost use Rattle.psdl_tree.specs.Views.{names_view, name_view, abstract_type_member_view, abstract_type_body_view, abstract_type_view, storage_type_body_view, storage_type_view, abstract_home_member_view, abstract_home_body_view, abstract_home_view, home_member_view, storage_home_view, provision_view, catalog_view, key_view};
+ghost use Rattle.psdl_syntax.specs.Productions.{is_abstract_type_body, is_storage_type_body, bases_at, base_at, implements_at, abstract_type_member_at, abstract_type_members_at, abstract_type_body_at, abstract_type_at, states_at, storage_type_body_at, storage_type_at, abstract_home_member_at, abstract_home_members_at, abstract_home_body_at, abstract_home_at, primary_key_at, home_member_at, home_members_at, storage_home_at, provision_at, provisions_at, catalog_at};
 ghost use Rattle.psdl_tree.specs.Trees as trees;
 
 use super::lists::{Part, braced_of};

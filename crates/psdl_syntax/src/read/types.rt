@@ -1,9 +1,9 @@
 // Types and declarators.
 ghost use Rattle.std.specs.Prelude.{◌≡◌, map, option_map};
-ghost use Rattle.part_readers.specs.Reading.{Gives, starts, many};
+ghost use Rattle.part_readers.specs.Reading.{Gives, starts};
 ghost use Rattle.psdl_syntax.specs.Seen.{seen};
 ghost use Rattle.psdl_tree.specs.Views.{expression_view, name_view, plain_type_view, type_spec_view, state_type_view, declarator_view, declarators_view, field_view};
-ghost use Rattle.psdl_syntax.specs.Productions.{is_mark, is_integer, is_inside, behind_sign, integer_size_at, integer_at, bound_at, string_at, plain_type_at, sequence_with, sequence_inside, sequence_inner_at, comma_bound_at, type_spec_with, type_spec_at, reference_at, state_type_at, dimension_at, declarator_at, declarators_at, field_at, fields_at};
+ghost use Rattle.psdl_syntax.specs.Productions.{is_integer, behind_sign, integer_size_at, integer_at, bound_at, string_at, plain_type_at, sequence_with, sequence_inside, sequence_inner_at, comma_bound_at, type_spec_with, type_spec_at, reference_at, state_type_at, dimension_at, declarator_at, declarators_at, field_at, fields_at};
 ghost use Rattle.psdl_tree.specs.Trees as trees;
 ghost use Rattle.psdl_tokens.specs.declared.token.Mark.TheVariants as marks;
 

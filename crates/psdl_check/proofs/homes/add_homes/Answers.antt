@@ -2,7 +2,7 @@ use Rattle.std.proofs.Common.{◌≡◌, ◌∙◌, ◌<◌, ◌≤◌, ◌+◌,
 use Rattle.std.specs.List.{flat_map, slice_get}
 use Rattle.std.proofs.lemmas.List.{take_all}
 use Rattle.psdl_lineage.specs.Descent.{concrete_homes}
-use Rattle.psdl_rules.specs.Limits.{most_shape}
+use Rattle.psdl_rules.specs.Faults.Limit.{most_shape}
 use Rattle.psdl_standings.specs.TextLengths.{cut}
 use Rattle.psdl_check.specs.Schemas.{introduced}
 use Rattle.psdl_check.specs.inner.Made.{AreMade, lines_before}

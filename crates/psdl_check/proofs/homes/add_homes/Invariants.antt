@@ -1,7 +1,7 @@
 use Rattle.std.proofs.Common.{◌≡◌, ◌≤◌, take, length, None}
 use Rattle.std.specs.List.{find, flat_map, range_with_len}
 use Rattle.psdl_lineage.specs.Descent.{concrete_homes}
-use Rattle.psdl_rules.specs.Limits.{most_shape}
+use Rattle.psdl_rules.specs.Faults.Limit.{most_shape}
 use Rattle.psdl_standings.specs.TextLengths.{cut}
 use Rattle.psdl_check.specs.Schemas.{introduced}
 use Rattle.psdl_check.specs.inner.Made.{IsReady, AreMade, lines_before}

@@ -1,15 +1,15 @@
 use Rattle.psdl_directory.specs.Fault.{each}
 use Rattle.psdl_standings.specs.Standings.{standings}
-use Rattle.psdl_rules.specs.Forward.{incomplete, cycle}
-use Rattle.psdl_rules.specs.Limits.{long_type, deep_type, many_homes}
+use Rattle.psdl_rules.specs.Faults.Incomplete.{incomplete}
+use Rattle.psdl_rules.specs.Faults.Cycle.{cycle_faults}
+use Rattle.psdl_rules.specs.Faults.Limit.{limit_faults}
 use Rattle.psdl_rules.specs.Texts.{judged}
-use Rattle.psdl_rules.proofs.Found.{five_found}
+use Rattle.psdl_rules.proofs.Found.{three_found}
 use Rattle.psdl_rules.proofs.faults.definition_faults.Goals as goal
 
 pub returns : goal.returns
 returns c =
     let all = judged c.args.text.now in
-    let done = standings all in
-    five_found c.args.least.now c.incomplete.new.least c.cycle.new.least c.long_type.new.least c.deep_type.new.least c.many_homes.new.least
-    (each (incomplete all) all) (each (cycle all) all) (each (long_type all done) all) (each (deep_type all done) all) (each (many_homes all) all)
-    c.incomplete.ensures c.cycle.ensures c.in_ok-long_type.ensures c.deep_type.ensures c.many_homes.ensures
+    three_found c.args.least.now c.incomplete.new.least c.cycle.new.least c.limit.new.least
+    (each (incomplete all) all) (cycle_faults all) (limit_faults all (standings all))
+    c.incomplete.ensures c.cycle.ensures c.in_ok-limit.ensures

@@ -1,6 +1,6 @@
 use Rattle.std.proofs.Common.{sym, ◌∙◌}
 use Rattle.psdl_members.specs.Bodies.{member_view}
-use Rattle.psdl_rules.specs.Members.{is_called}
+use Rattle.psdl_rules.specs.Words.{is_called}
 use Rattle.psdl_rules.proofs.Noted.{any_at}
 use Rattle.psdl_rules.proofs.listed_members.is_member.Goals as goal
 

@@ -3,7 +3,7 @@ use Rattle.std.specs.List.{list_any}
 use Rattle.std.specs.Str.{bytes_eq}
 use Rattle.psdl_directory.specs.Noting.{noting}
 use Rattle.psdl_members.specs.Bodies.{member_views}
-use Rattle.psdl_rules.specs.Members.{listed_wrong}
+use Rattle.psdl_rules.specs.Words.{listed_wrong}
 use Rattle.psdl_rules.specs.inner.Scopes.{has_name}
 use Rattle.psdl_rules.proofs.Noted.{before}
 use Rattle.psdl_rules.proofs.listed_members.listed_wrong.Given as goal

@@ -2,7 +2,7 @@ use Rattle.std.proofs.Common.{◌<◌, length, arith, subst, sym}
 use Rattle.psdl_lineage.specs.Sources.{Inheritance}
 use Rattle.psdl_standings.specs.Standings.{standings}
 use Rattle.psdl_standings.specs.Texts.{text_of}
-use Rattle.psdl_rules.specs.Limits.{long_type}
+use Rattle.psdl_rules.specs.Faults.Limit.{long_type}
 use Rattle.psdl_rules.specs.Texts.{judged}
 use Rattle.psdl_rules.specs.inner.Typed.{HaveMembers}
 use Rattle.psdl_rules.proofs.Passing.{more}

@@ -1,6 +1,6 @@
 use Rattle.psdl_standings.specs.Standings.{standings}
 use Rattle.psdl_standings.specs.Texts.{text_of}
-use Rattle.psdl_rules.specs.Limits.{long_type}
+use Rattle.psdl_rules.specs.Faults.Limit.{long_type}
 use Rattle.psdl_rules.specs.Texts.{judged}
 use Rattle.psdl_rules.specs.inner.Passes.{IsPassed}
 use Rattle.psdl_rules.specs.inner.Typed.{HaveMembers}

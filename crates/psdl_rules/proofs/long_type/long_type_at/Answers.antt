@@ -11,9 +11,9 @@ use Rattle.psdl_lineage.specs.Descent.{members}
 use Rattle.psdl_standings.specs.declared.state_entry.StateEntry.{StateEntry}
 use Rattle.psdl_standings.specs.Standings.{standings}
 use Rattle.psdl_standings.specs.Texts.{text_of, types_in}
-use Rattle.psdl_rules.specs.Limits.{most_members, has_long_default}
+use Rattle.psdl_rules.specs.Faults.Limit.{most_members, has_long_default}
 use Rattle.psdl_rules.specs.Texts.{judged}
-use Rattle.psdl_rules.specs.Whole.{has_whole_header}
+use Rattle.psdl_rules.specs.Words.{has_whole_header}
 use Rattle.psdl_rules.specs.inner.Typed.{default_types, are_long}
 use Rattle.psdl_rules.proofs.Recording.{long_is, all_true}
 use Rattle.psdl_rules.proofs.long_type.long_type_at.Goals as goal

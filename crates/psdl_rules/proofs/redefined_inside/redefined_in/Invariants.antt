@@ -3,7 +3,7 @@ use Rattle.std.specs.List.{list_any}
 use Rattle.std.specs.Str.{bytes_eq}
 use Rattle.psdl_directory.specs.Lookup.{lower}
 use Rattle.psdl_directory.specs.Noting.{noting}
-use Rattle.psdl_rules.specs.Scoping.{redefined_behind, redefined_in}
+use Rattle.psdl_rules.specs.Faults.Redefined.{redefined_behind, redefined_in}
 use Rattle.psdl_rules.specs.inner.Scopes.{has_name}
 use Rattle.psdl_rules.proofs.Noted.{before}
 use Rattle.psdl_rules.proofs.redefined_inside.redefined_in.Given as goal

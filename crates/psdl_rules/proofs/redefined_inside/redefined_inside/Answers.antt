@@ -1,5 +1,5 @@
 use Rattle.std.proofs.Common.{◌<◌, length, arith}
-use Rattle.psdl_rules.specs.Scoping.{redefined_inside}
+use Rattle.psdl_rules.specs.Faults.Redefined.{redefined_inside}
 use Rattle.psdl_rules.specs.Texts.{judged}
 use Rattle.psdl_rules.proofs.Passing.{more}
 use Rattle.psdl_rules.proofs.redefined_inside.redefined_inside.Goals as goal

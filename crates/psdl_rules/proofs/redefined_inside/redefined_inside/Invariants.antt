@@ -1,4 +1,4 @@
-use Rattle.psdl_rules.specs.Scoping.{redefined_inside}
+use Rattle.psdl_rules.specs.Faults.Redefined.{redefined_inside}
 use Rattle.psdl_rules.specs.Texts.{judged}
 use Rattle.psdl_rules.specs.inner.Passes.{IsPassed}
 use Rattle.psdl_rules.proofs.redefined_inside.redefined_inside.Given as goal

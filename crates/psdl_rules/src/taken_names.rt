@@ -1,0 +1,147 @@
+// Declarations that take the name of earlier ones.
+ghost use Rattle.std.specs.Prelude.{◌≡◌, ◌<◌, ◌||◌, length, take, IfOk, IfSome, OnOk};
+ghost use Rattle.std.specs.List.{list_any};
+ghost use Rattle.psdl_directory.specs.Directories.{all_of};
+ghost use Rattle.psdl_directory.specs.Fault.{each};
+ghost use Rattle.psdl_directory.specs.Lookup.{at, definition};
+ghost use Rattle.psdl_directory.specs.Noting.{noting};
+ghost use Rattle.psdl_directory.specs.Parts.{is_module, is_forward};
+ghost use Rattle.psdl_directory.specs.inner.Nodes.{what_view};
+ghost use Rattle.psdl_rules.specs.Faults.Redefined as conditions;
+ghost use Rattle.psdl_rules.specs.Faults.Redefined.{takes_name_of};
+ghost use Rattle.psdl_rules.specs.Texts.{judged};
+ghost use Rattle.psdl_rules.specs.inner.Others as of;
+
+use crate::sorts::{is_forward, same_kind};
+use crate::text::Text;
+use psdl_directory::{CheckKind, DeclarationNo, Directory, Least, What};
+use pss_base::NoMemory;
+use std::alloc::Global;
+
+// The first in its scope whose name is the same but for case.
+fn first_alike(directory: &Directory<'_>, number: usize) -> Option<usize>
+    requires { number < length (all_of directory.now) }
+    ensures first { result ≡ of.first_alike (all_of directory.now) number }
+    ensures there { IfSome result (λ f. f < length (all_of directory.now)) }
+{
+    match directory.first_alike(DeclarationNo::new(number)) {
+        Some(first) => Some(first.index()),
+        None => None,
+    }
+}
+
+fn same_thing(directory: &Directory<'_>, first: usize, second: usize) -> bool
+    ensures { result ≡ of.same_thing (at (all_of directory.now) first) (at (all_of directory.now) second) }
+{
+    let first = DeclarationNo::new(first);
+    let second = DeclarationNo::new(second);
+    directory.name(first) == directory.name(second)
+        && same_kind(directory.what(first), directory.what(second))
+}
+
+// Keeps a declaration that is another thing than the first of its name, where none is kept.
+fn keep(directory: &Directory<'_>, others: &mut Vec<Option<usize>>, number: usize)
+    requires number { number < length (all_of directory.now) }
+    requires sized { length others.old.items ≡ length (all_of directory.now) }
+    ensures sized { length others.new.items ≡ length others.old.items }
+    ensures noted { others.new.items ≡ of.noted (all_of directory.now) others.old.items number }
+{
+    if let Some(first) = first_alike(directory, number) {
+        if others[first].is_none() && !same_thing(directory, first, number) {
+            others[first] = Some(number);
+        }
+    }
+}
+
+// For each declaration that is the first of its name but for case: the first that is another thing of that name.
+fn others(alloc: Global, directory: &Directory<'_>) -> Result<Vec<Option<usize>>, NoMemory>
+    ensures sized { IfOk result (λ v. length v.items ≡ length (all_of directory.now)) }
+    ensures others { IfOk result (λ v. of.AreOthers (all_of directory.now) (all_of directory.now) v.items) }
+{
+    let mut others = vec![in alloc; None; directory.len()]?;
+    for number in 0..directory.len() {
+        keep(directory, &mut others, number);
+    }
+    Ok(others)
+}
+
+fn is_below(found: Option<usize>, number: usize) -> bool
+    ensures { result ≡ of.is_below found number }
+{
+    match found {
+        Some(at) => at < number,
+        None => false,
+    }
+}
+
+// A module may be opened again, and a forward declaration stands beside others and the definition.
+fn may_stand_again(what: What<'_>) -> bool
+    ensures { result ≡ (is_module (what_view what.entry) || is_forward (what_view what.entry)) }
+{
+    matches!(what, What::Module(_)) || is_forward(what)
+}
+
+fn is_defined_before(directory: &Directory<'_>, number: usize) -> bool
+    requires { number < length (all_of directory.now) }
+    ensures { result ≡ of.is_below (definition (all_of directory.now) number) number }
+{
+    match directory.definition(DeclarationNo::new(number)) {
+        Some(definition) => definition.index() < number,
+        None => false,
+    }
+}
+
+fn is_taken(directory: &Directory<'_>, first: usize, other: Option<usize>, number: usize) -> bool
+    requires { number < length (all_of directory.now) }
+    ensures { result ≡ of.is_taken (all_of directory.now) first other number }
+{
+    if !same_thing(directory, first, number) || is_below(other, number) {
+        return true;
+    }
+    if may_stand_again(directory.what(DeclarationNo::new(number))) {
+        return false;
+    }
+    is_defined_before(directory, number)
+}
+
+fn takes_name(directory: &Directory<'_>, others: &[Option<usize>], number: usize) -> bool
+    requires number { number < length (all_of directory.now) }
+    requires sized { length others.now ≡ length (all_of directory.now) }
+    requires others { of.AreOthers (all_of directory.now) (all_of directory.now) others.now }
+    ensures { result ≡ list_any (takes_name_of (at (all_of directory.now) number)) (take number (all_of directory.now)) }
+{
+    match first_alike(directory, number) {
+        None => false,
+        Some(first) => {
+            if number <= first {
+                return false;
+            }
+            is_taken(directory, first, others[first], number)
+        }
+    }
+}
+
+fn taken_name_at(text: &Text, others: &[Option<usize>], number: usize, least: &mut Least)
+    requires number { number < length (judged text.now) }
+    requires sized { length others.now ≡ length (judged text.now) }
+    requires others { of.AreOthers (judged text.now) (judged text.now) others.now }
+    ensures { least.new ≡ noting least.old (conditions.redefined (judged text.now) number (at (judged text.now) number)) }
+{
+    let holds = takes_name(text.directory(), others, number);
+    least.note_if(
+        holds,
+        CheckKind::Redefined,
+        text.place(DeclarationNo::new(number)),
+    );
+}
+
+/// Notes each declaration that has, but for case, the name of an earlier one of its scope, and is not the same thing again.
+pub(crate) fn taken_names(alloc: Global, text: &Text, least: &mut Least) -> Result<(), NoMemory>
+    ensures { OnOk result (least.new ≡ noting least.old (each (conditions.redefined (judged text.now)) (judged text.now))) }
+{
+    let others = others(alloc, text.directory())?;
+    for index in 0..text.len() {
+        taken_name_at(text, &others, index, least);
+    }
+    Ok(())
+}

@@ -124,6 +124,21 @@ def references_down_a_chain(size):
     return filled(size, "".join(front), lambda n: f"typedef long x{n:x};\n", "")
 
 
+def references_to_many_types(size, filling=lambda n: f"typedef char y{n:x};\n"):
+    """Types of 255 references, each to a type of its own, a home of each, and many small declarations."""
+    count = min(3840, size // 272)
+    front = ["".join(f"abstract storagetype s{n:x} {{}};\n" for n in range(count))]
+    for first in range(0, count, 255):
+        members = "".join(f"state ref<s{n:x}> m{n - first:x};" for n in range(first, min(first + 255, count)))
+        front.append(f"storagetype R{first:x} {{ {members} }};\nstoragehome H{first:x} of R{first:x} {{}};\n")
+    return filled(size, "".join(front), filling, "")
+
+
+def references_over_many_bases(size):
+    """The same, and types that name hundreds of bases each."""
+    return references_to_many_types(size, lambda n: f"abstract storagetype y{n:x} : {','.join(['s0'] * 700)} {{}};\n")
+
+
 def contested_names(size):
     """Half of the text: names that two abstract homes give to different keys. The other half: homes that inherit both."""
     names = range(size // 64)
@@ -159,6 +174,8 @@ HOSTILE = [
     homes_below_a_chain,
     homes_with_references,
     references_down_a_chain,
+    references_to_many_types,
+    references_over_many_bases,
     contested_names,
     contested_by_heirs,
 ]

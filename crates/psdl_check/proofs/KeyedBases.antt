@@ -19,7 +19,7 @@ use Rattle.psdl_check.specs.Schemas.{Introduced, introduced}
 use Rattle.psdl_check.specs.inner.HeldKeys.{base_has}
 use Rattle.psdl_check.specs.inner.Numbering.{HasNumber}
 use Rattle.psdl_check.specs.inner.Rising.{IsRising}
-use Rattle.psdl_check.proofs.Heirs.{conforms_by}
+use Rattle.psdl_check.proofs.Descent.{conforms_by}
 use Rattle.psdl_check.proofs.KeyIding.{listed_is, listed_itself}
 
 -- ---- lists in which one passes

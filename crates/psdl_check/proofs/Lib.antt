@@ -2,7 +2,9 @@ pub mod Lining
 pub mod Prefixed
 pub mod Slots
 pub mod Conformed
-pub mod Heirs
+pub mod Descent
+pub mod Masks
+pub mod Groups
 pub mod Held
 pub mod InFront
 pub mod Membered

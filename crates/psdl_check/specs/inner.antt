@@ -13,6 +13,7 @@ pub mod KeysMade
 pub mod Laying
 pub mod LineLengths
 pub mod Lists
+pub mod Masks
 pub mod MemberLines
 pub mod NumbersIn
 pub mod Referring

@@ -150,7 +150,7 @@ impl<'t, 'd> HomeFactories<'t, 'd> {
     ghost use Rattle.psdl_check.specs.inner.Declaring.{declared_as};
     ghost use Rattle.psdl_check.specs.inner.FactoryTexts.{factories_text};
 
-    /// Of the homes of a text.
+    /// What the homes of a text declare.
     pub(crate) fn new(
         alloc: Global,
         lineage: &'t Lineage<'t, 'd>,

@@ -146,7 +146,7 @@ impl<'t, 'd> HomeKeys<'t, 'd> {
     ghost use Rattle.psdl_check.specs.inner.KeyRowed.{AreRows};
     ghost use Rattle.psdl_check.specs.inner.KeyTexts.{IsKeyed};
 
-    /// Of the homes of a text.
+    /// What is asked for the homes of a text.
     pub(crate) fn new(
         alloc: Global,
         lineage: &'t Lineage<'t, 'd>,

@@ -14,8 +14,10 @@ ghost use Rattle.psdl_check.specs.Schemas.{home_of, introduced, key_numbers, sch
 ghost use Rattle.psdl_check.specs.inner.FactoryTexts.{factories_text};
 ghost use Rattle.psdl_check.specs.inner.Made.{IsLaid, front_lines, key_lines, lines_of, IsReady, AreMade, HasNames, HasKeys, AreFactories};
 ghost use Rattle.psdl_check.specs.inner.Laying.{laid_text};
+ghost use Rattle.psdl_check.specs.inner.Masks.{AreGroups};
 ghost use Rattle.psdl_check.specs.inner.Texts.{text_in, IsOne};
 
+use crate::heirs::Heirs;
 use crate::home_factories::HomeFactories;
 use crate::home_keys::HomeKeys;
 use crate::key_rows::KeyRows;
@@ -39,6 +41,7 @@ use type_layout::{Factories, Home, HomeList, HomeNo, KeyNos, Layout};
 #[derive(Drop)]
 pub(crate) struct Making<'t, 'd> {
     pub layouts: Layouts<'t, 'd>,
+    pub heirs: Heirs,
     pub rows: KeyRows<'d>,
     pub home_keys: HomeKeys<'t, 'd>,
     pub factories: HomeFactories<'t, 'd>,
@@ -61,15 +64,18 @@ fn lay_out<'d>(
     alloc: Global,
     text: &Text,
     layouts: &mut Layouts<'_, 'd>,
+    heirs: &mut Heirs,
     home: DeclarationNo,
 ) -> Result<Laid<'d>, NoMemory>
     requires one { IsOne text.now }
     requires text { laid_text layouts.old ≡ text_in text.now }
+    requires groups { AreGroups (text_in text.now) heirs.old }
     ensures same { laid_text layouts.new ≡ laid_text layouts.old }
+    ensures groups { AreGroups (text_in text.now) heirs.new }
     ensures laid { IfOk result (λ l. IsLaid (text_in text.now) (types_in text.now.standings.now) home l) }
 {
     let members = layouts.of_home(alloc, text, home)?;
-    let referents = Referents::new(alloc, text, &members)?;
+    let referents = Referents::new(alloc, text, heirs, &members)?;
     let name = scoped_name(alloc, text.directory(), home)?;
     Ok(Laid {
         name,
@@ -196,7 +202,7 @@ fn add_home(
     ensures length { IfOk result (λ r. (homes more : List ℕ) → descent.concrete_homes (text_in text.now) ≡ (homes ++ home ∷ []) ++ more → AreMade (text_in text.now) homes making.old → length (flat_map (introduced (text_in text.now)) homes) ≤ most_shape → r.0 ≡ cut (front.0 + length (lines_of (text_in text.now) home))) }
     ensures made { IfOk result (λ r. (homes more : List ℕ) → descent.concrete_homes (text_in text.now) ≡ (homes ++ home ∷ []) ++ more → AreMade (text_in text.now) homes making.old → length (flat_map (introduced (text_in text.now)) homes) ≤ most_shape → nat_lt most_shape r.0 ≡ false → AreMade (text_in text.now) (homes ++ home ∷ []) making.new) }
 {
-    let laid = lay_out(alloc, text, &mut making.layouts, home)?;
+    let laid = lay_out(alloc, text, &mut making.layouts, &mut making.heirs, home)?;
     let between = with_laid(text, home, &laid, front);
     let numbered = number_keys(alloc, text, making, home, &laid.members, between)?;
     let length = numbered.length;

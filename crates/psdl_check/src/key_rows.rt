@@ -152,7 +152,7 @@ impl<'d> KeyRows<'d> {
     ghost use Rattle.psdl_directory.specs.Directories.{all_of};
     ghost use Rattle.psdl_check.specs.inner.KeyRowed.{row_in, AreRows};
 
-    /// Of all declarations.
+    /// The keys in the bodies of all declarations.
     pub(crate) fn new(alloc: Global, directory: &Directory<'d>) -> Result<KeyRows<'d>, NoMemory>
         ensures { IfOk result (λ r. AreRows (all_of directory.now) r.ids r.rows.items) }
     {

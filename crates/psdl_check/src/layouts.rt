@@ -122,7 +122,7 @@ impl<'t, 'd> Layouts<'t, 'd> {
     ghost use Rattle.psdl_check.specs.inner.Texts.{text_in, IsOne};
     ghost use Rattle.psdl_check.specs.inner.TypedMembers.{typed_views, AreThere, layout_of_home};
 
-    /// Of the types of a text.
+    /// What is asked for the types of a text.
     pub(crate) fn new(alloc: Global, text: &Text<'t, 'd>) -> Result<Layouts<'t, 'd>, NoMemory>
         requires { IsOne text.now }
         ensures { IfOk result (λ l. laid_text l ≡ text_in text.now) }

@@ -2,6 +2,7 @@
 #![tactic(auto)]
 
 mod checks;
+mod heirs;
 mod home_factories;
 mod home_keys;
 mod home_numbers;

@@ -3,6 +3,7 @@ ghost use Rattle.std.specs.Prelude.{◌≡◌, None, [], IfOk};
 ghost use Rattle.psdl_check.specs.inner.Made.{IsMade, IsReady, AreMade};
 ghost use Rattle.psdl_check.specs.inner.Texts.{text_in, IsOne};
 
+use crate::heirs::Heirs;
 use crate::home_factories::HomeFactories;
 use crate::home_keys::HomeKeys;
 use crate::homes::{Making, add_homes};
@@ -35,6 +36,7 @@ fn making_of<'t, 'd>(alloc: Global, text: &Text<'t, 'd>) -> Result<Making<'t, 'd
     let keys = Keys::new(alloc, rows.ids.len())?;
     Ok(Making {
         layouts: Layouts::new(alloc, text)?,
+        heirs: Heirs::new(alloc),
         rows,
         home_keys,
         factories: HomeFactories::new(alloc, text.lineage)?,

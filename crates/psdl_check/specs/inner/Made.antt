@@ -25,6 +25,7 @@ use Rattle.psdl_check.specs.inner.Keys.{AreKeys}
 use Rattle.psdl_check.specs.inner.KeyTexts.{IsKeyed}
 use Rattle.psdl_check.specs.inner.Laying.{laid_text}
 use Rattle.psdl_check.specs.inner.Lists.{homes_in}
+use Rattle.psdl_check.specs.inner.Masks.{AreGroups}
 use Rattle.psdl_check.specs.inner.TypedMembers.{typed_views, typed_names, AreTyped}
 
 -- what is made of a home in front of its keys
@@ -41,6 +42,7 @@ front_lines all home = home_line (home_no all home).0 (home_of all (standings al
 -- what homes are made of is that of the text
 pub record IsReady (all : List Declaration) (m : Making) : Type 0 where
   pub layouts : laid_text m.layouts ≡ all
+  pub heirs : AreGroups all m.heirs
   pub rows : AreRows all m.rows.ids m.rows.rows.items
   pub keyed : IsKeyed all m.rows m.home_keys
   pub factories : factories_text m.factories ≡ all

@@ -19,5 +19,5 @@ returns-clause-laid c =
       name = c.in_ok-name.ensures ∙ ap (λ (d : List Declaration). scoped_name (at d c.args.home)) c.directory.ensures;
       base = c.base_no.ensures;
       typed = are_typed (length types) (length all) c.in_ok-members.members.items c.in_ok-members.ensures.there;
-      members = views_agree types (homes_in c.in_ok-referents.referents) (referents all) c.in_ok-members.members.items (λ n on. c.in_ok-referents.ensures n (ap (λ (ms : List TypedMember). refer_to ms n) c.deref.ensures.value ∙ on)) ∙ c.in_ok-members.ensures.members (referents all);
+      members = views_agree types (homes_in c.in_ok-referents.referents) (referents all) c.in_ok-members.members.items (λ n on. c.in_ok-referents.ensures.referents n (ap (λ (ms : List TypedMember). refer_to ms n) c.deref.ensures.value ∙ on)) ∙ c.in_ok-members.ensures.members (referents all);
     }

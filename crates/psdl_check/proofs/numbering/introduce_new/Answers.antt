@@ -1,4 +1,4 @@
-use Rattle.std.proofs.Common.{◌++◌, Bool, true, false, List, sym, subst}
+use Rattle.std.proofs.Common.{◌++◌, Bool, List, sym, subst}
 use Rattle.std.proofs.lemmas.List.{append-nil}
 use Rattle.psdl_check.specs.Schemas.{Introduced}
 use Rattle.psdl_check.specs.inner.KeyIds.{own_view}

@@ -1,4 +1,4 @@
-use Rattle.std.proofs.Common.{◌∙◌, ◌≡◌, ℕ, List, true, sym, ap, arith, rules}
+use Rattle.std.proofs.Common.{◌∙◌, ◌≡◌, ℕ, List, sym, ap, arith, rules}
 use Rattle.std.proofs.lemmas.Bool.{eq-eqb}
 use Rattle.type_layout.specs.declared.home.HomeNo.{HomeNo}
 use Rattle.psdl_check.specs.declared.referents.HomesOf.{HomesOf}

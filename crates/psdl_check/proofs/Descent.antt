@@ -1,19 +1,13 @@
 -- What conforms to a definition, where each declaration stands behind those that it names.
-use Rattle.std.proofs.Common.{◌≡◌, ◌∙◌, ℕ, ◌+◌, ◌<◌, List, [], ◌∷◌, ◌++◌, Bool, true, false, ◌==◌, ◌||◌, length, filter, map, cond, Option, Some, None, get_or, refl, sym, ap, arith, ⊎_elim, get_or-set_same, get_or-set_other}
+use Rattle.std.proofs.Common.{◌≡◌, ◌∙◌, ℕ, ◌+◌, ◌<◌, List, [], ◌∷◌, ◌++◌, Bool, true, false, ◌==◌, ◌||◌, length, get_or, refl, sym, ap, arith, ⊎_elim, get_or-set_same, get_or-set_other}
 use Rattle.std.specs.List.{flat_map, list_any}
 use Rattle.std.proofs.lemmas.Bool.{cases_eq}
 use Rattle.std.proofs.Math.ListN.{set}
-use Rattle.type_layout.specs.declared.home.HomeNo.{HomeNo}
-use Rattle.type_layout.specs.Schemas.{given}
-use Rattle.psdl_directory.specs.Declarations.{Declaration}
-use Rattle.psdl_lineage.specs.Descent.{has, conforms, concrete_homes, type_of_home}
-use Rattle.psdl_lineage.specs.Graph.{parents_in, ancestry_in, conforms_in, graph_of}
+use Rattle.psdl_lineage.specs.Descent.{has}
+use Rattle.psdl_lineage.specs.Graph.{parents_in, ancestry_in, conforms_in}
 use Rattle.psdl_lineage.proofs.Low.{joined_of}
 use Rattle.psdl_lineage.proofs.Repeats.{has-append, has_once, has_here, has_later, or_false}
-use Rattle.psdl_lineage.proofs.Texts.{ancestry_is, length-graph_of}
-use Rattle.psdl_check.specs.Schemas.{home_no, referents}
 use Rattle.psdl_check.specs.inner.Rising.{IsRising}
-use Rattle.psdl_check.proofs.Meant.{type_below}
 
 has_each : (f : ℕ → List ℕ) (ps : List ℕ) (n : ℕ) → has (flat_map f ps) n ≡ list_any (λ p. has (f p) n) ps
 has_each f [] n = refl
@@ -55,21 +49,3 @@ heirs_more graph to i heirs b rising lt long are is n there =
     (λ same. ap (λ (m : ℕ). get_or (set heirs i b) m false) same ∙ get_or-set_same heirs i b false (omega (arith, lt, long)) ∙ value ∙ ap (λ (m : ℕ). conforms_in graph m to) (sym same))
     (λ differ. get_or-set_other heirs i n b false differ ∙ are n (omega (arith, differ, there)))
     (cases_eq n i)
-
--- ---- all of them
-
-abbrev pub AreAll : List (List ℕ) → ℕ → List Bool → Type 0
-AreAll graph to heirs = (n : ℕ) → n < length graph → get_or heirs n false ≡ conforms_in graph n to
-
-filter_alike : (f g : ℕ → Bool) (xs : List ℕ) → ((x : ℕ) → f x ≡ g x) → filter f xs ≡ filter g xs
-filter_alike f g [] h = refl
-filter_alike f g (x ∷ xs) h = ap (λ (b : Bool). cond b (x ∷ filter f xs) (filter f xs)) (h x) ∙ ap (λ (l : List ℕ). cond (g x) (x ∷ l) l) (filter_alike f g xs h)
-
-pub right_referents : (all : List Declaration) (d : ℕ) (heirs : List Bool) (l : List HomeNo) → AreAll (graph_of all) d heirs
-    → l ≡ map (home_no all) (filter (λ h. given (type_of_home all h) false (λ t. get_or heirs t false)) (concrete_homes all)) → l ≡ referents all d
-right_referents all d heirs l are is =
-    is ∙ ap (λ (hs : List ℕ). map (home_no all) hs) (filter_alike (λ h. given (type_of_home all h) false (λ t. get_or heirs t false)) (λ h. given (type_of_home all h) false (λ t. conforms all t d)) (concrete_homes all) (λ h. by h (type_of_home all h) refl))
-  where
-    by : (h : ℕ) (o : Option ℕ) → type_of_home all h ≡ o → given o false (λ t. get_or heirs t false) ≡ given o false (λ t. conforms all t d)
-    by h None e = refl
-    by h (Some t) e = are t (omega (arith, type_below all h t e, length-graph_of all)) ∙ ap (λ (k : List ℕ). has k d) (sym (ancestry_is all t))

@@ -42,7 +42,7 @@ given_alike f g same (Some x) = same x
 -- by what a name means, and what it means where case is ignored
 by_meanings : (place : Place) (f : ℕ → List CheckFault) (exact alike : Option ℕ)
     → given exact (fault (given alike Unknown (λ _. WrongCase)) place ∷ []) f
-        ≡ fault_if (is_none exact && is_none alike) Unknown place ++ fault_if (is_none exact && is_some alike) WrongCase place ++ given exact [] f
+    ≡ fault_if (is_none exact && is_none alike) Unknown place ++ fault_if (is_none exact && is_some alike) WrongCase place ++ given exact [] f
 by_meanings place f None None = refl
 by_meanings place f None (Some n) = refl
 by_meanings place f (Some j) alike = refl

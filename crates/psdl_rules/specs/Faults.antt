@@ -30,7 +30,6 @@ use Rattle.psdl_rules.specs.Faults.ConstRange.{out_of_range, too_long}
 use Rattle.psdl_rules.specs.Faults.ConstZero.{by_zero}
 use Rattle.psdl_rules.specs.Faults.Provides.{not_provided}
 use Rattle.psdl_rules.specs.Faults.Limit.{limit_faults}
-
 pub mod Redefined
 pub mod Unknown
 pub mod WrongCase

@@ -49,7 +49,11 @@ fn factory_early(alloc: Global, least: &Least, factory: &Factory) -> Result<bool
 }
 
 /// Whether a fault in one of these factories may be the least.
-pub(crate) fn factories_early(alloc: Global, least: &Least, factories: &[&Factory]) -> Result<bool, NoMemory>
+pub(crate) fn factories_early(
+    alloc: Global,
+    least: &Least,
+    factories: &[&Factory],
+) -> Result<bool, NoMemory>
     ensures { IfOk result (λ r. r ≡ list_any (factory_early least.now) (map (λ f. factory_view f.now) factories.now)) }
 {
     for factory in factories {

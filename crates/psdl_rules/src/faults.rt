@@ -29,7 +29,7 @@ mod not_implemented;
 mod provides;
 mod redefined;
 
-use crate::found::note_found;
+use crate::found_apart::note_found;
 use crate::text::Text;
 use cycle::cycle;
 use family_type::family_type;
@@ -40,11 +40,11 @@ use limit::limit;
 use member_clash::member_clash;
 use not_implemented::not_implemented;
 use provides::not_provided;
-use redefined::redefined;
 use psdl_directory::{CheckFault, Least};
 use psdl_members::Inherited;
 use psdl_standings::Standings;
 use pss_base::NoMemory;
+use redefined::redefined;
 use std::alloc::Global;
 
 // C2, C3, C4, C14 and C15.

@@ -4,7 +4,7 @@
 mod early_lists;
 mod factories;
 mod faults;
-mod found;
+mod found_apart;
 mod keys;
 mod listed_members;
 mod lists;

@@ -7,8 +7,7 @@ ghost use Rattle.pss_serving.specs.Found.{IsFound, IsOne, has_failed};
 
 use crate::schema_fault::SchemaFault;
 use psdl_check::{CheckKind, check};
-use psdl_syntax::{MOST_BYTES, SyntaxKind, a_text_has_one_fault, parse};
-use psdl_tree::Tree;
+use psdl_syntax::{MOST_BYTES, SyntaxKind, Tree, a_text_has_one_fault, parse};
 use pss_base::{Bytes, ReadAll, Source, read_all};
 use std::alloc::Global;
 use type_layout::Schema;

@@ -10,7 +10,7 @@ ghost use Rattle.psdl_rules.specs.Texts.{judged};
 ghost use Rattle.psdl_rules.specs.inner.Headed.{above, are_one, own_use};
 ghost use Rattle.psdl_standings.specs.Texts.{text_of as told_of};
 
-use crate::found::note_found;
+use crate::found_apart::note_found;
 use crate::text::Text;
 use psdl_directory::{CheckKind, DeclarationNo, Least, Use};
 use psdl_standings::Standings;

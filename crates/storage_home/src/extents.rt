@@ -70,11 +70,13 @@ fn enter(extent: &mut Extent, serial: u64) -> Result<(), NoMemory>
     ensures ok { OnOk result (TurnsEntered extent.old.entries extent.new.entries serial true) }
     ensures err { OnErr result (extent.new.entries ≡ extent.old.entries) }
 {
-    if extent.contains_key(&serial) {
-        return Ok(());
+    match extent.insert(serial, false)? {
+        Some(is_held) => {
+            write(extent, serial, is_held);
+            Ok(())
+        }
+        None => Ok(()),
     }
-    extent.insert(serial, false)?;
-    Ok(())
 }
 
 // The object of a serial that was entered is there from now on.

@@ -16,7 +16,7 @@ use Rattle.link_pool.specs.declared.names.Col.{Col}
 use Rattle.link_pool.specs.declared.names.Node.{Node}
 use Rattle.link_pool.specs.declared.names.Seat.{Seat}
 use Rattle.lock_table.specs.declared.links.Lock.{Lock}
-use Rattle.lock_table.specs.declared.links.Place.{Place}
+use Rattle.lock_table.specs.declared.places.Place.{Place}
 use Rattle.lock_table.specs.declared.links.Links.{Links}
 use Rattle.lock_table.specs.inner.Tables.{Turns, entry_at}
 use Rattle.lock_table.specs.inner.Links.{IsLinked, IsReady, Grows, EmptyRows, EmptyCols, same_owner, resource_in, owner_in, resources, owners, place_at, row_at, col_at}
@@ -53,7 +53,7 @@ none_is None e h = search rules
 none_is (Some x) e h = no_value x (sym e)
 
 -- nothing came
-module _ (old new : Links) (pool : new.pool ≡ old.pool) (places : new.places.entries ≡ old.places.entries) (columns : new.columns.entries ≡ old.columns.entries) (held : new.held ≡ old.held) where
+module _ (old new : Links) (pool : new.pool ≡ old.pool) (places : new.places.table.entries ≡ old.places.table.entries) (columns : new.columns.entries ≡ old.columns.entries) (held : new.held ≡ old.held) where
   same_places : (r : Resource) → place_at new r ≡ place_at old r
   same_places r = ap (λ es. entry_at same_resource es r) places
 
@@ -88,7 +88,7 @@ module _ (old new : Links) (pool : new.pool ≡ old.pool) (places : new.places.e
     cols = λ owner col e. same_columns owner ∙ e;
   }
 
-module _ (old new : Links) (r : Resource) (row : Row) (none : place_at old r ≡ None) (fresh : map.get old.pool.rows row ≡ None) (turns : Turns same_resource old.places.entries new.places.entries r (Some (record { row = row; locks = 0 })))
+module _ (old new : Links) (r : Resource) (row : Row) (none : place_at old r ≡ None) (fresh : map.get old.pool.rows row ≡ None) (turns : Turns same_resource old.places.table.entries new.places.table.entries r (Some (record { row = row; locks = 0 })))
     (pool : new.pool ≡ record old.pool { rows = map.insert old.pool.rows row [] }) (columns : new.columns.entries ≡ old.columns.entries) (held : new.held ≡ old.held) (rings : AreRings new.pool) where
   nodes_r : new.pool.nodes ≡ old.pool.nodes
   nodes_r = ap (λ p. p.nodes) pool
@@ -163,7 +163,7 @@ module _ (old new : Links) (r : Resource) (row : Row) (none : place_at old r ≡
   }
 
 module _ (old new : Links) (owner : OwnerNo) (col : Col) (none : col_at old owner ≡ None) (fresh : map.get old.pool.cols col ≡ None) (turns : Turns same_owner old.columns.entries new.columns.entries owner (Some col))
-    (pool : new.pool ≡ record old.pool { cols = map.insert old.pool.cols col [] }) (places : new.places.entries ≡ old.places.entries) (held : new.held ≡ old.held) (rings : AreRings new.pool) where
+    (pool : new.pool ≡ record old.pool { cols = map.insert old.pool.cols col [] }) (places : new.places.table.entries ≡ old.places.table.entries) (held : new.held ≡ old.held) (rings : AreRings new.pool) where
   nodes_c : new.pool.nodes ≡ old.pool.nodes
   nodes_c = ap (λ p. p.nodes) pool
 
@@ -256,7 +256,7 @@ contains_map f xs x m = go f x xs m.0 m.1 m.2
     go f x (y ∷ ys) (suc n) lt e = contains_rest (f y) (f x) (map f ys) (go f x ys n (omega (arith, lt)) e)
 
 -- room came
-module _ (old new : Links) (nodes : new.pool.nodes ≡ old.pool.nodes) (rows : new.pool.rows ≡ old.pool.rows) (cols : new.pool.cols ≡ old.pool.cols) (places : new.places.entries ≡ old.places.entries) (columns : new.columns.entries ≡ old.columns.entries)
+module _ (old new : Links) (nodes : new.pool.nodes ≡ old.pool.nodes) (rows : new.pool.rows ≡ old.pool.rows) (cols : new.pool.cols ≡ old.pool.cols) (places : new.places.table.entries ≡ old.places.table.entries) (columns : new.columns.entries ≡ old.columns.entries)
     (held : new.held ≡ old.held) (rings : AreRings new.pool) where
   pub ready_alike : (locks : List Lock) → IsReady old locks → IsReady new locks
   ready_alike locks ready =

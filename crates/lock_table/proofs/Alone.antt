@@ -1,7 +1,6 @@
 -- An owner that is alone is held up by nobody.
 use Rattle.std.proofs.Common.{◌≡◌, ◌==◌, List, [], ◌∷◌, length, slice_get, Option, Some, None, Bool, true, false, cond, refl, sym, ap, ◌∙◌, arith, eqb-true}
 use Rattle.std.specs.Option.{option_map, unwrap_or}
-use Rattle.std.specs.FinMap as map
 use Rattle.pss_base.specs.declared.owner.OwnerNo.{OwnerNo}
 use Rattle.pss_machine.specs.declared.lock.Need.{Need}
 use Rattle.link_pool.specs.declared.names.Col.{Col}

@@ -12,7 +12,7 @@ use Rattle.link_pool.specs.Meaning.{row_in, col_in, AreRings}
 use Rattle.link_pool.specs.declared.names.Row.{Row}
 use Rattle.link_pool.specs.declared.names.Col.{Col}
 use Rattle.link_pool.specs.declared.names.Node.{Node}
-use Rattle.lock_table.specs.declared.links.Place.{Place}
+use Rattle.lock_table.specs.declared.places.Place.{Place}
 use Rattle.lock_table.specs.declared.links.Links.{Links}
 use Rattle.lock_table.specs.inner.Tables.{Turns, entry_at}
 use Rattle.lock_table.specs.inner.Links.{IsLinked, EmptyRows, EmptyCols, same_owner, resource_in, owner_in, place_at, row_at, col_at}
@@ -23,7 +23,7 @@ use Rattle.lock_table.proofs.Kept.{same_row, same_col, same_key, same_owner_in, 
 pub nothing_in : (node : Node) → Contains [] node → ⊥
 nothing_in node m = omega (arith, m.1)
 
-module _ (old new : Links) (linked : IsLinked old) (r : Resource) (row : Row) (at : row_at old r ≡ Some row) (empty : map.get old.pool.rows row ≡ Some []) (turns : Turns same_resource old.places.entries new.places.entries r None)
+module _ (old new : Links) (linked : IsLinked old) (r : Resource) (row : Row) (at : row_at old r ≡ Some row) (empty : map.get old.pool.rows row ≡ Some []) (turns : Turns same_resource old.places.table.entries new.places.table.entries r None)
     (pool : new.pool ≡ record old.pool { rows = map.remove old.pool.rows row }) (columns : new.columns.entries ≡ old.columns.entries) (held : new.held ≡ old.held) (rings : AreRings new.pool) where
   nodes_r : new.pool.nodes ≡ old.pool.nodes
   nodes_r = ap (λ p. p.nodes) pool
@@ -75,7 +75,7 @@ module _ (old new : Links) (linked : IsLinked old) (r : Resource) (row : Row) (a
   place_removed_cols = empty_cols old new nodes_r cols_r columns
 
 module _ (old new : Links) (linked : IsLinked old) (owner : OwnerNo) (col : Col) (at : col_at old owner ≡ Some col) (empty : map.get old.pool.cols col ≡ Some []) (turns : Turns same_owner old.columns.entries new.columns.entries owner None)
-    (pool : new.pool ≡ record old.pool { cols = map.remove old.pool.cols col }) (places : new.places.entries ≡ old.places.entries) (held : new.held ≡ old.held) (rings : AreRings new.pool) where
+    (pool : new.pool ≡ record old.pool { cols = map.remove old.pool.cols col }) (places : new.places.table.entries ≡ old.places.table.entries) (held : new.held ≡ old.held) (rings : AreRings new.pool) where
   nodes_c : new.pool.nodes ≡ old.pool.nodes
   nodes_c = ap (λ p. p.nodes) pool
 

@@ -11,7 +11,7 @@ use Rattle.link_pool.specs.declared.names.Col.{Col}
 use Rattle.link_pool.specs.declared.names.Node.{Node}
 use Rattle.link_pool.proofs.Maps.{get-here, get-there}
 use Rattle.lock_table.specs.declared.links.Lock.{Lock}
-use Rattle.lock_table.specs.declared.links.Place.{Place}
+use Rattle.lock_table.specs.declared.places.Place.{Place}
 use Rattle.lock_table.specs.declared.links.Links.{Links}
 use Rattle.lock_table.specs.inner.Links.{IsKeyed, IsLinked, EmptyRows, EmptyCols, same_owner, resource_in, owner_in, place_at, row_at, col_at}
 use Rattle.lock_table.specs.inner.Tables.{entry_at}

@@ -18,7 +18,7 @@ use Rattle.link_pool.specs.declared.names.Node.{Node}
 use Rattle.link_pool.specs.declared.names.Seat.{Seat}
 use Rattle.link_pool.proofs.RingChanges.{row_list-inserted, row_list-inserted_other, col_list-inserted, row_stays-inserted, col_stays-inserted, seat-inserted, seat-inserted_other}
 use Rattle.lock_table.specs.declared.links.Lock.{Lock}
-use Rattle.lock_table.specs.declared.links.Place.{Place}
+use Rattle.lock_table.specs.declared.places.Place.{Place}
 use Rattle.lock_table.specs.declared.links.Links.{Links}
 use Rattle.pss_machine.specs.declared.lock.Need.{Need}
 use Rattle.lock_table.specs.Locks.{Held}
@@ -38,7 +38,7 @@ node_cases a b = ⊎_elim (λ e. inl (ap node_named e)) (λ ne. inr (λ e. ne (a
 -- counts and then the node
 module _ (old mid new : Links) (linked : IsLinked old) (lock : Lock) (row : Row) (col : Col) (node : Node) (at_row : row_at old lock.resource ≡ Some row) (at_col : col_at old lock.owner ≡ Some col)
     (counts : Recounts old mid lock.resource (λ n. min (n + 1) (2 ^ 64 - 1))) (absent : has (held_in old.pool) lock.owner (need_of lock) ≡ false)
-    (fresh : map.get old.pool.nodes node ≡ None) (pool : new.pool ≡ inserted old.pool node (record { row = row; col = col; item = lock })) (places : new.places.entries ≡ mid.places.entries) (columns : new.columns.entries ≡ old.columns.entries)
+    (fresh : map.get old.pool.nodes node ≡ None) (pool : new.pool ≡ inserted old.pool node (record { row = row; col = col; item = lock })) (places : new.places.table.entries ≡ mid.places.table.entries) (columns : new.columns.entries ≡ old.columns.entries)
     (held : new.held ≡ old.held + 1) (rings : AreRings new.pool) (countable : IsCountable new.pool) where
   abbrev seat : Seat Lock
   seat = record { row = row; col = col; item = lock }

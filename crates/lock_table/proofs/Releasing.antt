@@ -16,7 +16,7 @@ use Rattle.link_pool.specs.Meaning.{col_in}
 use Rattle.link_pool.specs.declared.names.Col.{Col}
 use Rattle.link_pool.specs.declared.names.Node.{Node}
 use Rattle.lock_table.specs.declared.links.Lock.{Lock}
-use Rattle.lock_table.specs.declared.links.Place.{Place}
+use Rattle.lock_table.specs.declared.places.Place.{Place}
 use Rattle.lock_table.specs.declared.links.Links.{Links}
 use Rattle.lock_table.specs.Locks.{Held, held_by, with_locks, released}
 use Rattle.lock_table.specs.Standing.{need_of}

@@ -51,7 +51,7 @@ whole_ready links whole locks = record {
 }
 
 -- nothing is locked where no node is
-pub none_whole : (links : Links) → links.pool ≡ empty_pool → links.places.entries ≡ [] → links.columns.entries ≡ [] → links.held ≡ 0 → AreRings links.pool → (held_in links.pool ≡ map.empty) × IsWhole links
+pub none_whole : (links : Links) → links.pool ≡ empty_pool → links.places.table.entries ≡ [] → links.columns.entries ≡ [] → links.held ≡ 0 → AreRings links.pool → (held_in links.pool ≡ map.empty) × IsWhole links
 none_whole links pool places columns held rings = (
   ap held_in pool ∙ ap held_of (no_entries (map.entries (map.empty {R = node_cmp})) (sym (map.len-entries map.empty) ∙ map.len-empty node_cmp (Seat Lock))),
   record {

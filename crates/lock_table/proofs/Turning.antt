@@ -1,16 +1,21 @@
 -- Tables whose keys are compared by one test or by another that is the same.
-use Rattle.std.proofs.Common.{ℕ, ◌≡◌, List, [], ◌∷◌, Option, Some, IsSome, Bool, true, cond, refl, sym, ap, ◌∙◌, subst}
-use Rattle.std.specs.Map.{KeepsOthers}
-use Rattle.lock_table.proofs.Sames.{resource-true}
+use Rattle.std.proofs.Common.{ℕ, zero, suc, ◌≡◌, List, [], ◌∷◌, Option, Some, None, Result, Ok, Err, IsOk, OnOk, Bool, true, cond, slice_get, IfSome, refl, sym, ap, subst, ◌∙◌}
+use Rattle.std.specs.Cmp.{IsEquivalence, decided}
+use Rattle.std.specs.Option.{option_map, unwrap_or}
+use Rattle.std.specs.Map.{values_of, lookup_key}
+use Rattle.std.proofs.lemmas.Map.Made.{lookup_key_passes}
+use Rattle.indexmap.specs.IndexMap.{IndexMap, IsUnique, values, with_value_at}
+use Rattle.indexmap.proofs.CallerLemmas.{updates-with_value_at}
+use Rattle.lock_table.proofs.Sames.{resource-true, resource-self}
 use Rattle.pss_machine.specs.declared.lock.Resource.{Resource}
 use Rattle.pss_machine.specs.declared.lock.Resource.TheVariants as resource
 use Rattle.pss_machine.specs.Needs.{same_resource}
 use Rattle.pss_machine.specs.contracts.lock.ResourcePartialEq.TheImpl as derived
-use Rattle.lock_table.specs.inner.Tables.{Turns, entry_at}
-use Rattle.lock_table.specs.declared.links.Place.{Place}
+use Rattle.lock_table.specs.inner.Tables.{Turns, entry_at, key_at}
+use Rattle.lock_table.specs.declared.places.Place.{Place}
 use Rattle.lock_table.specs.declared.links.Links.{Links}
 use Rattle.lock_table.specs.inner.Links.{Recounts, place_at}
-use Rattle.lock_table.proofs.Keyed.{one_value}
+use Rattle.lock_table.proofs.Keyed.{no_value, one_value}
 
 pub derived_is : (a b : Resource) → derived.eq-value.it a b ≡ same_resource a b
 derived_is (resource.Object s) (resource.Object t) = refl
@@ -38,23 +43,52 @@ module _ {V : Type 0} (old new : List (Resource × V)) (key : Resource) (value :
   pub resource_turns : Turns derived.eq-value.it old new key value → Turns same_resource old new key value
   resource_turns = turns_same derived.eq-value.it same_resource derived_is old new key value
 
--- what a write leaves to other keys
-pub recount : {V : Type 0} (old new : List (Resource × V)) (key : Resource) (value : V) → entry_at derived.eq-value.it new key ≡ Some value → KeepsOthers derived.eq-value.it (derived.eq-value.it key) old new → Turns same_resource old new key (Some value)
-unfolding KeepsOthers
-recount old new key value here others =
-    resource_turns old new key (Some value) (record {
-      here = here;
-      others = λ q apart. others (derived.eq-value.it q) (λ x y at. ap (λ l. derived.eq-value.it l y) (equal q x at)) (λ k at. ap (derived.eq-value.it q) (sym (equal key k at)) ∙ apart);
-    })
-  where
-    equal : (a b : Resource) → derived.eq-value.it a b ≡ true → a ≡ b
-    equal a b e = resource-true a b (sym (derived_is a b) ∙ e)
+equal : (a b : Resource) → derived.eq-value.it a b ≡ true → a ≡ b
+equal a b e = resource-true a b (sym (derived_is a b) ∙ e)
 
-pub asked_same : {V : Type 0} (es : List (Resource × V)) (key : Resource) → IsSome (entry_at same_resource es key) → IsSome (entry_at derived.eq-value.it es key)
-asked_same es key there = subst IsSome (sym (entry_same derived.eq-value.it same_resource derived_is es key)) there
+resource_equiv : IsEquivalence derived.eq-value.it
+resource_equiv = decided derived.eq-value.it (λ a b. (equal a b, λ same. derived_is a b ∙ ap (same_resource a) (sym same) ∙ resource-self a))
+
+pub ok_gives : {A E P : Type 0} (r : Result A E) → IsOk r → OnOk r P → P
+ok_gives (Ok a) is p = p
+ok_gives (Err e) is p = cc
+
+module _ {V : Type 0} where
+  -- what an update makes of one key and leaves to the others
+  pub updated : (old new : List (Resource × V)) (key : Resource) (value : Option V) → ((q : Resource) → entry_at derived.eq-value.it new q ≡ cond (derived.eq-value.it key q) value (entry_at derived.eq-value.it old q)) → Turns same_resource old new key value
+  updated old new key value turns = resource_turns old new key value (record {
+    here = turns key ∙ ap (λ b. cond b value (entry_at derived.eq-value.it old key)) (resource_equiv.refl key);
+    others = λ q apart. turns q ∙ ap (λ b. cond b value (entry_at derived.eq-value.it old q)) (resource_equiv.symm key q ∙ apart);
+  })
+
+  -- the key that was found is the one that was looked for
+  pub found_key : (es : List (Resource × V)) (at : ℕ) (key there : Resource) (value : V) → Some there ≡ lookup_key (derived.eq-value.it key) es → slice_get es at ≡ Some (there, value) → key_at at es ≡ Some key
+  found_key es at key there value is stands = ap (option_map (λ e. e.0)) stands ∙ ap Some (sym (equal key there (lookup_key_passes (derived.eq-value.it key) es there (sym is))))
+
+  -- what stands at a place has its key
+  pub stands_there : (es : List (Resource × V)) (at : ℕ) (key : Resource) (value : V) → key_at at es ≡ Some key → slice_get (values_of es) at ≡ Some value → slice_get es at ≡ Some (key, value)
+  stands_there [] at key value is has = cc
+  stands_there (e ∷ es) zero key value is has = λ i. Some (unwrap_or (is i) key, unwrap_or (has i) value)
+  stands_there (e ∷ es) (suc at) key value is has = stands_there es at key value is has
+
+  -- a value that is written at its place
+  pub written_there : {S : Type 0} (m : IndexMap Resource V S) (at : ℕ) (key : Resource) (was value : V) → IsUnique derived.eq-value.it m → key_at at m.entries ≡ Some key → Some was ≡ slice_get (values m) at → Turns same_resource m.entries (with_value_at m at value).entries key (Some value)
+  written_there m at key was value unique is has = updated m.entries _ key (Some value) (updates-with_value_at m at value resource_equiv unique key was (stands_there m.entries at key was is (sym has))).0
+
+  -- an entry that is removed at its place
+  pub removed_there : (es new : List (Resource × V)) (at : ℕ) (key : Resource) (r : Option (Resource × V)) (P : Resource × V → Type 0) → ((p : Resource × V) → P p → (q : Resource) → entry_at derived.eq-value.it new q ≡ cond (derived.eq-value.it p.0 q) None (entry_at derived.eq-value.it es q))
+      → key_at at es ≡ Some key → r ≡ slice_get es at → IfSome r P → Turns same_resource es new key None
+  removed_there es new at key None P f is entry has = no_value key (ap (option_map (λ e. e.0)) entry ∙ is)
+  removed_there es new at key (Some p) P f is entry has = subst (λ k. Turns same_resource es new k None) (one_value (ap (option_map (λ e. e.0)) entry ∙ is)) (updated es new p.0 None (f p has))
+
+  -- where a key stands, there is a value
+  pub none_there : (es : List (Resource × V)) (at : ℕ) (key : Resource) → key_at at es ≡ Some key → None ≡ slice_get (values_of es) at → ⊥
+  none_there [] at key is none = cc
+  none_there (e ∷ es) zero key is none = cc
+  none_there (e ∷ es) (suc at) key is none = none_there es at key is none
 
 -- a place counts other locks
-module _ (old new : Links) (r : Resource) (locks : ℕ → ℕ) (place : Place) (was : place_at old r ≡ Some place) (turns : Turns same_resource old.places.entries new.places.entries r (Some (record place { locks = locks place.locks })))
+module _ (old new : Links) (r : Resource) (locks : ℕ → ℕ) (place : Place) (was : place_at old r ≡ Some place) (turns : Turns same_resource old.places.table.entries new.places.table.entries r (Some (record place { locks = locks place.locks })))
     (pool : new.pool ≡ old.pool) (columns : new.columns.entries ≡ old.columns.entries) (held : new.held ≡ old.held) where
   pub recounts : Recounts old new r locks
   recounts = record {
@@ -64,12 +98,3 @@ module _ (old new : Links) (r : Resource) (locks : ℕ → ℕ) (place : Place) 
     columns = columns;
     held = held;
   }
-
--- the same by what was seen and written
-pub recounted : (old new : Links) (r : Resource) (locks : ℕ → ℕ) (place : Place) (written : ℕ) → entry_at derived.eq-value.it old.places.entries r ≡ Some place → written ≡ locks place.locks
-    → entry_at derived.eq-value.it new.places.entries r ≡ Some (record { row = place.row; locks = written }) → KeepsOthers derived.eq-value.it (derived.eq-value.it r) old.places.entries new.places.entries
-    → new.pool ≡ old.pool → new.columns.entries ≡ old.columns.entries → new.held ≡ old.held → Recounts old new r locks
-recounted old new r locks place written seen is here others pool columns held =
-    recounts old new r locks place (sym (entry_same derived.eq-value.it same_resource derived_is old.places.entries r) ∙ seen)
-    (recount old.places.entries new.places.entries r (record place { locks = locks place.locks }) (here ∙ ap (λ n. Some (record { row = place.row; locks = n })) is) others)
-    pool columns held

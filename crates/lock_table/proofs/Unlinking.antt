@@ -15,7 +15,7 @@ use Rattle.link_pool.specs.declared.names.Node.{Node}
 use Rattle.link_pool.specs.declared.names.Seat.{Seat}
 use Rattle.link_pool.proofs.RingChanges.{TakesFirst, bare, row_stays-unlinked, col_stays-unlinked, seat-unlinked, seat-unlinked_other, row_length-unlinked}
 use Rattle.lock_table.specs.declared.links.Lock.{Lock}
-use Rattle.lock_table.specs.declared.links.Place.{Place}
+use Rattle.lock_table.specs.declared.places.Place.{Place}
 use Rattle.lock_table.specs.declared.links.Links.{Links}
 use Rattle.lock_table.specs.inner.Tables.{entry_at}
 use Rattle.lock_table.specs.inner.Links.{IsLinked, Recounts, Unlinks, same_owner, resource_in, owner_in, place_at, row_at, col_at}
@@ -177,7 +177,7 @@ module _ (old new : Links) (linked : IsLinked old) (node : Node) (seat : Seat Lo
       cols_now s e = ⊎_elim (λ (is : s ≡ seat.col). inr (col_same seat.item.owner ∙ seat_col old linked node seat at ∙ ap (λ x. Some x) (sym is))) (λ ne. inl (sym (col_other s ne) ∙ e)) (col_cases s seat.col)
 
 -- by the clauses of the calls: the first of a column is taken, and then its place counts one fewer
-module _ (old mid : Links) (linked : IsLinked old) (col : Col) (row : Row) (lock : Lock) (took : TakesFirst old.pool mid.pool old.pool.cols col (λ s. s.col) row_and_item (row, lock)) (mid_places : mid.places.entries ≡ old.places.entries)
+module _ (old mid : Links) (linked : IsLinked old) (col : Col) (row : Row) (lock : Lock) (took : TakesFirst old.pool mid.pool old.pool.cols col (λ s. s.col) row_and_item (row, lock)) (mid_places : mid.places.table.entries ≡ old.places.table.entries)
     (mid_columns : mid.columns.entries ≡ old.columns.entries) (mid_held : mid.held ≡ old.held) where
   lock_is : took.seat.item ≡ lock
   lock_is = ap (λ q. q.1) took.tells
@@ -195,7 +195,7 @@ module _ (old mid : Links) (linked : IsLinked old) (col : Col) (row : Row) (lock
     pub took_some : 1 ≤ counted.held
     took_some = omega (arith, counts.held, mid_held, linked.held, some_nodes old.pool took.node took.seat took.at)
 
-    module _ (places : new.places.entries ≡ counted.places.entries) (columns : new.columns.entries ≡ counted.columns.entries) (pool : new.pool ≡ counted.pool) (held : new.held ≡ counted.held - 1) (rings : AreRings mid.pool) where
+    module _ (places : new.places.table.entries ≡ counted.places.table.entries) (columns : new.columns.entries ≡ counted.columns.entries) (pool : new.pool ≡ counted.pool) (held : new.held ≡ counted.held - 1) (rings : AreRings mid.pool) where
       new_place : (q : Resource) → place_at new q ≡ place_at counted q
       new_place q = ap (λ es. entry_at same_resource es q) places
 

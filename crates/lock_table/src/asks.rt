@@ -5,8 +5,8 @@ ghost use Rattle.lock_table.specs.Locks.{held_by, blocker};
 ghost use Rattle.lock_table.specs.inner.Nodes.{held_in};
 ghost use Rattle.lock_table.specs.inner.Links.{IsLinked, IsAlone, place_at};
 
-use crate::links::{Links, Place};
-use crate::tables::find;
+use crate::links::Links;
+use crate::places::{self, Place};
 use crate::walks::{is_in_row, least_against, lesser};
 use pss_base::OwnerNo;
 use pss_machine::{Mode, Need, Resource};
@@ -15,7 +15,7 @@ use pss_machine::{Mode, Need, Resource};
 pub fn place_of(links: &Links, resource: &Resource) -> Option<Place>
     ensures { result ≡ place_at links.now resource.now }
 {
-    find(&links.places, resource)
+    places::find(&links.places, resource)
 }
 
 /// Whether an owner has locked a resource in a mode.

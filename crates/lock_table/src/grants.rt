@@ -11,7 +11,8 @@ ghost use Rattle.lock_table.specs.inner.Links.{IsLinked, IsReady, IsWhole, HaveR
 
 use crate::asks::{is_held, place_of};
 use crate::copies::{copy, lock_for};
-use crate::links::{Links, Lock, Place};
+use crate::links::{Links, Lock};
+use crate::places::{self, Place};
 use crate::rings::{drop_empty_column, drop_empty_place};
 use crate::tables;
 use link_pool::{Col, Row};
@@ -53,9 +54,9 @@ fn add_place(links: &mut Links, resource: Resource) -> Result<(), NoMemory>
     ensures ready { (locks : List Lock) → Contains (resources locks) resource → IsReady links.old locks → IsReady links.new locks }
     ensures ok { OnOk result (IsSome (place_at links.new resource)) }
 {
-    tables::reserve(&mut links.places)?;
+    places::reserve(&mut links.places)?;
     let row = links.pool.add_row()?;
-    tables::put(&mut links.places, resource, Place { row, locks: 0 });
+    places::put(&mut links.places, resource, Place { row, locks: 0 });
     Ok(())
 }
 
@@ -156,9 +157,13 @@ fn count_up(links: &mut Links, resource: &Resource) -> Row
     ensures row { row_at links.old resource.now ≡ Some result }
     ensures recounts { Recounts links.old links.new resource.now (λ n. min (n + 1) (2 ^ 64 - 1)) }
 {
-    match links.places.get_mut(resource) {
+    match place_of(links, resource) {
         Some(place) => {
-            place.locks = place.locks.saturating_add(1);
+            let counted = Place {
+                row: place.row,
+                locks: place.locks.saturating_add(1),
+            };
+            places::write(&mut links.places, resource, counted);
             place.row
         }
         None => unreachable!(),

@@ -1,7 +1,8 @@
 // Locks in rings, and the tables by which rings are found.
 
+use crate::places::Places;
 use crate::tables::Table;
-use link_pool::{Col, Pool, Row};
+use link_pool::{Col, Pool};
 use pss_base::OwnerNo;
 use pss_machine::{Mode, Resource};
 
@@ -13,18 +14,11 @@ pub struct Lock {
     pub mode: Mode,
 }
 
-/// Where the locks on a resource stand, and how many they are.
-#[derive(Clone, Copy, Drop)]
-pub struct Place {
-    pub row: Row,
-    pub locks: usize,
-}
-
 /// The locks, each in the row of its resource and in the column of its owner.
 #[derive(Drop)]
 pub struct Links {
     pub pool: Pool<Lock>,
-    pub places: Table<Resource, Place>,
+    pub places: Places,
     pub columns: Table<OwnerNo, Col>,
     /// How many locks there are.
     pub held: u64,

@@ -11,7 +11,7 @@ use crate::asks::blocker_of;
 use crate::grants::{drop_empty_rings, link_all, make_rings, missing_locks};
 use crate::links::{Links, Lock};
 use crate::releases::release;
-use crate::tables;
+use crate::{places, tables};
 use link_pool::Pool;
 use pss_base::{NoMemory, OwnerNo, Steps};
 use pss_machine::Needs;
@@ -52,7 +52,7 @@ fn no_links(alloc: Global) -> Links
 {
     Links {
         pool: Pool::new(alloc),
-        places: tables::empty(alloc),
+        places: places::none(alloc),
         columns: tables::empty(alloc),
         held: 0,
     }

@@ -6,7 +6,9 @@ ghost use Rattle.lock_table.specs.Locks.{held_by, released};
 ghost use Rattle.lock_table.specs.inner.Nodes.{held_in};
 ghost use Rattle.lock_table.specs.inner.Links.{IsLinked, IsWhole, IsReleasing, SameNodes, Recounts, Unlinks, place_at, col_at};
 
-use crate::links::{Links, Lock, Place};
+use crate::asks::place_of;
+use crate::links::{Links, Lock};
+use crate::places::{self, Place};
 use crate::rings::{drop_empty_row, remove_column};
 use crate::tables;
 use link_pool::Col;
@@ -20,10 +22,14 @@ fn count_down(links: &mut Links, resource: &Resource) -> Place
     ensures place { place_at links.new resource.now ≡ Some result }
     ensures recounts { Recounts links.old links.new resource.now (λ n. n - 1) }
 {
-    match links.places.get_mut(resource) {
+    match place_of(links, resource) {
         Some(place) => {
-            place.locks = place.locks.saturating_sub(1);
-            *place
+            let counted = Place {
+                row: place.row,
+                locks: place.locks.saturating_sub(1),
+            };
+            places::write(&mut links.places, resource, counted);
+            counted
         }
         None => unreachable!(),
     }

@@ -6,7 +6,8 @@ ghost use Rattle.pss_base.specs.declared.owner.OwnerNo.{OwnerNo};
 ghost use Rattle.lock_table.specs.inner.Links.{IsLinked, SameNodes, EmptyRows, EmptyCols, place_at, row_at, col_at};
 
 use crate::asks::place_of;
-use crate::links::{Links, Place};
+use crate::links::Links;
+use crate::places::{self, Place};
 use crate::tables;
 use link_pool::{Col, Row};
 use pss_base::OwnerNo;
@@ -23,7 +24,7 @@ fn remove_place(links: &mut Links, resource: &Resource, row: Row)
     ensures rows { (keys : List Resource) → EmptyRows links.old (resource.now ∷ keys) → EmptyRows links.new keys }
     ensures cols { (keys : List OwnerNo) → EmptyCols links.old keys → EmptyCols links.new keys }
 {
-    tables::remove(&mut links.places, resource);
+    places::remove(&mut links.places, resource);
     links.pool.remove_row(row);
 }
 

@@ -11,7 +11,7 @@ use Rattle.link_pool.specs.declared.names.Row.{Row}
 use Rattle.link_pool.specs.declared.names.Col.{Col}
 use Rattle.link_pool.specs.declared.names.Node.{Node}
 use Rattle.lock_table.specs.declared.links.Lock.{Lock}
-use Rattle.lock_table.specs.declared.links.Place.{Place}
+use Rattle.lock_table.specs.declared.places.Place.{Place}
 use Rattle.lock_table.specs.declared.links.Links.{Links}
 use Rattle.std.specs.FinSet as set
 use Rattle.lock_table.specs.Locks.{held_by}
@@ -43,7 +43,7 @@ owner_in p node = option_map (λ lock. lock.owner) (item_in p node)
 
 -- the place of a resource
 abbrev pub place_at : Links → Resource → Option Place
-place_at links r = entry_at same_resource links.places.entries r
+place_at links r = entry_at same_resource links.places.table.entries r
 
 -- the row of a resource
 abbrev pub row_at : Links → Resource → Option Row

@@ -1,0 +1,149 @@
+// Where the locks on each resource stand.
+ghost use Rattle.std.specs.Prelude.{◌≡◌, ◌<◌, [], Some, None, true, IfNone, IfSome, IsSome, OnOk, OnErr};
+ghost use Rattle.indexmap.specs.IndexMap.{spare};
+ghost use Rattle.pss_machine.specs.Needs.{same_resource};
+ghost use Rattle.pss_machine.specs.declared.lock.Resource.{Resource};
+ghost use Rattle.lock_table.specs.inner.Tables.{Turns, entry_at, key_at};
+
+use crate::tables::{self, Table};
+use link_pool::Row;
+use pss_base::NoMemory;
+use pss_machine::Resource;
+use std::alloc::Global;
+use std::cell::Cell;
+
+/// Where the locks on a resource stand, and how many they are.
+#[derive(Clone, Copy, Drop)]
+pub struct Place {
+    pub row: Row,
+    pub locks: usize,
+}
+
+/// The place of each resource that is locked, by hash.
+#[derive(Drop)]
+pub struct Places {
+    pub table: Table<Resource, Place>,
+    // Where in the table a resource was found last. It and the one before it are looked at first: what is locked in one order is
+    // linked and released in the other. It may be any number.
+    last: Cell<usize>,
+}
+
+/// No places. It takes no memory.
+pub fn none(alloc: Global) -> Places
+    ensures { result.table.entries ≡ [] }
+{
+    Places {
+        table: tables::empty(alloc),
+        last: Cell::new(0),
+    }
+}
+
+/// The place of a resource, where it has one.
+pub fn find(places: &Places, resource: &Resource) -> Option<Place>
+    ensures { result ≡ entry_at same_resource places.now.table.entries resource.now }
+{
+    let at = index_of(places, resource)?;
+    match places.table.get_index(at) {
+        Some((_, place)) => Some(*place),
+        None => None,
+    }
+}
+
+/// Makes room for one more place. Without memory the places are as before.
+pub fn reserve(places: &mut Places) -> Result<(), NoMemory>
+    ensures entries { places.new.table.entries ≡ places.old.table.entries }
+    ensures ok { OnOk result (0 < spare places.new.table) }
+{
+    tables::reserve(&mut places.table)
+}
+
+/// Sets the place of a resource, for which there is room. It takes no memory.
+pub fn put(places: &mut Places, resource: Resource, place: Place)
+    requires { 0 < spare places.old.table }
+    ensures { Turns same_resource places.old.table.entries places.new.table.entries resource (Some place) }
+{
+    match places.table.insert_full(resource, place) {
+        Ok((at, _)) => places.last.set(at),
+        Err(_) => unreachable!(),
+    }
+}
+
+/// Sets the place of a resource that has one.
+pub fn write(places: &mut Places, resource: &Resource, place: Place)
+    requires { IsSome (entry_at same_resource places.old.table.entries resource.now) }
+    ensures { Turns same_resource places.old.table.entries places.new.table.entries resource.now (Some place) }
+{
+    if let Some(at) = index_of(places, resource) {
+        write_at(&mut places.table, at, place);
+    }
+}
+
+/// Takes the place of a resource away, where it has one.
+pub fn remove(places: &mut Places, resource: &Resource)
+    ensures { Turns same_resource places.old.table.entries places.new.table.entries resource.now None }
+{
+    if let Some(at) = index_of(places, resource) {
+        let _ = places.table.swap_remove_index(at);
+    }
+}
+
+// Where in the table a resource stands, where it has a place.
+fn index_of(places: &Places, resource: &Resource) -> Option<usize>
+    ensures at { IfSome result (λ at. key_at at places.now.table.entries ≡ Some resource.now) }
+    ensures none { IfNone result (entry_at same_resource places.now.table.entries resource.now ≡ None) }
+{
+    match near(&places.table, places.last.get(), resource) {
+        Some(at) => {
+            places.last.set(at);
+            Some(at)
+        }
+        None => look_up(places, resource),
+    }
+}
+
+// Where a resource stands, where that is where the last one was found, or before it. It is not hashed.
+fn near(table: &Table<Resource, Place>, last: usize, resource: &Resource) -> Option<usize>
+    ensures { IfSome result (λ at. key_at at table.now.entries ≡ Some resource.now) }
+{
+    if stands_at(table, last, resource) {
+        return Some(last);
+    }
+    let before = last.wrapping_sub(1);
+    if stands_at(table, before, resource) {
+        return Some(before);
+    }
+    None
+}
+
+// Whether a resource stands there.
+fn stands_at(table: &Table<Resource, Place>, at: usize, resource: &Resource) -> bool
+    ensures { result ≡ true → key_at at table.now.entries ≡ Some resource.now }
+{
+    match table.get_index(at) {
+        Some((there, _)) => there == resource,
+        None => false,
+    }
+}
+
+// Where a resource stands by its hash. The next one is looked for near it.
+fn look_up(places: &Places, resource: &Resource) -> Option<usize>
+    ensures at { IfSome result (λ at. key_at at places.now.table.entries ≡ Some resource.now) }
+    ensures none { IfNone result (entry_at same_resource places.now.table.entries resource.now ≡ None) }
+{
+    match places.table.get_full(resource) {
+        Some((at, _, _)) => {
+            places.last.set(at);
+            Some(at)
+        }
+        None => None,
+    }
+}
+
+// Writes a place where a resource stands.
+fn write_at(table: &mut Table<Resource, Place>, at: usize, place: Place)
+    ensures { (resource : Resource) → key_at at table.old.entries ≡ Some resource → Turns same_resource table.old.entries table.new.entries resource (Some place) }
+{
+    if let Some(there) = table.get_index_mut(at) {
+        *there = place;
+    }
+}

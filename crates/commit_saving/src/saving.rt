@@ -12,26 +12,11 @@ ghost use Rattle.pss_recovery.specs.Silence.{IsSilent};
 ghost use Rattle.pss_recovery.specs.Stands.{Stands};
 ghost use Rattle.commit_saving.specs.Saving.{IfTold, Leaves, MaySave, body_for, saved_next};
 
-use pss_base::{Bytes, NoMemory, Put, Puts, StoreStop};
+use pss_base::{NoMemory, Puts, StoreStop};
 use pss_disk::Station;
-use pss_recovery::{Body, Store};
+use pss_recovery::{Body, Store, copy_put};
 use std::alloc::Global;
 use storage_home::Change;
-
-// What a change leaves in the store, as a copy.
-fn copy_of(put: &Put) -> Result<Put, NoMemory>
-    ensures { IfOk result (λ copy. copy ≡ put.now) }
-{
-    let bytes = match &put.bytes {
-        Some(bytes) => Some(bytes.copy()?),
-        None => None,
-    };
-    Ok(Put {
-        home: put.home,
-        serial: put.serial,
-        bytes,
-    })
-}
 
 // The changes as a body of the journal.
 fn body_of(alloc: Global, changes: &[Change], next: u64) -> Result<Body, NoMemory>
@@ -40,7 +25,7 @@ fn body_of(alloc: Global, changes: &[Change], next: u64) -> Result<Body, NoMemor
     let mut puts = Puts::new(alloc);
     puts.reserve(changes.len())?;
     for change in changes {
-        puts.push(copy_of(&change.put)?)?;
+        puts.push(copy_put(&change.put)?)?;
     }
     Ok(Body { next, puts })
 }

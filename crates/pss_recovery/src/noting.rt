@@ -7,8 +7,8 @@ use page_store::Pages;
 use pss_base::{NoMemory, Put, Puts};
 use std::alloc::Global;
 
-// A copy of a change.
-fn copy_put(put: &Put) -> Result<Put, NoMemory>
+/// A copy of a change.
+pub fn copy_put(put: &Put) -> Result<Put, NoMemory>
     ensures { IfOk result (λ copy. copy ≡ put.now) }
 {
     let bytes = match &put.bytes {

@@ -74,7 +74,7 @@ by_type names Octet e = refl
 by_type names (Str bound) e = refl
 by_type names (Seq item bound) e = refl
 by_type names (Arr item count) e = refl
-by_type names (Struct fields) e = refl
+by_type names (Struct parts) e = refl
 by_type names (Enum enumerators) e = refl
 by_type names (RefTo homes) e = refl
 

@@ -1,16 +1,15 @@
 // What a part of an expression comes to by its operands.
-ghost use Rattle.std.specs.Prelude.{◌≡◌, ◌≤◌, ℤ, false, is_some, is_none, map, IfSome};
+ghost use Rattle.std.specs.Prelude.{◌≡◌, ◌≤◌, ℤ, is_some, is_none, IfSome};
 ghost use Rattle.std.specs.Option.{option_and_then};
 ghost use Rattle.psdl_tree.specs.declared.expressions.UnaryOperator.TheVariants as signs;
-ghost use Rattle.type_layout.specs.Schemas.{given};
 ghost use Rattle.psdl_standings.specs.Values as values;
 ghost use Rattle.psdl_standings.specs.Values.{ranged};
-ghost use Rattle.psdl_directory.specs.declared.fault.CheckKind.TheVariants.{ConstZero};
-ghost use Rattle.psdl_directory.specs.Fault.{fault, least, lesser as lesser_of};
+ghost use Rattle.psdl_directory.specs.Fault.{lesser as lesser_of};
 ghost use Rattle.psdl_standings.specs.inner.Assessments.{seen, operated_on, signed_on};
 
+use crate::const_zero::{is_division, zero_divisor};
 use crate::operator::{Operator, made_by, shift_of};
-use psdl_directory::{CheckFault, CheckKind, Least};
+use psdl_directory::{CheckFault, Least};
 use psdl_tree::{UnaryOperator, UnarySign};
 use pss_base::Place;
 
@@ -51,25 +50,6 @@ fn is_shift(operator: Operator) -> bool
         Operator::ShiftLeft => true,
         Operator::ShiftRight => true,
         _ => false,
-    }
-}
-
-fn is_division(operator: Operator) -> bool
-    ensures { result ≡ values.is_division operator }
-{
-    match operator {
-        Operator::Quotient => true,
-        Operator::Remainder => true,
-        _ => false,
-    }
-}
-
-fn is_zero(number: Option<i128>) -> bool
-    ensures { result ≡ given number false values.is_zero }
-{
-    match number {
-        Some(n) => n == 0,
-        None => false,
     }
 }
 
@@ -121,19 +101,6 @@ fn lesser(first: Option<CheckFault>, second: Option<CheckFault>) -> Option<Check
         }
         (Some(one), None) => Some(one),
         (None, other) => other,
-    }
-}
-
-fn zero_divisor(operator: Operator, place: Place, divisor: Option<i128>) -> Option<CheckFault>
-    ensures { result ≡ least (map (fault ConstZero) (values.zero_divisor operator place divisor)) }
-{
-    if is_division(operator) && is_zero(divisor) {
-        Some(CheckFault {
-            place,
-            kind: CheckKind::ConstZero,
-        })
-    } else {
-        None
     }
 }
 

@@ -14,6 +14,7 @@ ghost use Rattle.psdl_standings.specs.inner.Walks.{bounded};
 use crate::assess::assess;
 use crate::assessment::Assessment;
 use crate::body_faults::BodyFaults;
+use crate::const_range::is_out;
 use crate::places::expression_place;
 use crate::range::Range;
 use crate::sight::Sight;
@@ -21,16 +22,6 @@ use psdl_directory::{CheckKind, Least};
 use psdl_tree::Expression;
 use pss_base::{NoMemory, Place};
 use std::alloc::Global;
-
-// A part leaves the range of all numbers, or the whole its own.
-fn is_out(range: Range, assessed: Assessment) -> bool
-    ensures { result ≡ (assessed.leaves || given assessed.value false (λ z. not (is_within range.least range.most z))) }
-{
-    match assessed.value {
-        Some(number) => assessed.leaves || !range.has(number),
-        None => assessed.leaves,
-    }
-}
 
 /// Notes an expression that leaves its range, and the first of its divisions by 0.
 pub(crate) fn note_value(values: &mut Least, range: Range, place: Place, assessed: Assessment)

@@ -1,13 +1,9 @@
 // Constants in the walk of bodies.
-ghost use Rattle.std.specs.Prelude.{◌≡◌, length};
-ghost use Rattle.type_layout.specs.Values.{is_over};
-ghost use Rattle.psdl_directory.specs.declared.fault.CheckKind.TheVariants.{ConstRange};
-ghost use Rattle.psdl_directory.specs.Fault.{fault_if};
-ghost use Rattle.psdl_directory.specs.Noting.{noting};
 
 use crate::assess::assess;
 use crate::assessment::Assessment;
 use crate::bound::note_value;
+use crate::const_range::note_long;
 use crate::need::Need;
 use crate::places::expression_place;
 use crate::range::Range;
@@ -17,18 +13,9 @@ use crate::told::{Told, TypeNo, told_at};
 use crate::types::{Class, Node};
 use crate::walk::Walk;
 use crate::whole::whole_text;
-use psdl_directory::{CheckFault, CheckKind, Least};
-use psdl_tree::{Constant, ConstantType, Expression, Name, TextLiteral};
+use psdl_directory::{CheckFault, CheckKind};
+use psdl_tree::{Constant, ConstantType, Expression, Name};
 use pss_base::NoMemory;
-
-// Notes a string constant that is longer than its type's bound, where 0 is none.
-fn note_long(values: &mut Least, bound: u128, text: &TextLiteral)
-    ensures { values.new ≡ noting values.old (fault_if (is_over bound (length text.now.bytes)) ConstRange text.now.place) }
-{
-    let length = text.bytes.as_slice().len();
-    let over = bound != 0 && bound < length as u128;
-    values.note_if(over, CheckKind::ConstRange, text.place);
-}
 
 impl<'b, 'a> Walk<'b, 'a> {
     ghost use Rattle.std.specs.Prelude.{◌≡◌, ◌<◌, ◌≤◌, ◌∷◌, [], true, length, IfOk, OnOk, IfSome};

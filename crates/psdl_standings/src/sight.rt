@@ -9,7 +9,9 @@ ghost use Rattle.psdl_standings.specs.inner.Sights.{scene_of, unknown_by, value_
 
 use crate::body_faults::BodyFaults;
 use crate::told::{Told, told_at};
-use psdl_directory::{CheckFault, CheckKind, DeclarationNo, Directory, Least, Use, resolve};
+use crate::unknown::note_unknown;
+use crate::wrong_case::note_wrong_case;
+use psdl_directory::{CheckKind, DeclarationNo, Directory, Least, Use, resolve};
 use psdl_tree::Name;
 use pss_base::NoMemory;
 use std::alloc::Global;
@@ -25,20 +27,13 @@ pub(crate) struct Sight<'b, 'a> {
 }
 
 /// Notes a name that means nothing.
-pub(crate) fn note_unknown(names: &mut Least, used: &Use)
+pub(crate) fn note_meaningless(names: &mut Least, used: &Use)
     ensures { names.new ≡ noting names.old (fault (unknown_by used.now.wrong_case) used.now.place ∷ []) }
 {
-    let place = used.place;
     if used.wrong_case {
-        names.note(CheckFault {
-            place,
-            kind: CheckKind::WrongCase,
-        });
+        note_wrong_case(names, used.place);
     } else {
-        names.note(CheckFault {
-            place,
-            kind: CheckKind::Unknown,
-        });
+        note_unknown(names, used.place);
     }
 }
 
@@ -70,7 +65,7 @@ fn value_used(told: &[Told], names: &mut Least, used: &Use) -> Option<i128>
             told.value()
         }
         None => {
-            note_unknown(names, used);
+            note_meaningless(names, used);
             None
         }
     }

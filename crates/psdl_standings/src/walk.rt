@@ -6,12 +6,11 @@ ghost use Rattle.std.specs.Prelude.{◌≡◌, length};
 use crate::body_faults::BodyFaults;
 use crate::bound::bound_of;
 use crate::need::Need;
-use crate::sight::{Sight, note_own, note_unknown};
-use crate::sorts::{is_storage_type, is_type};
+use crate::sight::{Sight, note_meaningless, note_own};
 use crate::spot::Spot;
 use crate::told::{Told, told_at};
 use crate::types::{Node, Types};
-use psdl_directory::{CheckKind, DeclarationNo, Directory, Use, What, resolve};
+use psdl_directory::{CheckKind, DeclarationNo, Directory, Use, resolve};
 use psdl_tree::{Expression, Name, PlainType as PlainSpec, TypeSpec};
 use pss_base::NoMemory;
 use std::alloc::Global;
@@ -47,32 +46,14 @@ impl<'b, 'a> Walk<'b, 'a> {
     ghost use Rattle.std.specs.Prelude.{◌≡◌, ◌<◌, ◌∷◌, [], map, option_map, IfOk, IfSome};
     ghost use Rattle.std.specs.Option.{option_and_then, option_to_list};
     ghost use Rattle.psdl_tree.specs.Views.{name_view, expression_view, plain_type_view, type_spec_view};
-    ghost use Rattle.psdl_directory.specs.Lookup.{as_is, at, meaning};
-    ghost use Rattle.psdl_standings.specs.Standings.{type_of, standing, size_by, plain_by, spec_by, arrays_by};
+    ghost use Rattle.psdl_directory.specs.Lookup.{as_is, meaning};
+    ghost use Rattle.psdl_standings.specs.Standings.{type_of, size_by, plain_by, spec_by, arrays_by};
     ghost use Rattle.psdl_standings.specs.declared.need.Need.TheVariants as needs;
     ghost use Rattle.psdl_standings.specs.declared.spot.Spot.{Spot};
     ghost use Rattle.psdl_standings.specs.Uses as of;
     ghost use Rattle.psdl_standings.specs.inner.TypeNumbers.{bound_by, arrays_of};
     ghost use Rattle.psdl_standings.specs.inner.TypeTables.{entry_type};
-    ghost use Rattle.psdl_standings.specs.inner.Walked.{text_in, done_in, path_in, names_in, with_names, definition_in, use_faults, Goes, AddsType, Finds, Adds};
-
-    // A declaration is what a place needs.
-    fn meets(&self, need: Need, meant: DeclarationNo) -> bool
-        ensures { result ≡ of.meets need (at (text_in self.now) meant).what (standing (done_in self.now) meant) }
-    {
-        let what = self.directory.what(meant);
-        let told = told_at(&self.told, meant.index());
-        match need {
-            Need::OfType => is_type(what),
-            Need::OfConstantType => self.types.may_be_constant(told),
-            Need::OfNumber => told.is_number(),
-            Need::OfStorageType => is_storage_type(what),
-            Need::OfAbstractType => matches!(what, What::AbstractType(_)),
-            Need::OfConcreteType => matches!(what, What::ConcreteType(_)),
-            Need::OfAbstractHome => matches!(what, What::AbstractHome(_)),
-            Need::OfConcreteHome => matches!(what, What::ConcreteHome(_)),
-        }
-    }
+    ghost use Rattle.psdl_standings.specs.inner.Walked.{text_in, path_in, names_in, with_names, definition_in, use_faults, Goes, AddsType, Finds, Adds};
 
     /// Notes what is wrong with a name that was resolved.
     pub(crate) fn note_use(&mut self, need: Need, used: &Use)
@@ -86,7 +67,7 @@ impl<'b, 'a> Walk<'b, 'a> {
                     .names
                     .note_if(!fits, CheckKind::WrongKind, used.place);
             }
-            None => note_unknown(&mut self.faults.names, used),
+            None => note_meaningless(&mut self.faults.names, used),
         }
     }
 

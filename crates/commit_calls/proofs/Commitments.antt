@@ -4,6 +4,7 @@ use Rattle.std.specs.Prelude.{not, nat_lt, Result, Ok, Err, IfErr}
 use Rattle.std.specs.FinMap.{get}
 use Rattle.std.specs.List.{AllByRecursion}
 use Rattle.std.proofs.lemmas.Bool.{lt-ltb}
+use Rattle.pss_base.specs.Causes.{HasCauseIf}
 use Rattle.pss_base.specs.declared.owner.OwnerNo.{OwnerNo}
 use Rattle.pss_disk.specs.Moments.{Moment, Through}
 use Rattle.pss_disk.proofs.Passing.{none_came}
@@ -22,7 +23,8 @@ use Rattle.pss_machine.specs.declared.limits.Limits.{Limits}
 use Rattle.pss_machine.specs.Owners.{Owner, net}
 use Rattle.pss_machine.specs.Kept.{Kept}
 use Rattle.pss_machine.specs.Deciding.{is_over_full, unless_full}
-use Rattle.pss_machine.specs.Effects.{Effect, Stays, Commits, Flushes, RollsBack, Decision}
+use Rattle.pss_machine.specs.declared.reply.Reply.TheVariants as reply
+use Rattle.pss_machine.specs.Effects.{Effect, Stays, Commits, Flushes, RollsBack, Decision, says}
 use Rattle.pss_machine.specs.Moving.{moved, with_commit, title_of}
 use Rattle.pss_machine.proofs.Logic.{same_some, true_false}
 use Rattle.pss_laws.specs.Storable.{NothingOrStorable}
@@ -34,8 +36,8 @@ use Rattle.connector_parts.specs.declared.parts.Parts.{Parts}
 use Rattle.connector_parts.specs.Stands.{StayAs}
 use Rattle.commit_calls.specs.declared.ready.Ready.{Ready}
 use Rattle.commit_calls.specs.Ready.{IsReady, MayMakeReady}
-use Rattle.commit_calls.specs.Storing.{StoresNet}
-use Rattle.commit_calls.proofs.Outcomes.{unless_is}
+use Rattle.commit_calls.specs.Storing.{StoresNet, Made, Came}
+use Rattle.commit_calls.proofs.Outcomes.{is_not, unless_is}
 use Rattle.commit_saving.specs.Saving.{IfTold, Leaves, MaySave, changed_by, put_of, saved_by, saved_next}
 use Rattle.commit_saving.proofs.Savings.{leaves_net, right_all, same_length}
 use Rattle.commit_saving.proofs.Stored.{some_under}
@@ -169,43 +171,33 @@ module _ (c d : Parts) (n : OwnerNo) (m : MayMakeReady c n) (ready : Ready) (is 
 
 -- ---- as the calls tell it
 
--- what storing tells of the content, where these changes are stored with this next serial
-abbrev Made : (before after : Store) → (old new : Option (List ℕ)) → ℕ → List Change → Type 0
-Made before after old new next cs =
-    (S : Schema) (M N : Catalog) (saved : ℕ) → Leaves S M saved next cs N → IfSome old (λ octets. IsMounted S M saved before octets → IfTold new (IsMounted S N (saved_next saved next cs) after))
-
--- and of the moments that came
-abbrev Came : Store → Option (List ℕ) → (x y : List Moment) → ℕ → List Change → Type 0
-Came before old x y next cs =
-    (S : Schema) (M N : Catalog) (saved : ℕ) → Leaves S M saved next cs N → IfSome old (λ octets. IsMounted S M saved before octets → Through x y (AllHave (StandsEither S M saved N (saved_next saved next cs))))
-
-module _ (c d : Parts) (n : OwnerNo) (m : MayMakeReady c n) (ready : Ready) (is : IsReady d m.kept n ready) (stay : StayAs c d) (next : ℕ) (cs : List Change) (next_is : next ≡ m.kept.next) (cs_is : cs ≡ ready.commit.changes) (store : Store) (behind : store.next ≤ c.accounts.next) where
+module _ (c d : Parts) (n : OwnerNo) (m : MayMakeReady c n) (ready : Ready) (is : IsReady d m.kept n ready) (stay : StayAs c d) (next : ℕ) (next_is : next ≡ m.kept.next) (store : Store) (behind : store.next ≤ c.accounts.next) where
   below : store.next ≤ m.kept.next
   below = omega (arith, behind, m.at.stands.accounts.next)
 
-  as_ready : (P : ℕ → List Change → Type 0) → P next cs → P m.kept.next ready.commit.changes
-  as_ready P is = subst (P m.kept.next) cs_is (subst (λ (x : ℕ). P x cs) next_is is)
+  as_ready : (P : ℕ → List Change → Type 0) → P next ready.commit.changes → P m.kept.next ready.commit.changes
+  as_ready P = subst (λ (x : ℕ). P x ready.commit.changes) next_is
 
-  pub may_save_as : MaySave store next cs
-  may_save_as = subst (λ (x : ℕ). MaySave store x cs) (sym next_is) (subst (MaySave store m.kept.next) (sym cs_is) (may_save c d n m ready is stay store below))
+  pub may_save_as : MaySave store next ready.commit.changes
+  may_save_as = subst (λ (x : ℕ). MaySave store x ready.commit.changes) (sym next_is) (may_save c d n m ready is stay store below)
 
   module _ (room : true ≡ not (is_over_full c.schema c.limits m.kept.catalog m.owner)) (e : Effect) (net_is : StoresNet m.kept m.owner e) where
     effect_is : (unless_full c.schema c.limits m.kept n e).effect ≡ e
     effect_is = ap (λ (x : Decision). x.effect) (unless_is c.schema c.limits m.kept n m.owner e false m.there (not_true (is_over_full c.schema c.limits m.kept.catalog m.owner) room))
 
-    pub becomes_as : (after : Store) (old new : Option (List ℕ)) → Made store after old new next cs → (saved : ℕ)
+    pub becomes_as : (after : Store) (old new : Option (List ℕ)) → Made store after old new next ready.commit.changes → (saved : ℕ)
         → IfSome old (λ octets. IsMounted c.schema m.kept.catalog saved store octets → IfTold new (IsMounted c.schema (moved m.kept (unless_full c.schema c.limits m.kept n e).effect).catalog (saved_by m.kept saved (unless_full c.schema c.limits m.kept n e).effect) after))
     becomes_as after old new made saved =
         subst (λ (f : Effect). IfSome old (λ octets. IsMounted c.schema m.kept.catalog saved store octets → IfTold new (IsMounted c.schema (moved m.kept f).catalog (saved_by m.kept saved f) after))) (sym effect_is)
         (becomes c d n m ready is stay room e net_is store below after old new (as_ready (Made store after old new) made c.schema) saved)
 
-    pub passes_as : (old : Option (List ℕ)) (x y : List Moment) → Came store old x y next cs → (saved : ℕ)
+    pub passes_as : (old : Option (List ℕ)) (x y : List Moment) → Came store old x y next ready.commit.changes → (saved : ℕ)
         → IfSome old (λ octets. IsMounted c.schema m.kept.catalog saved store octets → Through x y (AllHave (StandsEither c.schema m.kept.catalog saved (moved m.kept (unless_full c.schema c.limits m.kept n e).effect).catalog (saved_by m.kept saved (unless_full c.schema c.limits m.kept n e).effect))))
     passes_as old x y came saved =
         subst (λ (f : Effect). IfSome old (λ octets. IsMounted c.schema m.kept.catalog saved store octets → Through x y (AllHave (StandsEither c.schema m.kept.catalog saved (moved m.kept f).catalog (saved_by m.kept saved f))))) (sym effect_is)
         (passes c d n m ready is stay room e net_is store below old x y (as_ready (Came store old x y) came c.schema) saved)
 
-    pub next_as : (last : ℕ) → last ≡ saved_next store.next next cs → last ≡ saved_by m.kept store.next (unless_full c.schema c.limits m.kept n e).effect
+    pub next_as : (last : ℕ) → last ≡ saved_next store.next next ready.commit.changes → last ≡ saved_by m.kept store.next (unless_full c.schema c.limits m.kept n e).effect
     next_as last is_next =
         as_ready (λ x l. last ≡ saved_next store.next x l) is_next ∙ saved_is c d n m ready is stay room e net_is store below store.next ∙ ap (saved_by m.kept store.next) (sym effect_is)
 
@@ -236,7 +228,21 @@ rolls_nothing k n = record { catalog = refl; saved = λ saved. refl }
 pub nothing_as : (k : Kept) (x y : Decision) → x ≡ y → StoresNothing k y.effect → StoresNothing k x.effect
 nothing_as k x y same = subst (λ (d : Decision). StoresNothing k d.effect) (sym same)
 
+-- where the objects would weigh too much, nothing is stored
+pub full_nothing : (S : Schema) (limits : Limits) (k : Kept) (n : OwnerNo) (owner : Owner) (e : Effect) → get k.owners n.0 ≡ Some owner → false ≡ not (is_over_full S limits k.catalog owner) → StoresNothing k (unless_full S limits k n e).effect
+full_nothing S limits k n owner e there over =
+    nothing_as k (unless_full S limits k n e) (says reply.Full) (unless_is S limits k n owner e true there (is_not false (is_over_full S limits k.catalog owner) true over refl)) (stays_nothing k)
+
 -- ---- results
+
+-- no moment came
+pub nothing_came : (o : Option (List ℕ)) (A : List ℕ → Type 0) (P : Moment → Type 0) (x : List Moment) → IfSome o (λ octets. A octets → Through x x P)
+nothing_came None A P x = tt
+nothing_came (Some c) A P x = λ a. none_came x P
+
+-- no fault, and no cause
+pub no_cause : (n : ℕ) → HasCauseIf n n false
+no_cause n = record { later = omega arith; rose = λ is. absurd (true_false is refl); kept = λ is. refl }
 
 pub if_err : {T E : Type 0} (P Q : E → Type 0) (r : Result T E) → ((e : E) → P e → Q e) → IfErr r P → IfErr r Q
 if_err P Q (Ok t) f is = tt

@@ -40,7 +40,7 @@ unless_is S limits k n owner e b there is =
     ap (λ (o : Option Owner). given o (says reply.Done) (λ owner. if is_over_full S limits k.catalog owner then says reply.Full else does e reply.Done)) there
     ∙ ap (λ (b : Bool). if b then says reply.Full else does e reply.Done) is
 
-is_not : (a b c : Bool) → a ≡ not b → a ≡ not c → b ≡ c
+pub is_not : (a b c : Bool) → a ≡ not b → a ≡ not c → b ≡ c
 is_not true true true p q = refl
 is_not true false false p q = refl
 is_not true false true p q = absurd (true_false p q)

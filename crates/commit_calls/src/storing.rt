@@ -3,6 +3,7 @@ ghost use Rattle.std.specs.Prelude.{◌≡◌, not, is_some, IfErr, IfOk, IfSome
 ghost use Rattle.pss_base.specs.Causes.{HasCauseIf};
 ghost use Rattle.pss_base.specs.declared.stop.StoreStop.TheVariants as stop;
 ghost use Rattle.pss_disk.specs.Moments.{IsSettled};
+ghost use Rattle.type_layout.specs.declared.schema.Schema.{Schema};
 ghost use Rattle.page_format.specs.Faults.{is_disk_stop};
 ghost use Rattle.pss_machine.specs.Kept.{Kept};
 ghost use Rattle.pss_machine.specs.Deciding.{is_over_full, unless_full};
@@ -11,8 +12,8 @@ ghost use Rattle.pss_recovery.specs.Silence.{IsSilent};
 ghost use Rattle.connector_parts.specs.Stands.{Stands, IsAt, StayAs};
 ghost use Rattle.commit_calls.specs.Ready.{MayMakeReady, IsReady};
 ghost use Rattle.commit_calls.specs.Commits.{IsBehind};
-ghost use Rattle.commit_calls.specs.Storing.{StoresNet};
-ghost use Rattle.commit_saving.specs.Saving.{BecomesSaved, IsSavedThroughout, StaysSaved, saved_by};
+ghost use Rattle.commit_calls.specs.Storing.{StoresNet, Made, Came};
+ghost use Rattle.commit_saving.specs.Saving.{MaySave, BecomesSaved, IsSavedThroughout, StaysSaved, saved_by, saved_next};
 
 use crate::ready::{Ready, make_ready};
 use commit_saving::save;
@@ -20,6 +21,34 @@ use connector_parts::Parts;
 use pss_base::{OwnerNo, StoreStop};
 use pss_disk::Station;
 use pss_recovery::Store;
+use std::alloc::Global;
+
+// Stores what was made ready, with this next serial.
+fn store_ready<W: Station>(
+    alloc: Global,
+    store: &mut Store,
+    station: &mut W,
+    ready: &Ready,
+    next: u64,
+) -> Result<(), StoreStop>
+    requires may { MaySave store.old next ready.now.commit.changes }
+    requires settled { IsSettled (W.content station.old) (W.now station.old) }
+    ensures saved { OnOk result (Made store.old store.new (W.content station.old) (W.content station.new) next ready.now.commit.changes) }
+    ensures images { Came store.old (W.content station.old) (W.history station.old) (W.history station.new) next ready.now.commit.changes }
+    ensures memory { IfErr result (λ why. why ≡ stop.NoMemory → (S : Schema) (k : Kept) → StaysSaved W.content W.history S k store.old station.old station.new) }
+    ensures next { OnOk result (store.new.next ≡ saved_next store.old.next next ready.now.commit.changes) }
+    ensures settled { OnOk result (IsSettled (W.content station.new) (W.now station.new)) }
+    ensures silent { IsSilent W.now W.history W.speak_faults station.old station.new }
+    ensures cause { HasCauseIf (W.disk_faults station.old) (W.disk_faults station.new) (is_disk_stop result) }
+{
+    save(
+        alloc,
+        store,
+        station,
+        ready.commit.changes().as_slice(),
+        next,
+    )
+}
 
 /// Makes ready what an owner changed, and stores it with the next serial. None exactly where the objects would weigh more together
 /// than they may: then nothing is stored.
@@ -44,20 +73,12 @@ pub fn store_changes<W: Station>(
     ensures silent { IsSilent W.now W.history W.speak_faults station.old station.new }
     ensures cause { HasCauseIf (W.disk_faults station.old) (W.disk_faults station.new) (is_disk_stop result) }
 {
+    let next = parts.accounts.next();
     match make_ready(parts, owner)? {
-        Some(ready) => {
-            let next = parts.accounts.next();
-            match save(
-                parts.alloc,
-                store,
-                station,
-                ready.commit.changes().as_slice(),
-                next,
-            ) {
-                Ok(()) => Ok(Some(ready)),
-                Err(stop) => Err(stop),
-            }
-        }
+        Some(ready) => match store_ready(parts.alloc, store, station, &ready, next) {
+            Ok(()) => Ok(Some(ready)),
+            Err(stop) => Err(stop),
+        },
         None => Ok(None),
     }
 }

@@ -6,17 +6,18 @@ use Rattle.pss_machine.specs.declared.reply.Reply.{Reply}
 use Rattle.pss_machine.specs.declared.reply.Reply.TheVariants as reply
 use Rattle.pss_machine.specs.Kept.{Kept, is_transaction, transaction_named}
 use Rattle.pss_machine.specs.Sessions.{first_open}
-use Rattle.pss_machine.specs.Deciding.{decision, unless_full}
+use Rattle.pss_machine.specs.Deciding.{decision, is_marked, unless_full}
 use Rattle.pss_machine.specs.Effects.{Commits, Decision, RollsBack, does, says}
 use Rattle.pss_copies.proofs.Tying.{named_transaction}
+use Rattle.pss_recovery.proofs.Silent.{silent_start}
 use Rattle.connector_parts.specs.Stands.{IsAt, Comes}
 use Rattle.connector_parts.proofs.Bounds.{own_at}
 use Rattle.connector_parts.proofs.Decisions.{replied}
 use Rattle.connector_parts.proofs.Tellings.{if_ok}
 use Rattle.commit_calls.specs.Ready.{MayMakeReady}
 use Rattle.commit_calls.specs.Commits.{MayCommit, Follows}
-use Rattle.commit_calls.proofs.Commitments.{becomes_same, if_err, nothing_as, rolls_nothing, stays_nothing}
-use Rattle.commit_calls.proofs.Outcomes.{closed_is, commit_ready, follows_comes, open_is, rolled_back, still_open}
+use Rattle.commit_calls.proofs.Commitments.{StoresNothing, becomes_same, if_err, no_cause, nothing_as, nothing_came, rolls_nothing, stays_nothing}
+use Rattle.commit_calls.proofs.Outcomes.{Opened, closed_is, commit_ready, follows_comes, open_is, rolled_back, still_open}
 use Rattle.commit_calls.proofs.Readiness.{called_is, opened_at, closed_at}
 use Rattle.commit_saving.specs.Saving.{BecomesSaved, IsSavedThroughout, StaysSaved, saved_by}
 use Rattle.commit_saving.proofs.Stored.{on_ok}
@@ -27,39 +28,51 @@ still_open-requires g c =
     called_is c.args.parts.now c.requires.any.kept c.requires.any.at.stands c.in-Some.owner c.in-Some-first_open.session
     (opened_at c.args.parts.now c.requires.any.kept c.requires.any.at.stands c.sessions.result.now c.sessions.ensures c.in-Some.owner c.in-Some-first_open.session c.in-Some-first_open.ensures)
 
-pub returns-in-Some-first_open-clause-comes : goal.returns-in-Some-first_open-clause-comes
-returns-in-Some-first_open-clause-comes g c k at =
+pub returns-in-Some-first_open : goal.returns-in-Some-first_open
+returns-in-Some-first_open g c =
     let parts = c.args.parts.now in
-    let opened = opened_at parts k at.stands c.sessions.result.now c.sessions.ensures c.in-Some.owner c.in-Some-first_open.session c.in-Some-first_open.ensures in
-    replied parts parts k (command.Commit c.args.transaction.now) (reply.StillOpen opened.session.name) c.in_ok-told.told (c.in_ok-told.ensures (called_is parts k at.stands c.in-Some.owner c.in-Some-first_open.session opened))
-    (still_open parts k at c.args.transaction.now c.in-Some.owner (c.in-Some.ensures.machine k (c.titles.ensures parts.schema k at.stands.accounts) ∙ ap (transaction_named k) c.as_slice.ensures) opened.session opened.is)
+    let name = c.args.transaction.now in
+    let n = c.in-Some.owner in
+    let session = c.in-Some-first_open.session in
+    let named : (k : Kept) → IsAt parts k → Some n ≡ transaction_named k name = λ k at. c.in-Some.ensures.machine k (c.titles.ensures parts.schema k at.stands.accounts) ∙ ap (transaction_named k) c.as_slice.ensures in
+    let opened : (k : Kept) → IsAt parts k → Opened k n session = λ k at. opened_at parts k at.stands c.sessions.result.now c.sessions.ensures n session c.in-Some-first_open.ensures in
+    let nothing : (k : Kept) → IsAt parts k → StoresNothing k (decision parts.schema parts.limits k (command.Commit name)).effect
+    = λ k at. nothing_as k (decision parts.schema parts.limits k (command.Commit name)) (says (reply.StillOpen (opened k at).session.name)) (open_is parts k at name n (named k at) (opened k at).session (opened k at).is) (stays_nothing k) in
+    record {
+      comes = λ k at.
+          replied parts parts k (command.Commit name) (reply.StillOpen (opened k at).session.name) c.in_ok-told.told (c.in_ok-told.ensures (called_is parts k at.stands n session (opened k at)))
+          (still_open parts k at name n (named k at) (opened k at).session (opened k at).is);
+      saved = λ k at. becomes_same parts.schema k _ (nothing k at) c.args.store.now (g.W.Station.content c.args.station.now);
+      images = λ k at saved. nothing_came (g.W.Station.content c.args.station.now) _ _ (g.W.Station.history c.args.station.now);
+      memory = tt;
+      next = λ k at. sym ((nothing k at).saved c.args.store.now.next);
+      settled = c.requires.settled;
+      silent = silent_start g.W.Station.now g.W.Station.history g.W.Station.speak_faults c.args.station.now;
+      cause = no_cause (g.W.Station.disk_faults c.args.station.now);
+    }
 
-pub returns-in-Some-first_open-clause-saved : goal.returns-in-Some-first_open-clause-saved
-returns-in-Some-first_open-clause-saved g c k at =
+pub returns-then-is_marked : goal.returns-then-is_marked
+returns-then-is_marked g c =
     let parts = c.args.parts.now in
-    let opened = opened_at parts k at.stands c.sessions.result.now c.sessions.ensures c.in-Some.owner c.in-Some-first_open.session c.in-Some-first_open.ensures in
-    let d = decision parts.schema parts.limits k (command.Commit c.args.transaction.now) in
-    becomes_same parts.schema k d.effect
-    (nothing_as k d (says (reply.StillOpen opened.session.name))
-    (open_is parts k at c.args.transaction.now c.in-Some.owner (c.in-Some.ensures.machine k (c.titles.ensures parts.schema k at.stands.accounts) ∙ ap (transaction_named k) c.as_slice.ensures) opened.session opened.is) (stays_nothing k))
-    c.args.store.now (g.W.Station.content c.args.station.now)
-
-pub returns-then-is_marked-clause-comes : goal.returns-then-is_marked-clause-comes
-returns-then-is_marked-clause-comes g c k at =
-    let named : Some c.in-Some.owner ≡ transaction_named k c.args.transaction.now = c.in-Some.ensures.machine k (c.titles.ensures c.args.parts.now.schema k at.stands.accounts) ∙ ap (transaction_named k) c.as_slice.ensures in
-    rolled_back c.args.parts.now k at c.args.transaction.now c.in-Some.owner named c.finish.new.self c.finish.ensures.rest
-    (closed_at c.args.parts.now k at.stands c.sessions.result.now c.sessions.ensures c.in-Some.owner c.in_default-first_open.ensures) (sym (c.is_marked.ensures k at.stands) ∙ c.if-is_marked.true)
-    (c.finish.ensures.finished k (own_at c.args.parts.now k at) (named_transaction k c.args.transaction.now c.in-Some.owner (sym named)) at.stands)
-
-pub returns-then-is_marked-clause-saved : goal.returns-then-is_marked-clause-saved
-returns-then-is_marked-clause-saved g c k at =
-    let parts = c.args.parts.now in
-    let d = decision parts.schema parts.limits k (command.Commit c.args.transaction.now) in
-    becomes_same parts.schema k d.effect
-    (nothing_as k d (does (RollsBack c.in-Some.owner) reply.RolledBack)
-    (closed_is parts k at c.args.transaction.now c.in-Some.owner (c.in-Some.ensures.machine k (c.titles.ensures parts.schema k at.stands.accounts) ∙ ap (transaction_named k) c.as_slice.ensures)
-    (closed_at parts k at.stands c.sessions.result.now c.sessions.ensures c.in-Some.owner c.in_default-first_open.ensures) true (sym (c.is_marked.ensures k at.stands) ∙ c.if-is_marked.true)) (rolls_nothing k c.in-Some.owner))
-    c.args.store.now (g.W.Station.content c.args.station.now)
+    let name = c.args.transaction.now in
+    let n = c.in-Some.owner in
+    let named : (k : Kept) → IsAt parts k → Some n ≡ transaction_named k name = λ k at. c.in-Some.ensures.machine k (c.titles.ensures parts.schema k at.stands.accounts) ∙ ap (transaction_named k) c.as_slice.ensures in
+    let closed : (k : Kept) → IsAt parts k → first_open k.sessions n ≡ None = λ k at. closed_at parts k at.stands c.sessions.result.now c.sessions.ensures n c.in_default-first_open.ensures in
+    let marked : (k : Kept) → IsAt parts k → is_marked k n ≡ true = λ k at. sym (c.is_marked.ensures k at.stands) ∙ c.if-is_marked.true in
+    let nothing : (k : Kept) → IsAt parts k → StoresNothing k (decision parts.schema parts.limits k (command.Commit name)).effect
+    = λ k at. nothing_as k (decision parts.schema parts.limits k (command.Commit name)) (does (RollsBack n) reply.RolledBack) (closed_is parts k at name n (named k at) (closed k at) true (marked k at)) (rolls_nothing k n) in
+    record {
+      comes = λ k at.
+          rolled_back parts k at name n (named k at) c.finish.new.self c.finish.ensures.rest (closed k at) (marked k at)
+          (c.finish.ensures.finished k (own_at parts k at) (named_transaction k name n (sym (named k at))) at.stands);
+      saved = λ k at. becomes_same parts.schema k _ (nothing k at) c.args.store.now (g.W.Station.content c.args.station.now);
+      images = λ k at saved. nothing_came (g.W.Station.content c.args.station.now) _ _ (g.W.Station.history c.args.station.now);
+      memory = tt;
+      next = λ k at. sym ((nothing k at).saved c.args.store.now.next);
+      settled = c.requires.settled;
+      silent = silent_start g.W.Station.now g.W.Station.history g.W.Station.speak_faults c.args.station.now;
+      cause = no_cause (g.W.Station.disk_faults c.args.station.now);
+    }
 
 pub commit_changes-requires-clause-ready : goal.commit_changes-requires-clause-ready
 commit_changes-requires-clause-ready g c =

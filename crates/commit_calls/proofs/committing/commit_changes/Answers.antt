@@ -15,33 +15,42 @@ apply-requires g c = (let m = c.requires.ready in record {
   commits = commits_left c.args.parts.now m.kept m.at;
 })
 
-pub returns-in-Some-clause-follows : goal.returns-in-Some-clause-follows
-returns-in-Some-clause-follows g c m may =
-    done_follows c.args.parts.now c.apply.new.parts m.kept c.args.owner m.owner m.there (Commits c.args.owner) (stay_on c.args.parts.now c.store_changes.new.parts c.apply.new.parts c.in_ok-ready.ensures.rest c.apply.ensures.rest)
-    (ap is_some (sym c.in-Some.is) ∙ c.in_ok-ready.ensures.full m)
-    (c.apply.ensures.committed m.kept (c.in_ok-ready.ensures.stands m.kept m.at) (ready_of c.args.parts.now c.store_changes.new.parts c.args.owner c.in_ok-ready.field-0 c.in-Some.ready c.in-Some.is c.in_ok-ready.ensures.ready m) may)
+pub returns-in-Some : goal.returns-in-Some
+returns-in-Some g c =
+    let old = c.args.parts.now in
+    let n = c.args.owner in
+    record {
+      follows = λ m may.
+          done_follows old c.apply.new.parts m.kept n m.owner m.there (Commits n) (stay_on old c.store_changes.new.parts c.apply.new.parts c.in_ok-ready.ensures.rest c.apply.ensures.rest)
+          (ap is_some (sym c.in-Some.is) ∙ c.in_ok-ready.ensures.full m)
+          (c.apply.ensures.committed m.kept (c.in_ok-ready.ensures.stands m.kept m.at) (ready_of old c.store_changes.new.parts n c.in_ok-ready.field-0 c.in-Some.ready c.in-Some.is c.in_ok-ready.ensures.ready m) may);
+      saved = λ m. c.in_ok-ready.ensures.saved m (Commits n) (commits_net m.kept n m.owner m.there);
+      images = λ m. c.store_changes.ensures.images m (Commits n) (commits_net m.kept n m.owner m.there);
+      memory = tt;
+      next = λ m. c.in_ok-ready.ensures.next m (Commits n) (commits_net m.kept n m.owner m.there);
+      settled = c.in_ok-ready.ensures.settled;
+      silent = c.store_changes.ensures.silent;
+      cause = c.in_ok-ready.ensures.cause;
+    }
 
-pub returns-in-None-clause-follows : goal.returns-in-None-clause-follows
-returns-in-None-clause-follows g c m may =
-    full_follows c.args.parts.now c.store_changes.new.parts m.kept c.args.owner m.owner m.there (Commits c.args.owner) c.in_ok-ready.ensures.rest (ap is_some (sym c.in-None.is) ∙ c.in_ok-ready.ensures.full m) (c.in_ok-ready.ensures.stands m.kept m.at)
-
-pub returns-in-Some-clause-saved : goal.returns-in-Some-clause-saved
-returns-in-Some-clause-saved g c m = c.in_ok-ready.ensures.saved m (Commits c.args.owner) (commits_net m.kept c.args.owner m.owner m.there)
-
-pub returns-in-Some-clause-images : goal.returns-in-Some-clause-images
-returns-in-Some-clause-images g c m = c.store_changes.ensures.images m (Commits c.args.owner) (commits_net m.kept c.args.owner m.owner m.there)
-
-pub returns-in-Some-clause-next : goal.returns-in-Some-clause-next
-returns-in-Some-clause-next g c m = c.in_ok-ready.ensures.next m (Commits c.args.owner) (commits_net m.kept c.args.owner m.owner m.there)
-
-pub returns-in-None-clause-saved : goal.returns-in-None-clause-saved
-returns-in-None-clause-saved g c m = c.in_ok-ready.ensures.saved m (Commits c.args.owner) (commits_net m.kept c.args.owner m.owner m.there)
-
-pub returns-in-None-clause-images : goal.returns-in-None-clause-images
-returns-in-None-clause-images g c m = c.store_changes.ensures.images m (Commits c.args.owner) (commits_net m.kept c.args.owner m.owner m.there)
-
-pub returns-in-None-clause-next : goal.returns-in-None-clause-next
-returns-in-None-clause-next g c m = c.in_ok-ready.ensures.next m (Commits c.args.owner) (commits_net m.kept c.args.owner m.owner m.there)
+pub returns-in-None : goal.returns-in-None
+returns-in-None g c =
+    let old = c.args.parts.now in
+    let n = c.args.owner in
+    record {
+      follows = λ m may.
+          full_follows old c.store_changes.new.parts m.kept n m.owner m.there (Commits n) c.in_ok-ready.ensures.rest (ap is_some (sym c.in-None.is) ∙ c.in_ok-ready.ensures.full m) (c.in_ok-ready.ensures.stands m.kept m.at);
+      saved = λ m. c.in_ok-ready.ensures.saved m (Commits n) (commits_net m.kept n m.owner m.there);
+      images = λ m. c.store_changes.ensures.images m (Commits n) (commits_net m.kept n m.owner m.there);
+      memory = tt;
+      next = λ m. c.in_ok-ready.ensures.next m (Commits n) (commits_net m.kept n m.owner m.there);
+      settled = c.in_ok-ready.ensures.settled;
+      silent = c.store_changes.ensures.silent;
+      cause = c.in_ok-ready.ensures.cause;
+    }
 
 pub returns-in_err-ready-clause-images : goal.returns-in_err-ready-clause-images
 returns-in_err-ready-clause-images g c m = c.store_changes.ensures.images m (Commits c.args.owner) (commits_net m.kept c.args.owner m.owner m.there)
+
+pub returns-in_err-ready-clause-silent : goal.returns-in_err-ready-clause-silent
+returns-in_err-ready-clause-silent g c = c.store_changes.ensures.silent

@@ -1,6 +1,7 @@
 // Bodies that steps outdate.
-ghost use Rattle.std.specs.Prelude.{OnOk};
+ghost use Rattle.std.specs.Prelude.{IfOk, OnOk};
 ghost use Rattle.pss_machine.specs.Operations.{Done, plain_op, plain_answer};
+ghost use Rattle.pss_copies.specs.Stepped.{SetsAt};
 ghost use Rattle.data_calls.specs.Leaving.{MayLeave, MayRewrite, IsLeft};
 
 use crate::acting::Acting;
@@ -8,6 +9,21 @@ use connector_parts::Parts;
 use pss_base::{NoMemory, Pid, Steps};
 use pss_machine::{Answer, Op};
 use std::sync::ledger::Ledger;
+use type_layout::Record;
+
+// The record of an object that was set, as the owner sees it.
+fn record_set(parts: &Parts, acting: Acting, pid: Pid) -> Result<Record, NoMemory>
+    requires { MayRewrite parts.now acting pid }
+    ensures { IfOk result (λ values. (m : MayRewrite parts.now acting pid) → SetsAt m.left.kept acting.owner m.left.taken.step.step pid values) }
+{
+    match parts
+        .accounts
+        .record_of(acting.owner, parts.schema.schema(), pid.serial)?
+    {
+        Some(values) => Ok(values),
+        None => unreachable!(),
+    }
+}
 
 // The object was set: its older bodies are left, and its body in the owner's view has its values.
 fn rewrite<L: Ledger>(
@@ -19,16 +35,9 @@ fn rewrite<L: Ledger>(
     requires { MayRewrite parts.old acting pid }
     ensures { OnOk result ((m : MayRewrite parts.old acting pid) → IsLeft m.left parts.new) }
 {
-    match parts
-        .accounts
-        .record_of(acting.owner, parts.schema.schema(), pid.serial)?
-    {
-        Some(value) => {
-            parts.attended.write(acting.owner, pid, value, steps);
-            Ok(())
-        }
-        None => unreachable!(),
-    }
+    let values = record_set(parts, acting, pid)?;
+    parts.attended.write(acting.owner, pid, values, steps);
+    Ok(())
 }
 
 // The same of an operation that was done, without an object that it found or a value that it read.

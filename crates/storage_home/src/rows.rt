@@ -115,12 +115,26 @@ pub fn take(rows: &mut Rows, serial: u64)
     }
 }
 
-// The chunk of a number, where there is one. Where it is the one that was found last, it is not hashed.
+// The chunk of a number, where there is one. Where it is the one that was found last, or stands behind it, it is not hashed.
 fn chunk_of(rows: &Rows, number: u64) -> Option<&Chunk>
     ensures { option_map (λ chunk. chunk.now) result ≡ chunk_at number rows.now.chunks.entries }
 {
-    match chunk_there(&rows.chunks, rows.last.get(), number) {
+    let last = rows.last.get();
+    match chunk_there(&rows.chunks, last, number) {
         Some(chunk) => Some(chunk),
+        None => chunk_ahead(rows, last.wrapping_add(1), number),
+    }
+}
+
+// The chunk of a number, which is looked for at a place first.
+fn chunk_ahead(rows: &Rows, place: usize, number: u64) -> Option<&Chunk>
+    ensures { option_map (λ chunk. chunk.now) result ≡ chunk_at number rows.now.chunks.entries }
+{
+    match chunk_there(&rows.chunks, place, number) {
+        Some(chunk) => {
+            rows.last.set(place);
+            Some(chunk)
+        }
         None => look_up(rows, number),
     }
 }

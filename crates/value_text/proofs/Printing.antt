@@ -1,11 +1,13 @@
 -- The parts of a value are of the parts of its type.
-use Rattle.std.proofs.Common.{◌≡◌, ℕ, ◌<◌, List, length, Box, Global, sym, ap, subst, ◌∙◌}
+use Rattle.std.proofs.Common.{◌≡◌, ℕ, ◌+◌, ◌/◌, ◌%◌, ◌<◌, ◌≤◌, List, [], ◌∷◌, ◌++◌, length, Box, Global, ℤ, refl, sym, ap, subst, ◌∙◌, arith, append_assoc}
+use Rattle.std.specs.Fmt.{decimal, signed_decimal}
+use Rattle.std.proofs.lemmas.Fmt.{decimal_digit, decimal_step}
 use Rattle.type_layout.specs.declared.ty.Ty.{Ty}
 use Rattle.type_layout.specs.declared.ty.Ty.TheVariants as types
 use Rattle.type_layout.specs.declared.ty.Ty.TheOpen as open_type
 use Rattle.type_layout.specs.declared.ty.Ty.TheFolds.{fold-roll-Ty}
 use Rattle.type_layout.specs.Views.{plain_type, type_step, field_step, fields_step}
-use Rattle.type_layout.specs.Types.{PlainType, Seq, Arr, Struct, Enum, PlainFields, PlainField, PlainValue, PlainValues, Ordinal, Items, Parts}
+use Rattle.type_layout.specs.Types.{PlainType, Seq, Arr, Struct, Enum, PlainFields, PlainField, PlainValue, PlainValues, Int, Ordinal, Items, Parts}
 use Rattle.type_layout.specs.Values.{Of, AreOf, EachOf}
 use Rattle.value_text.specs.Printed.{items_in, parts_in, ordinal_in, list_printed, printed}
 
@@ -54,3 +56,16 @@ parts_fit fs _ of = absurd of
 pub ordinal_fits : (names : List (List ℕ)) (v : PlainValue) → Of (Enum names) v → ordinal_in v < length names
 ordinal_fits names (Ordinal n) of = of.0
 ordinal_fits names _ of = absurd of
+
+-- a number of two digits is printed one after the other
+pub two_digits : (n : ℕ) (front middle : List ℕ) → 10 ≤ n → n < 100 → middle ≡ front ++ (48 + n / 10) ∷ [] → middle ++ (48 + n % 10) ∷ [] ≡ front ++ decimal n
+two_digits n front middle low high e =
+    rw (e, decimal_step n low (omega arith), decimal_digit (n / 10) (omega arith), append_assoc)
+
+-- a number is printed alike by each type that it is of
+pub number_prints : (type : PlainType) (z : ℤ) → Of type (Int z) → printed type (Int z) ≡ signed_decimal z
+number_prints (Seq _ _) z of = absurd of
+number_prints (Arr _ _) z of = absurd of
+number_prints (Struct _) z of = absurd of
+number_prints (Enum _) z of = absurd of
+number_prints _ z of = refl

@@ -1,7 +1,7 @@
 // From values to texts.
 ghost use Rattle.std.specs.Prelude.{◌≡◌, ◌++◌, ◌∷◌, ◌<◌, [], map, length, IfOk, OnOk, unwrap_or};
 ghost use Rattle.std.specs.List.{flat_map, slice_get};
-ghost use Rattle.std.specs.Fmt.{signed_decimal};
+ghost use Rattle.std.specs.Fmt.{decimal, signed_decimal};
 ghost use Rattle.type_layout.specs.Types.{fields_of, values_of};
 ghost use Rattle.type_layout.specs.Views.{plain_type, plain_field, plain_fields, plain_value};
 ghost use Rattle.type_layout.specs.Values.{Of, AreOf, EachOf};
@@ -27,6 +27,14 @@ pub fn print_value(alloc: Global, ty: &Ty, value: &Value) -> Result<Bytes, NoMem
     let mut out = Bytes::new(alloc);
     put(&mut out, ty, value)?;
     Ok(out)
+}
+
+/// Adds the text of a value of the type to bytes, as `print_value` makes it. After `NoMemory` a part of it may stand behind them.
+pub fn append_value(out: &mut Bytes, ty: &Ty, value: &Value) -> Result<(), NoMemory>
+    requires { Of (plain_type ty.now) (plain_value value.now) }
+    ensures { OnOk result (out.new ≡ out.old ++ printed (plain_type ty.now) (plain_value value.now)) }
+{
+    put(out, ty, value)
 }
 
 fn put_byte(out: &mut Bytes, quote: u8, byte: u8) -> Result<(), NoMemory>
@@ -65,10 +73,38 @@ fn put_truth(out: &mut Bytes, truth: bool) -> Result<(), NoMemory>
     out.extend(if truth { b"TRUE" } else { b"FALSE" })
 }
 
-fn put_number(out: &mut Bytes, number: i128) -> Result<(), NoMemory>
+// A number of one or two digits.
+#[tactic(auto, using(std::proofs::lemmas::Fmt::decimal_digit, crate::proofs::Printing::two_digits))]
+#[inline(always)]
+fn put_short(out: &mut Bytes, number: u8) -> Result<(), NoMemory>
+    requires { number < 100 }
+    ensures { OnOk result (out.new ≡ out.old ++ decimal number) }
+{
+    if number < 10 {
+        return out.push(b'0' + number);
+    }
+    out.push(b'0' + number / 10)?;
+    out.push(b'0' + number % 10)
+}
+
+// A number of any length.
+#[inline(never)]
+fn put_long(out: &mut Bytes, number: i128) -> Result<(), NoMemory>
     ensures { OnOk result (out.new ≡ out.old ++ signed_decimal number) }
 {
     out.extend(Buffer::new().format(number).as_bytes())
+}
+
+/// Adds the text of a number to bytes, which is that of a value of each type of numbers. After `NoMemory` a part of it may stand
+/// behind them.
+#[inline(always)]
+pub fn append_number(out: &mut Bytes, number: i128) -> Result<(), NoMemory>
+    ensures { OnOk result (out.new ≡ out.old ++ signed_decimal number) }
+{
+    match number {
+        0..=99 => put_short(out, number as u8),
+        _ => put_long(out, number),
+    }
 }
 
 // Bytes between two quotes.
@@ -94,7 +130,7 @@ fn put_plain(out: &mut Bytes, value: &Value) -> Result<(), NoMemory>
     ensures { OnOk result (out.new ≡ out.old ++ plain_text (plain_value value.now)) }
 {
     match value {
-        Value::Int(number) => put_number(out, *number),
+        Value::Int(number) => append_number(out, *number),
         Value::Char(byte) => put_quoted(out, b'\'', &[*byte]),
         Value::Bool(truth) => put_truth(out, *truth),
         Value::Str(bytes) => put_quoted(out, b'"', bytes.as_slice()),

@@ -1,6 +1,6 @@
 // Kinds of declarations.
 ghost use Rattle.std.specs.Prelude.{◌≡◌};
-ghost use Rattle.psdl_directory.specs.Parts.{kind, is_forward};
+ghost use Rattle.psdl_directory.specs.Parts.{kind, same_kind, is_forward};
 ghost use Rattle.psdl_directory.specs.inner.Keys.{whole};
 ghost use Rattle.psdl_directory.specs.inner.Nodes.{what_view};
 
@@ -27,6 +27,13 @@ pub(crate) fn kind_of(what: What<'_>) -> KindNo
         What::ConcreteHome(_) => 9,
         What::Catalog(_) => 10,
     })
+}
+
+/// Whether two declarations are of one kind.
+pub fn same_kind(first: What<'_>, second: What<'_>) -> bool
+    ensures { result ≡ same_kind (what_view first.entry) (what_view second.entry) }
+{
+    kind_of(first).0 == kind_of(second).0
 }
 
 /// Whether a type or home stands without its body.

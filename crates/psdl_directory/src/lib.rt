@@ -22,6 +22,7 @@ pub use declaration::{Declaration, What};
 pub use directory::Directory;
 pub use fault::{CheckFault, CheckKind};
 pub use headers::{Header, headers_of};
+pub use kind::{is_forward, same_kind};
 pub use least::{Least, late_fault_changes_nothing, noting_goes_by_parts, noting_leaves_least};
 pub use number::{DeclarationNo, SpellingNo};
 pub use spelling::Spelling;

@@ -23,9 +23,11 @@ pub struct Place {
 #[derive(Drop)]
 pub struct Places {
     pub table: Table<Resource, Place>,
-    // Where in the table a resource was found last. It and the one before it are looked at first: what is locked in one order is
-    // linked and released in the other. It may be any number.
+    // Where in the table an object or a key was found last. There and beside it the next one is looked for first: what is locked in
+    // one order is linked in the other, and released in both. It may be any number, as the next one.
     last: Cell<usize>,
+    // Where an extent was found last: one is locked again with each object that comes to its home.
+    extent: Cell<usize>,
 }
 
 /// No places. It takes no memory.
@@ -35,6 +37,7 @@ pub fn none(alloc: Global) -> Places
     Places {
         table: tables::empty(alloc),
         last: Cell::new(0),
+        extent: Cell::new(0),
     }
 }
 
@@ -62,8 +65,9 @@ pub fn put(places: &mut Places, resource: Resource, place: Place)
     requires { 0 < spare places.old.table }
     ensures { Turns same_resource places.old.table.entries places.new.table.entries resource (Some place) }
 {
+    let last = last_of(&places.last, &places.extent, &resource);
     match places.table.insert_full(resource, place) {
-        Ok((at, _)) => places.last.set(at),
+        Ok((at, _)) => last.set(at),
         Err(_) => unreachable!(),
     }
 }
@@ -87,21 +91,34 @@ pub fn remove(places: &mut Places, resource: &Resource)
     }
 }
 
+// Where the last resource of this kind was found.
+fn last_of<'a>(
+    other: &'a Cell<usize>,
+    extent: &'a Cell<usize>,
+    resource: &Resource,
+) -> &'a Cell<usize> {
+    match resource {
+        Resource::Extent(_) => extent,
+        _ => other,
+    }
+}
+
 // Where in the table a resource stands, where it has a place.
 fn index_of(places: &Places, resource: &Resource) -> Option<usize>
     ensures at { IfSome result (λ at. key_at at places.now.table.entries ≡ Some resource.now) }
     ensures none { IfNone result (entry_at same_resource places.now.table.entries resource.now ≡ None) }
 {
-    match near(&places.table, places.last.get(), resource) {
+    let last = last_of(&places.last, &places.extent, resource);
+    match near(&places.table, last.get(), resource) {
         Some(at) => {
-            places.last.set(at);
+            last.set(at);
             Some(at)
         }
-        None => look_up(places, resource),
+        None => look_up(&places.table, last, resource),
     }
 }
 
-// Where a resource stands, where that is where the last one was found, or before it. It is not hashed.
+// Where a resource stands, where that is where the last one was found, or beside it. It is not hashed.
 fn near(table: &Table<Resource, Place>, last: usize, resource: &Resource) -> Option<usize>
     ensures { IfSome result (λ at. key_at at table.now.entries ≡ Some resource.now) }
 {
@@ -111,6 +128,10 @@ fn near(table: &Table<Resource, Place>, last: usize, resource: &Resource) -> Opt
     let before = last.wrapping_sub(1);
     if stands_at(table, before, resource) {
         return Some(before);
+    }
+    let behind = last.wrapping_add(1);
+    if stands_at(table, behind, resource) {
+        return Some(behind);
     }
     None
 }
@@ -126,13 +147,13 @@ fn stands_at(table: &Table<Resource, Place>, at: usize, resource: &Resource) -> 
 }
 
 // Where a resource stands by its hash. The next one is looked for near it.
-fn look_up(places: &Places, resource: &Resource) -> Option<usize>
-    ensures at { IfSome result (λ at. key_at at places.now.table.entries ≡ Some resource.now) }
-    ensures none { IfNone result (entry_at same_resource places.now.table.entries resource.now ≡ None) }
+fn look_up(table: &Table<Resource, Place>, last: &Cell<usize>, resource: &Resource) -> Option<usize>
+    ensures at { IfSome result (λ at. key_at at table.now.entries ≡ Some resource.now) }
+    ensures none { IfNone result (entry_at same_resource table.now.entries resource.now ≡ None) }
 {
-    match places.table.get_full(resource) {
+    match table.get_full(resource) {
         Some((at, _, _)) => {
-            places.last.set(at);
+            last.set(at);
             Some(at)
         }
         None => None,

@@ -1,5 +1,5 @@
 // Tables by hash.
-ghost use Rattle.std.specs.Prelude.{◌≡◌, ◌≤◌, ◌<◌, [], Some, None, IsSome, OnOk, OnErr};
+ghost use Rattle.std.specs.Prelude.{◌≡◌, ◌≤◌, ◌<◌, [], Some, None, IfSome, IsSome, OnOk, OnErr};
 ghost use Rattle.indexmap.specs.IndexMap.{spare};
 ghost use Rattle.lock_table.specs.inner.Tables.{entry_at, Turns};
 
@@ -19,11 +19,24 @@ pub fn empty<K: Eq + Hash, V>(alloc: Global) -> Table<K, V>
     IndexMap::with_hasher(alloc, BuildHasherDefault::new())
 }
 
-/// The value of a key, where it has one.
+/// The value of a key, where it has one. The first key is not hashed: it may be alone.
 pub fn find<K: Eq + Hash, V: Copy>(table: &Table<K, V>, key: &K) -> Option<V>
     ensures { result ≡ entry_at K.eq table.now.entries key.now }
 {
-    table.get(key).copied()
+    match first_if(table, key) {
+        Some(value) => Some(value),
+        None => table.get(key).copied(),
+    }
+}
+
+// The first value, where it has this key.
+fn first_if<K: Eq + Hash, V: Copy>(table: &Table<K, V>, key: &K) -> Option<V>
+    ensures { IfSome result (λ value. entry_at K.eq table.now.entries key.now ≡ Some value) }
+{
+    match table.get_index(0) {
+        Some((there, value)) if *key == *there => Some(*value),
+        _ => None,
+    }
 }
 
 /// Makes room for one more entry. Without memory the entries are as before.

@@ -30,6 +30,13 @@ use std::marker::Model;
 use std::sync::ledger::Ledger;
 use type_layout::Record;
 
+/// What an entry shows that stands on a body: its object, and the body's value.
+#[derive(Clone, Copy)]
+pub struct Shown<'a> {
+    pub pid: Pid,
+    pub value: &'a Record,
+}
+
 /// The entries of sessions, and the bodies that they stand on.
 ///
 /// An entry is what a session calls an object: it has a number, the identifier of the object, and a count of how often
@@ -223,6 +230,28 @@ impl Incarnations {
                     pid: was.entry.pid,
                     view,
                 }),
+                None => None,
+            },
+            None => None,
+        }
+    }
+
+    /// The object of an entry, and the value of the body that it stands on: `pid_of` and `value` by one look-up. None: the
+    /// session has no such entry, or it stands on no body. Nothing is copied.
+    #[inline(always)]
+    pub fn shown(&self, session: SessionNo, number: u32) -> Option<Shown<'_>>
+        ensures pid { IfSome result (λ shown. option_map (λ e. e.pid) (entry_at self.now session number) ≡ Some shown.pid) }
+        ensures value { IfSome result (λ shown. option_and_then (get self.now.bodies) (body_under self.now (slot session number)) ≡ Some shown.value.now) }
+    {
+        match self.stock.entries.find(Slot { session, number }) {
+            Some(was) => match was.entry.view {
+                Some(view) => {
+                    let pid = was.entry.pid;
+                    match self.stock.bodies.value(BodyName { pid, view }) {
+                        Some(value) => Some(Shown { pid, value }),
+                        None => None,
+                    }
+                }
                 None => None,
             },
             None => None,

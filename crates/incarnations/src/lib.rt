@@ -22,5 +22,5 @@ mod stock;
 mod sweeping;
 mod tables;
 
-pub use incarnations::Incarnations;
+pub use incarnations::{Incarnations, Shown};
 pub use names::Slot;

@@ -1,5 +1,5 @@
 // The entries by session and number.
-ghost use Rattle.std.specs.Prelude.{◌≡◌, ◌<◌, ◌^◌, Some, None, IsSome, IfSome, OnOk, OnErr};
+ghost use Rattle.std.specs.Prelude.{◌≡◌, ◌<◌, ◌^◌, Some, None, IsSome, IfSome, OnOk, OnErr, option_copied};
 ghost use Rattle.std.specs.Map.{lookup};
 ghost use Rattle.std.specs.FinMap as map;
 ghost use Rattle.incarnations.specs.Meaning.{same_slot};
@@ -39,24 +39,24 @@ impl Model for EntryTable {
 
 // The record at a place of the table, where that of this slot stands there.
 #[inline(always)]
-fn record_there(table: &Table, place: usize, slot: Slot) -> Option<EntryRecord>
-    ensures { IfSome result (λ found. lookup (same_slot slot) table.now.entries ≡ Some found) }
+fn record_there(table: &Table, place: usize, slot: Slot) -> Option<&EntryRecord>
+    ensures { IfSome (option_copied result) (λ found. lookup (same_slot slot) table.now.entries ≡ Some found) }
 {
     match table.get_index(place) {
-        Some((there, found)) if *there == slot => Some(*found),
+        Some((there, found)) if *there == slot => Some(found),
         _ => None,
     }
 }
 
 // The record that a slot has by its hash. The next one is looked for at its place.
 #[inline(never)]
-fn look_up(table: &Table, last: &Cell<usize>, slot: Slot) -> Option<EntryRecord>
-    ensures { result ≡ lookup (same_slot slot) table.now.entries }
+fn look_up<'a>(table: &'a Table, last: &Cell<usize>, slot: Slot) -> Option<&'a EntryRecord>
+    ensures { option_copied result ≡ lookup (same_slot slot) table.now.entries }
 {
     match table.get_full(&slot) {
         Some((place, _, found)) => {
             last.set(place);
-            Some(*found)
+            Some(found)
         }
         None => None,
     }
@@ -64,8 +64,8 @@ fn look_up(table: &Table, last: &Cell<usize>, slot: Slot) -> Option<EntryRecord>
 
 // The record of a slot, looked for first where the last one was found.
 #[inline(always)]
-fn record_of(table: &Table, last: &Cell<usize>, slot: Slot) -> Option<EntryRecord>
-    ensures { result ≡ lookup (same_slot slot) table.now.entries }
+fn record_of<'a>(table: &'a Table, last: &Cell<usize>, slot: Slot) -> Option<&'a EntryRecord>
+    ensures { option_copied result ≡ lookup (same_slot slot) table.now.entries }
 {
     match record_there(table, last.get(), slot) {
         Some(found) => Some(found),
@@ -90,11 +90,19 @@ impl EntryTable {
         self.table.len()
     }
 
+    /// The record of a slot, which is not copied.
+    #[inline(always)]
+    pub fn find(&self, slot: Slot) -> Option<&EntryRecord>
+        ensures { option_copied result ≡ map.get self.now slot }
+    {
+        record_of(&self.table, &self.last, slot)
+    }
+
     #[inline(always)]
     pub fn get(&self, slot: Slot) -> Option<EntryRecord>
         ensures { result ≡ map.get self.now slot }
     {
-        record_of(&self.table, &self.last, slot)
+        self.find(slot).copied()
     }
 
     /// Puts a record at a slot that has none. `NoMemory`: the table is as before.

@@ -3,7 +3,7 @@ use Rattle.std.specs.FinMap as map
 use Rattle.incarnations.specs.Meaning.{same_slot}
 use Rattle.incarnations.proofs.Keys.{slot_key, slot_ties}
 use Rattle.incarnations.proofs.Hashed.{get_table}
-use Rattle.incarnations.proofs.tables.entries.EntryTable.get.Goals as goal
+use Rattle.incarnations.proofs.tables.entries.EntryTable.find.Goals as goal
 
 pub returns : goal.returns
 returns c = c.record_of.ensures ∙ sym (get_table slot_key same_slot slot_ties c.self.inside.table.entries c.args.slot) ∙ ap (λ m. map.get m c.args.slot) c.self.view_is

@@ -1,5 +1,5 @@
 // Keys and factories are numbered.
-ghost use Rattle.std.specs.Prelude.{◌≡◌, ◌++◌, ◌∷◌, [], List, ℕ, Some, IfOk, OnOk};
+ghost use Rattle.std.specs.Prelude.{◌≡◌, Some, IfOk, OnOk};
 ghost use Rattle.psdl_directory.specs.Spelled.{Keeps};
 ghost use Rattle.psdl_lineage.specs.Descent.{names_of};
 ghost use Rattle.psdl_members.specs.Listings.{listed_view, listed_views, identifiers_in};
@@ -8,8 +8,8 @@ ghost use Rattle.psdl_members.specs.inner.Entries.{AreSpelled, entry_of, KeepsEn
 use crate::entry::Entry;
 use crate::list_numbers::ListNumbers;
 use crate::listed::Listed;
+use crate::spelled::add_numbers;
 use psdl_directory::{Spelling, Spellings};
-use psdl_tree::Identifier;
 use pss_base::NoMemory;
 use std::alloc::Global;
 
@@ -18,35 +18,6 @@ use std::alloc::Global;
 pub(crate) struct Numbering {
     pub spellings: Spellings,
     pub lists: ListNumbers,
-}
-
-fn add_number(
-    alloc: Global,
-    numbers: &mut Vec<usize>,
-    spellings: &mut Spellings,
-    identifier: &Identifier,
-) -> Result<(), NoMemory>
-    ensures spelled { OnOk result ((names : List (List ℕ)) → AreSpelled spellings.old numbers.old.items names → AreSpelled spellings.new numbers.new.items (names ++ identifier.now.name ∷ [])) }
-    ensures kept { OnOk result (Keeps spellings.old spellings.new) }
-{
-    let number = Spelling::AsIs.note(alloc, spellings, identifier.name.as_slice())?;
-    numbers.push(number.index())?;
-    Ok(())
-}
-
-fn add_numbers(
-    alloc: Global,
-    numbers: &mut Vec<usize>,
-    spellings: &mut Spellings,
-    identifiers: &[Identifier],
-) -> Result<(), NoMemory>
-    ensures spelled { OnOk result ((names : List (List ℕ)) → AreSpelled spellings.old numbers.old.items names → AreSpelled spellings.new numbers.new.items (names ++ names_of identifiers.now)) }
-    ensures kept { OnOk result (Keeps spellings.old spellings.new) }
-{
-    for identifier in identifiers {
-        add_number(alloc, numbers, spellings, identifier)?;
-    }
-    Ok(())
 }
 
 fn list_of(

@@ -14,7 +14,7 @@ pub(crate) struct Firsts {
 }
 
 impl Firsts {
-    /// None of so many names.
+    /// No list has come yet with any of so many names.
     pub(crate) fn new(alloc: Global, names: usize) -> Result<Firsts, NoMemory>
         ensures { IfOk result (λ f. HasRoom f names) }
     {

@@ -20,6 +20,7 @@ mod own_members;
 mod owners;
 mod pieces;
 mod rows;
+mod spelled;
 mod type_clash;
 mod written;
 
@@ -29,3 +30,4 @@ pub use list_numbers::ListNumbers;
 pub use listed::Listed;
 pub use member::Member;
 pub use own_lists::add_lists;
+pub use spelled::{add_number, add_numbers};

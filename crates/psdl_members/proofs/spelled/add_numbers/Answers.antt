@@ -1,7 +1,7 @@
 use Rattle.std.proofs.Common.{◌++◌, ℕ, take, arith}
 use Rattle.psdl_lineage.specs.Descent.{names_of}
 use Rattle.psdl_members.proofs.Entering.{spelled_start, spelled_next, spelled_end}
-use Rattle.psdl_members.proofs.entries.add_numbers.Goals as goal
+use Rattle.psdl_members.proofs.spelled.add_numbers.Goals as goal
 
 pub loop-identifier-init : goal.loop-identifier-init
 loop-identifier-init c = record { spelled = λ names e. spelled_start c.args.spellings.now c.args.numbers.now.items names c.args.identifiers.now e; kept = λ q n is. is }

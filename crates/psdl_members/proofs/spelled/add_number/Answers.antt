@@ -1,7 +1,7 @@
 use Rattle.std.proofs.Common.{◌≡◌, ◌∙◌, ℕ, Some, ap, sym}
 use Rattle.psdl_directory.specs.Spelled.{number_of}
 use Rattle.psdl_members.proofs.Entering.{spelled_push}
-use Rattle.psdl_members.proofs.entries.add_number.Goals as goal
+use Rattle.psdl_members.proofs.spelled.add_number.Goals as goal
 
 pub returns-clause-spelled : goal.returns-clause-spelled
 returns-clause-spelled c names e =

@@ -5,6 +5,7 @@ use Rattle.std.specs.Int.{from_be_bytes, to_be_bytes, w32, w64}
 use Rattle.pss_disk.specs.Octets.{octets_in}
 use Rattle.pss_disk.specs.Parts.{Stands, number4, number8}
 use Rattle.pss_disk.proofs.Parts.{stands_first, stands_second}
+use Rattle.page_format.specs.Packing.{used_by}
 use Rattle.page_format.specs.Pages.{AllFit, Entry, Fits, IsPage, behind_entry, entries_end, entries_from, entries_of, entry_at, entry_count, octets_in_use, page_magic, page_zeros, place_of, record_length}
 use Rattle.page_format.specs.Written.{AreStorable, IsStorable, entries_octets, entry_octets, page_octets}
 use Rattle.page_format.proofs.Moved.{same_entry}
@@ -21,6 +22,10 @@ length_entry e = refl_or (to_be_bytes w32 e.home) (to_be_bytes w32 (length e.oct
   where
     refl_or : (h n s o : List ℕ) → length h ≡ 4 → length n ≡ 4 → length s ≡ 8 → length (h ++ (n ++ (s ++ o))) ≡ 16 + length o
     refl_or h n s o a b c = omega (arith, a, b, c, length-append h (n ++ (s ++ o)), length-append n (s ++ o), length-append s o)
+
+pub length_entries : (es : List Entry) → length (entries_octets es) ≡ used_by es
+length_entries [] = refl
+length_entries (e ∷ es) = omega (arith, length_entry e, length_entries es, length-append (entry_octets e) (entries_octets es))
 
 spelled_parts : (image : List ℕ) (at : ℕ) (e : Entry) → IsStorable e → Stands image at (entry_octets e) → IsSpelled image at e
 unfolding entry_octets

@@ -28,7 +28,7 @@ fn follows(epoch: u64, other: u64) -> bool
     epoch == other.wrapping_add(1)
 }
 
-// Of two roots the one that follows the other.
+// The one of two roots that follows the other.
 fn newer(first: Head, second: Head) -> Result<Current, RootFault>
     requires first { IsTrue first.is_root }
     requires second { IsTrue second.is_root }

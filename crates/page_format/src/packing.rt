@@ -31,8 +31,8 @@ pub fn record_of(put: &Put) -> &[u8]
     }
 }
 
-/// The octets that an entry takes.
-pub fn size_of(put: &Put) -> u32
+// The octets that an entry takes.
+fn size_of(put: &Put) -> u32
     requires { length (entry_left put.now).octets ≤ 8000 }
     ensures { result ≡ size_of (entry_left put.now) }
 {
@@ -61,10 +61,12 @@ fn begin<'a>(
     requires there { filling.end < length puts.now }
     requires begun { filling.start ≤ filling.end }
     requires row { IfSome filling.row (λ first. AreInARow first (entries_left (slice_range puts.now filling.start filling.end))) }
+    requires used { filling.used ≡ used_by (entries_left (slice_range puts.now filling.start filling.end)) }
     ensures closed { OnOk result (pages.new.items ≡ pages.old.items ++ entries_left (slice_range puts.now filling.start filling.end) ∷ []) }
     ensures filling { IfOk result (λ new. new ≡ record { start = filling.end; end = filling.end + 1; used = size; row = Some serial }) }
 {
-    pages.push(Entries::of(&puts[filling.start..filling.end], filling.row))?;
+    let page = &puts[filling.start..filling.end];
+    pages.push(Entries::of(page, filling.row, filling.used))?;
     Ok(Filling {
         start: filling.end,
         end: filling.end + 1,
@@ -113,7 +115,8 @@ fn finish<'a>(
     if filling.used == 0 {
         return Ok(pages);
     }
-    pages.push(Entries::of(&puts[filling.start..], filling.row))?;
+    let page = &puts[filling.start..];
+    pages.push(Entries::of(page, filling.row, filling.used))?;
     Ok(pages)
 }
 

@@ -6,7 +6,7 @@ ghost use Rattle.page_format.specs.Written.{AreStorable, AreWritable, IsStorable
 use crate::buffer::Buffer;
 use crate::layout::{MOST_USED, PAGE_MAGIC, PAGE_ZEROS, ROOT_MAGIC};
 use crate::new_page::NewPage;
-use crate::packing::{record_of, size_of};
+use crate::packing::record_of;
 use crate::root::Root;
 use pss_base::Put;
 
@@ -34,19 +34,6 @@ fn put_entries(buffer: &mut Buffer, puts: &[Put])
     }
 }
 
-// How many octets entries take.
-fn used_by(puts: &[Put]) -> u32
-    requires storable { AreStorable (entries_left puts.now) }
-    requires short { length (entries_octets (entries_left puts.now)) ≤ 16344 }
-    ensures { result ≡ length (entries_octets (entries_left puts.now)) }
-{
-    let mut used = 0;
-    for put in puts {
-        used += size_of(put);
-    }
-    used
-}
-
 // Puts a whole page behind what a buffer has.
 fn put_page(buffer: &mut Buffer, epoch: u64, page: &NewPage)
     requires writable { IsWritable page.now }
@@ -54,7 +41,7 @@ fn put_page(buffer: &mut Buffer, epoch: u64, page: &NewPage)
     ensures { buffer.new ≡ record { size = buffer.old.size; octets = buffer.old.octets ++ whole_page epoch page.now } }
 {
     let entries = page.entries.as_slice();
-    let used = used_by(entries);
+    let used = page.entries.used();
     buffer.put(&PAGE_MAGIC);
     buffer.put(&epoch.to_be_bytes());
     buffer.put(&page.slot.to_be_bytes());

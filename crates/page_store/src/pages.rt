@@ -33,6 +33,9 @@ pub struct Pages {
     small: Option<u32>,
     noted: Vec<Put>,
     room: usize,
+    // The changes that the last checkpoint wrote. They are of no more use: one is let go with each that is noted, so that no
+    // checkpoint waits until the memory of all of them is given back.
+    spent: Vec<Put>,
     // Whether the changes noted are settled as they stand, and the serial of the last one, or 0.
     settled: bool,
     last: u64,
@@ -90,6 +93,7 @@ fn pages_of(alloc: Global, root: &Root, gathered: Gathered) -> Result<Fetched, N
             small: gathered.small,
             noted: Vec::new(alloc),
             room: 0,
+            spent: Vec::new(alloc),
             settled: true,
             last: 0,
         },
@@ -138,6 +142,7 @@ impl Pages {
         requires record_ { IsRightPut put }
         ensures { self.new ≡ record self.old { noted = self.old.noted ++ put ∷ []; room = self.old.room - 1 } }
     {
+        let _ = self.spent.pop();
         self.settled = stay_settled(self.settled, self.last, &put);
         self.last = put.serial;
         self.noted.push_reserved(put);

@@ -23,6 +23,9 @@ pub fn reread<W: Station>(alloc: Global, w: &mut W, slots: &[u32]) -> Result<Put
     ensures reads { OnlyReads W.now W.content W.history W.speak_faults w.old w.new }
     ensures cause { HasCauseIf (W.disk_faults w.old) (W.disk_faults w.new) (is_plan_disk_fault result) }
 {
+    if slots.is_empty() {
+        return Ok(Puts::new(alloc));
+    }
     match gather(alloc, w, slots, u64::MAX) {
         Ok(gathered) => Ok(gathered.rows),
         Err(PageFault::Damaged(_, _)) => Err(PlanStop::Lost),

@@ -56,8 +56,9 @@ impl Pages {
         };
         match switch_roots(alloc, w, &plan.root, &plan.pages) {
             Ok(()) => {
+                let pages = plan.pages.len();
                 self.adopt(plan);
-                self.keep_list(puts);
+                self.keep_spent(puts, pages);
                 Ok(())
             }
             Err(stop) => Err(stop),

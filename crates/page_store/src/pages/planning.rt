@@ -29,8 +29,10 @@ use pss_base::{NoMemory, Put};
 use pss_disk::Station;
 use std::mem;
 
-// The memory of a list with room for more changes than this is given back.
+// The memory of a list with room for more changes than this, or of changes that fill more pages, is given back at once.
 const MOST_KEPT: usize = 262144;
+
+const MOST_PAGES_KEPT: usize = 1024;
 
 /// What a checkpoint writes: the next root and its new pages. And that of the pages with little in use, where there is one.
 #[derive(Drop)]
@@ -55,13 +57,24 @@ impl Pages {
         ensures settled { IsTrue result.settled → (next : ℕ) × AreSettled result.puts.items next result.puts.items }
         ensures pages { self.new ≡ record self.old { noted = []; room = 0 } }
     {
-        let alloc = *self.noted.allocator();
+        let list = self.spare();
         self.room = 0;
         self.last = 0;
         Noted {
             settled: mem::replace(&mut self.settled, true),
-            puts: mem::replace(&mut self.noted, Vec::new(alloc)),
+            puts: mem::replace(&mut self.noted, list),
         }
+    }
+
+    // The list of the changes that are spent, and none of them.
+    fn spare(&mut self) -> Vec<Put>
+        ensures list { result.items ≡ [] }
+        ensures pages { self.new ≡ self.old }
+    {
+        let alloc = *self.noted.allocator();
+        let mut list = mem::replace(&mut self.spent, Vec::new(alloc));
+        list.clear();
+        list
     }
 
     /// Parts the slots of the root by the changes noted, and takes the objects of these away.
@@ -230,17 +243,14 @@ impl Pages {
         }
     }
 
-    /// Keeps the memory of a list of changes for those that are noted next, where it is not overlarge.
-    pub fn keep_list(&mut self, mut puts: Vec<Put>)
-        requires noted { self.old.noted ≡ [] }
-        requires room { self.old.room ≡ 0 }
+    /// Keeps changes that were written, which fill so many pages, to let them go as others are noted. Where they take much
+    /// memory, it is given back at once.
+    pub fn keep_spent(&mut self, puts: Vec<Put>, pages: usize)
         ensures { self.new ≡ self.old }
     {
-        if puts.capacity() > MOST_KEPT {
-            return;
+        if pages <= MOST_PAGES_KEPT && puts.capacity() <= MOST_KEPT {
+            self.spent = puts;
         }
-        puts.clear();
-        self.noted = puts;
     }
 
     /// Keeps the root that was planned, once it is the current one.

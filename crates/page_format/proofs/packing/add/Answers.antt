@@ -4,6 +4,9 @@ use Rattle.page_format.proofs.Answered.{told_both}
 use Rattle.page_format.proofs.Filling.{filled_begun, filled_put}
 use Rattle.page_format.proofs.packing.add.Goals as goal
 
+pub begin-requires-clause-used : goal.begin-requires-clause-used
+begin-requires-clause-used c = sym c.requires.so_far.packed.used_
+
 pub returns-then-filling-size-gt-MOST_USED-clause-filled : goal.returns-then-filling-size-gt-MOST_USED-clause-filled
 returns-then-filling-size-gt-MOST_USED-clause-filled c =
     told_both c.begin.result c.begin.ensures.filling c.begin.ensures.closed (λ new is closed.

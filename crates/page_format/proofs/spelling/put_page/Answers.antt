@@ -19,13 +19,14 @@ returns c =
     let count = to_be_bytes w32 (length es) in
     let used = to_be_bytes w32 (length (entries_octets es)) in
     let same = c.as_slice-entries.ensures in
+    let in_use = c.used-used.ensures.octets in
     let p1 = first_put b c.put.new.self page_magic page_magic c.put.ensures refl in
     let p2 = put_more b c.put.new.self c.put-2.new.self page_magic c.to_be_bytes.result epoch p1 c.put-2.ensures c.to_be_bytes.ensures in
     let p3 = put_more b c.put-2.new.self c.put-3.new.self (page_magic ++ epoch) c.to_be_bytes-2.result slot p2 c.put-3.ensures c.to_be_bytes-2.ensures in
     let p4 = put_more b c.put-3.new.self c.put-4.new.self ((page_magic ++ epoch) ++ slot) c.to_be_bytes-3.result count p3 c.put-4.ensures (c.to_be_bytes-3.ensures ∙ ap (to_be_bytes w32) (sym (length-left c.as_slice-entries.result.now)) ∙ ap (λ l. to_be_bytes w32 (length l)) same) in
-    let p5 = put_more b c.put-4.new.self c.put-5.new.self (((page_magic ++ epoch) ++ slot) ++ count) c.to_be_bytes-4.result used p4 c.put-5.ensures (c.to_be_bytes-4.ensures ∙ ap (to_be_bytes w32) c.used_by-used.ensures ∙ ap (λ l. to_be_bytes w32 (length (entries_octets l))) same) in
+    let p5 = put_more b c.put-4.new.self c.put-5.new.self (((page_magic ++ epoch) ++ slot) ++ count) c.to_be_bytes-4.result used p4 c.put-5.ensures (c.to_be_bytes-4.ensures ∙ ap (to_be_bytes w32) in_use) in
     let p6 = put_more b c.put-5.new.self c.put-6.new.self ((((page_magic ++ epoch) ++ slot) ++ count) ++ used) page_zeros page_zeros p5 c.put-6.ensures refl in
     let p7 = put_more b c.put-6.new.self c.put_entries.new.buffer (((((page_magic ++ epoch) ++ slot) ++ count) ++ used) ++ page_zeros) (entries_octets (entries_left c.as_slice-entries.result.now)) (entries_octets es) p6 c.put_entries.ensures (ap entries_octets same) in
-    let p8 = put_more b c.put_entries.new.buffer c.put_zeros.new.self ((((((page_magic ++ epoch) ++ slot) ++ count) ++ used) ++ page_zeros) ++ entries_octets es) (replicate (16344 - c.used_by-used.result) 0) (replicate (16344 - length (entries_octets es)) 0) p7 c.put_zeros.ensures
-    (ap (λ n. replicate (16344 - n) 0) (c.used_by-used.ensures ∙ ap (λ l. length (entries_octets l)) same)) in
+    let p8 = put_more b c.put_entries.new.buffer c.put_zeros.new.self ((((((page_magic ++ epoch) ++ slot) ++ count) ++ used) ++ page_zeros) ++ entries_octets es) (replicate (16344 - c.used-used.result) 0) (replicate (16344 - length (entries_octets es)) 0) p7 c.put_zeros.ensures
+    (ap (λ n. replicate (16344 - n) 0) in_use) in
     p8 ∙ ap (and_then b) (page_parts c.args.epoch p)

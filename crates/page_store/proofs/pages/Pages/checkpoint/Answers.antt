@@ -51,22 +51,16 @@ pub returns-in-Ok-switch_roots-clause-made : goal.returns-in-Ok-switch_roots-cla
 returns-in-Ok-switch_roots-clause-made g c =
     all_made c.args.self.now c.args.next c.in-Ok-plan.plan c.plan.new.self c.deref-2.result.now (g.W.Station.content c.args.w.now) (g.W.Station.content c.repack.new.w) c.deref-2.ensures.value c.repack.ensures.reads.same
     (λ old. some_weaker (g.W.Station.content c.args.w.now) _ _ (λ content left may. c.in-Ok-plan.ensures.planned old c.args.self.now content (repacked_by c.args.self.now c.repack.new.self c.in-Ok.repacked.stay c.in-Ok.repacked.puts.items c.deref.result.now content c.in-Ok.ensures.taken c.in-Ok.ensures.stay c.deref.ensures.value left) may) c.in-Ok.ensures.left)
-    c.keep_list.new.self _ (c.keep_list.ensures ∙ c.adopt.ensures) c.in-Ok-switch_roots.ensures.switched c.in-Ok-switch_roots.ensures.placed
+    c.keep_spent.new.self _ (c.keep_spent.ensures ∙ c.adopt.ensures) c.in-Ok-switch_roots.ensures.switched c.in-Ok-switch_roots.ensures.placed
 
 pub returns-in-Ok-switch_roots-clause-quiet : goal.returns-in-Ok-switch_roots-clause-quiet
 returns-in-Ok-switch_roots-clause-quiet g c = then_come _ _ _ _ (read_quiet _ _ _ c.repack.ensures.reads.time) (quiet_before _ _ _ _ c.repack.ensures.reads.still c.switch_roots.ensures.quiet)
 
-pub keep_list-requires-clause-noted : goal.keep_list-requires-clause-noted
-keep_list-requires-clause-noted g c = ap (λ (k : Kept). k.noted) c.adopt.ensures ∙ ap (λ (k : Kept). k.noted) c.plan.ensures.pages ∙ ap (λ (k : Kept). k.noted) c.in-Ok.ensures.taken.pages
-
-pub keep_list-requires-clause-room : goal.keep_list-requires-clause-room
-keep_list-requires-clause-room g c = ap (λ (k : Kept). k.room) c.adopt.ensures ∙ ap (λ (k : Kept). k.room) c.plan.ensures.pages ∙ ap (λ (k : Kept). k.room) c.in-Ok.ensures.taken.pages
-
 pub returns-in-Ok-switch_roots-clause-noted : goal.returns-in-Ok-switch_roots-clause-noted
-returns-in-Ok-switch_roots-clause-noted g c = ap (λ (k : Kept). k.noted) c.keep_list.ensures ∙ ap (λ (k : Kept). k.noted) c.adopt.ensures ∙ ap (λ (k : Kept). k.noted) c.plan.ensures.pages ∙ ap (λ (k : Kept). k.noted) c.in-Ok.ensures.taken.pages
+returns-in-Ok-switch_roots-clause-noted g c = ap (λ (k : Kept). k.noted) c.keep_spent.ensures ∙ ap (λ (k : Kept). k.noted) c.adopt.ensures ∙ ap (λ (k : Kept). k.noted) c.plan.ensures.pages ∙ ap (λ (k : Kept). k.noted) c.in-Ok.ensures.taken.pages
 
 pub returns-in-Ok-switch_roots-clause-room : goal.returns-in-Ok-switch_roots-clause-room
-returns-in-Ok-switch_roots-clause-room g c = ap (λ (k : Kept). k.room) c.keep_list.ensures ∙ ap (λ (k : Kept). k.room) c.adopt.ensures ∙ ap (λ (k : Kept). k.room) c.plan.ensures.pages ∙ ap (λ (k : Kept). k.room) c.in-Ok.ensures.taken.pages
+returns-in-Ok-switch_roots-clause-room g c = ap (λ (k : Kept). k.room) c.keep_spent.ensures ∙ ap (λ (k : Kept). k.room) c.adopt.ensures ∙ ap (λ (k : Kept). k.room) c.plan.ensures.pages ∙ ap (λ (k : Kept). k.room) c.in-Ok.ensures.taken.pages
 
 pub returns-in-Err-switch_roots-clause-stores : goal.returns-in-Err-switch_roots-clause-stores
 returns-in-Err-switch_roots-clause-stores g c =

@@ -73,11 +73,11 @@ step_none : (k : Kind) (rest : Rest) → words_in rest ≡ [] → step k rest �
 unfolding step
 step_none k rest e = rw e refl
 
-step_some : (k : Kind) (rest : Rest) (w : Word) (ws : List Word) → words_in rest ≡ w ∷ ws → step k rest ≡ given (value_of k w.text) (Err w.column) (λ x. Ok (x, w.rest))
+pub step_some : (k : Kind) (rest : Rest) (w : Word) (ws : List Word) → words_in rest ≡ w ∷ ws → step k rest ≡ given (value_of k w.text) (Err w.column) (λ x. Ok (x, w.rest))
 unfolding step
 step_some k rest w ws e = rw e refl
 
-nothing_none : (rest : Rest) → words_in rest ≡ [] → nothing_in rest ≡ Ok tt
+pub nothing_none : (rest : Rest) → words_in rest ≡ [] → nothing_in rest ≡ Ok tt
 unfolding nothing_in
 nothing_none rest e = rw e refl
 

@@ -81,3 +81,8 @@ pub none_found : (c : ℕ) (text behind : List ℕ) (len : ℕ) → behind ≡ b
 none_found c text behind len is at none =
     let gone : behind_blanks text ≡ [] = blanks_end text (ap (prefix_len no_blank) (sym is) ∙ sym at ∙ none) in
     blanks_gone c text ∙ ap (words_from (c + prefix_len is_blank text)) gone
+
+-- behind one blank
+pub one_found : (c : ℕ) (text behind : List ℕ) (len : ℕ) → text ≡ 32 ∷ behind → len ≡ prefix_len no_blank behind → (len ≡ 0 → ⊥) → words_from c text ≡ word_to (c + 1) behind len ∷ words_from (c + 1 + len) (drop len behind)
+one_found c text behind len is at some =
+    ap (words_from c) is ∙ word_first (c + 1) behind (begins_by behind (omega (arith, at, some))) ∙ ap (λ n. word_to (c + 1) behind n ∷ words_from (c + 1 + n) (drop n behind)) (sym at)

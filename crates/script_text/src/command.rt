@@ -1,8 +1,8 @@
 // Lines as commands.
-ghost use Rattle.std.specs.Prelude.{◌≡◌, ◌≤◌, ◌∷◌, length, false, IsTrue, IsSome, IfSome, MatchOption, Ok, Err, codes};
+ghost use Rattle.std.specs.Prelude.{◌≡◌, ◌≤◌, ◌∷◌, ◌++◌, length, false, IsTrue, IsSome, IfSome, MatchOption, Ok, Err, codes};
 ghost use Rattle.pss_machine.specs.declared.command.Command.TheVariants as command;
 ghost use Rattle.pss_machine.specs.Run.{Says};
-ghost use Rattle.script_text.specs.Words.{words, words_in};
+ghost use Rattle.script_text.specs.Words.{begins_word, words, words_in};
 ghost use Rattle.script_text.specs.Spelling as spelling;
 ghost use Rattle.script_text.specs.Spelling.{Reads, is_silent};
 ghost use Rattle.script_text.specs.Telling.{Exactly, Tells};
@@ -12,13 +12,13 @@ ghost use Rattle.script_text.specs.inner.Seen.{seen, seen_word, Gives};
 
 use crate::CommandFault;
 use crate::owned::{own, own_last, own_two};
-use crate::parts::{any_in, choice_in, entry_in, name_in, pid_in, serial_in};
+use crate::parts::{any_in, choice_in, entry_in, entry_of, is_name, name_in, pid_in, serial_in};
 use crate::tail::Tail;
 use crate::verb::{
     AloneVerb, EntryVerb, HomeVerb, KeyVerb, MemberVerb, SessionVerb, TransactionVerb, Verb,
     verb_of,
 };
-use crate::words::{Word, finish, next_word};
+use crate::words::{Word, behind_space, finish, next_word, one_word};
 use pss_base::Bytes;
 use pss_machine::{Command, Rest};
 use std::alloc::Global;
@@ -352,34 +352,55 @@ pub struct GetWords<'a> {
     pub member: &'a [u8],
 }
 
-// The words behind `get`.
+// The words behind `get`, each behind one space, and nothing behind them. None: they are written in another way, or spell no
+// `get`.
 #[inline(always)]
-fn get_words<'a>(tail: Tail<'a>) -> Result<GetWords<'a>, CommandFault>
-    ensures { Gives (λ words. command.Get words.s.now words.entry words.member.now) result (meaning.command_in (Verb.Member MemberVerb.Get) (seen tail.entry)) }
+fn get_words<'a>(tail: Tail<'a>) -> Option<GetWords<'a>>
+    ensures { IfSome result (λ words. meaning.command_in (Verb.Member MemberVerb.Get) (seen tail.entry) ≡ Ok (command.Get words.s.now words.entry words.member.now)) }
 {
-    let (s, tail) = name_in(tail)?;
-    let (entry, tail) = entry_in(tail)?;
-    let (member, tail) = any_in(tail)?;
-    finish(tail)?;
-    Ok(GetWords { s, entry, member })
+    let s = one_word(tail)?;
+    if !is_name(s.text) {
+        return None;
+    }
+    let number = one_word(s.rest)?;
+    let entry = entry_of(number.text)?;
+    let member = one_word(number.rest)?;
+    if !member.rest.text.is_empty() {
+        return None;
+    }
+    Some(GetWords {
+        s: s.text,
+        entry,
+        member: member.text,
+    })
 }
 
-const GET: &[u8] = b"get";
+// What stands behind `get`: a space, and more.
+#[inline(always)]
+fn behind_get(line: &[u8]) -> Option<&[u8]>
+    ensures gets { IfSome result (λ behind. line.now ≡ codes "get" ++ behind.now) }
+    ensures spaced { IfSome result (λ behind. begins_word behind.now ≡ false) }
+{
+    match line {
+        [b'g', b'e', b't', behind @ ..] => match behind_space(behind) {
+            Some(_) => Some(behind),
+            None => None,
+        },
+        _ => None,
+    }
+}
 
-/// The words of a line of at most 65,536 bytes that says a `get`, which are not copied. None: it says something else, or spells no
-/// command.
+/// The words of a line of at most 65,536 bytes that says a `get` by words with one space between them and nothing else, as
+/// programs write it. They are not copied. None: it says something else, or is written in another way.
 #[inline(always)]
 pub fn read_get<'a>(line: &'a [u8]) -> Option<GetWords<'a>>
     requires { length line.now ≤ 65536 }
     ensures { IfSome result (λ words. meaning.meaning line.now ≡ Says (command.Get words.s.now words.entry words.member.now)) }
 {
-    let word = first_word(line)?;
-    if word.text != GET {
-        return None;
-    }
-    match get_words(word.rest) {
-        Ok(words) => Some(words),
-        Err(_) => None,
+    let text = behind_get(line)?;
+    match get_words(Tail { column: 4, text }) {
+        Some(words) => Some(words),
+        None => None,
     }
 }
 

@@ -29,8 +29,9 @@ fn are_name_bytes(bytes: &[u8]) -> bool
 
 const MOST_BEHIND_LETTER: usize = 31;
 
+/// The word is a name.
 #[inline(always)]
-fn is_name(word: &[u8]) -> bool
+pub fn is_name(word: &[u8]) -> bool
     ensures { result ≡ spec.is_name word.now }
 {
     match word.split_first() {
@@ -90,8 +91,9 @@ fn has_leading_zero(digits: &[u8]) -> bool
     digits.len() > 1 && digits[0] == b'0'
 }
 
+/// The number of an entry that a word is.
 #[inline(always)]
-fn read_entry(word: &[u8]) -> Option<u64>
+pub fn entry_of(word: &[u8]) -> Option<u64>
     ensures { result ≡ meaning.entry_of word.now }
 {
     let (first, digits) = word.split_first()?;
@@ -112,7 +114,7 @@ pub fn entry_in<'a>(tail: Tail<'a>) -> Result<(u64, Tail<'a>), CommandFault>
     ensures { Gives (λ x. (x.0, seen x.1)) result (step OfEntry (seen tail.entry)) }
 {
     let word = word_in(tail)?;
-    match read_entry(word.text) {
+    match entry_of(word.text) {
         Some(entry) => Ok((entry, word.rest)),
         None => Err(CommandFault::Column(word.column)),
     }

@@ -1,5 +1,5 @@
 // The words of a line.
-ghost use Rattle.std.specs.Prelude.{◌≡◌, ◌≤◌, [], ◌∷◌, MatchOption, length, not};
+ghost use Rattle.std.specs.Prelude.{◌≡◌, ◌≤◌, [], ◌∷◌, IfSome, MatchOption, length, not};
 ghost use Rattle.std.specs.List.{prefix_len};
 ghost use Rattle.pss_base.specs.Blanks as blanks;
 ghost use Rattle.script_text.specs.Words.{words_in, end_of};
@@ -40,6 +40,39 @@ pub fn next_word<'a>(tail: Tail<'a>) -> Option<Word<'a>>
         return None;
     }
     let column = tail.column + (tail.text.len() - behind.len()) as u32;
+    let (text, after) = behind.split_at(len);
+    Some(Word {
+        text,
+        column,
+        rest: Tail {
+            column: column + len as u32,
+            text: after,
+        },
+    })
+}
+
+/// What stands behind one space.
+#[inline(always)]
+pub fn behind_space(text: &[u8]) -> Option<&[u8]>
+    ensures { IfSome result (λ behind. text.now ≡ 32 ∷ behind.now) }
+{
+    match text {
+        [b' ', behind @ ..] => Some(behind),
+        _ => None,
+    }
+}
+
+/// The first word, where one space stands in front of it. None: another blank does, or more, or no word follows.
+#[inline(always)]
+pub fn one_word<'a>(tail: Tail<'a>) -> Option<Word<'a>>
+    ensures { IfSome result (λ word. words_in (seen tail.entry) ≡ seen_word word ∷ words_in (seen word.rest)) }
+{
+    let behind = behind_space(tail.text)?;
+    let len = count_word(behind);
+    if len == 0 {
+        return None;
+    }
+    let column = tail.column + 1;
     let (text, after) = behind.split_at(len);
     Some(Word {
         text,

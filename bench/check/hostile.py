@@ -160,6 +160,45 @@ def contested_by_heirs(size):
     return filled(size, front, lambda n: f"abstract storagehome h{n:x} of A : I {{ key l{n:x}(a); }};\n", "")
 
 
+def contested_alone(size):
+    """Two homes, of which each gives all names of the text to other keys than the other."""
+    names = range(size // 32)
+    first = "".join(f"key k{n:x}(a);" for n in names)
+    second = "".join(f"key k{n:x}(b);" for n in names)
+    front = f"abstract storagetype A {{ state long a, b; }};\nabstract storagehome I of A {{{first}}};\nabstract storagehome J of A {{{second}}};\n"
+    return filled(size, front, lambda n: f"const long c{n:x} = 1;\n", "")
+
+
+def contested_in_turn(size):
+    """Heirs of two homes take turns, each of which has thousands of keys whose names a third home gives to other keys."""
+    names = range(size // 128)
+    first = "".join(f"key k{n:x}(a);" for n in names)
+    second = "".join(f"key l{n:x}(a);" for n in names)
+    third = "".join(f"key k{n:x}(b);key l{n:x}(b);" for n in names)
+    front = (
+        f"abstract storagetype A {{ state long a, b; }};\nabstract storagehome I of A {{{first}}};\n"
+        f"abstract storagehome J of A {{{second}}};\nabstract storagehome K of A {{{third}}};\n"
+    )
+    return filled(size, front, lambda n: f"abstract storagehome h{n:x} of A : {'IJ'[n % 2]} {{}};\n", "")
+
+
+def contested_own(size):
+    """Heirs of one home with thousands of keys: another home gives their names, and those of a key of each heir, to other keys."""
+    names = range(size // 128)
+    first = "".join(f"key k{n:x}(a);" for n in names)
+    second = "".join(f"key k{n:x}(b);key l{n:x}(b);" for n in names)
+    front = f"abstract storagetype A {{ state long a, b; }};\nabstract storagehome I of A {{{first}}};\nabstract storagehome J of A {{{second}}};\n"
+    return filled(size, front, lambda n: f"abstract storagehome h{n:x} of A : I {{ key l{n:x}(a); }};\n", "")
+
+
+def contested_down_a_chain(size):
+    """Homes in a chain, each with a key of its own whose name another home gives to another key."""
+    names = "".join(f"key k{n:x}(b);" for n in range(size // 80))
+    chain = below("abstract storagehome h", "h", lambda n: f"key k{n:x}(a);")
+    front = f"abstract storagetype A {{ state long a, b; }};\nabstract storagehome J of A {{{names}}};\nabstract storagehome h of A {{}};\n"
+    return filled(size, front, lambda n: chain(n).replace(" : ", " of A : "), "")
+
+
 HOSTILE = [
     factories_under_heirs,
     factories_under_homes,
@@ -178,4 +217,8 @@ HOSTILE = [
     references_over_many_bases,
     contested_names,
     contested_by_heirs,
+    contested_alone,
+    contested_in_turn,
+    contested_own,
+    contested_down_a_chain,
 ]

@@ -73,7 +73,7 @@ all_next p es i d lt h = ap (λ (l : List Entry). list_all p l) (take_more es i 
 apart : (l : Lists) (a b : ℕ) → covers l a ≡ true → covers l b ≡ true → (a == b) ≡ false → are_several l ≡ true
 apart Nothing a b h k ne = absurd (cc)
 apart (One first) a b h k ne = let same : a ≡ b = sym (eqb-true first a h) ∙ eqb-true first b k in absurd (cc (eq-eqb a b same))
-apart Several a b h k ne = refl
+apart (Several first) a b h k ne = refl
 
 not_true : (b : Bool) → not b ≡ true → b ≡ false
 not_true true h = absurd (cc)

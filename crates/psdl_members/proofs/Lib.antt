@@ -11,3 +11,12 @@ pub mod Entering
 pub mod Listing
 pub mod Entered
 pub mod Owning
+pub mod Bits
+pub mod Tables
+pub mod Grouping
+pub mod Ordering
+pub mod Sights
+pub mod Claiming
+pub mod Shown
+pub mod Meeting
+pub mod Telling

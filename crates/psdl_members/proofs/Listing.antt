@@ -12,9 +12,10 @@ use Rattle.psdl_directory.specs.Declarations.{What, IsModule, IsConstant, IsAlia
 use Rattle.psdl_directory.specs.Parts.{abstract_key, abstract_factory, concrete_key, concrete_factory}
 use Rattle.psdl_directory.specs.Lookup.{at, nothing, lower}
 use Rattle.psdl_lineage.specs.Descent.{ancestry, Listed, same_list, same_listed, without_repeats, listed_key, listed_factory}
-use Rattle.psdl_lineage.specs.Graph.{graph_of}
+use Rattle.psdl_lineage.specs.Graph.{graph_of, ancestry_in}
 use Rattle.psdl_lineage.specs.Sources.{is_own, contributors_in}
 use Rattle.psdl_lineage.proofs.Inherited.{inherited}
+use Rattle.psdl_lineage.proofs.Texts.{ancestry_is}
 use Rattle.psdl_members.specs.declared.entry.Entry.{Entry}
 use Rattle.psdl_members.specs.declared.list_kind.ListKind.{ListKind}
 use Rattle.psdl_members.specs.declared.list_kind.ListKind.TheVariants as kinds
@@ -134,3 +135,7 @@ clash_by_sources kind all r graph own n sources alike g none e =
     ∙ ap (λ (l : List Entry). some_clash entries_clash l) (sym (inherited (row_of r) all own n none))
     ∙ alike (ancestry all n)
     ∙ home_clash kind all n
+
+-- from all of them
+pub clash_by_descent : (kind : ListKind) (all : List Declaration) (r : Rows) (n : ℕ) → ClashAlike kind all r → some_clash entries_clash (flat_map (row_of r) (ancestry_in (graph_of all) n)) ≡ not (are_distinct lists_clash (home_lists kind all n))
+clash_by_descent kind all r n alike = ap (λ (l : List ℕ). some_clash entries_clash (flat_map (row_of r) l)) (sym (ancestry_is all n)) ∙ alike (ancestry all n) ∙ home_clash kind all n

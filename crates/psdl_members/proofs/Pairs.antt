@@ -90,7 +90,7 @@ or_false : (b : Bool) → b || false ≡ b
 or_false true = refl
 or_false false = refl
 
-any_once : {A : Type 0} (same : A → A → Bool) → ((a b : A) → same a b ≡ true → a ≡ b) → (p : A → Bool) (xs : List A) → list_any p (without_repeats same xs) ≡ list_any p xs
+pub any_once : {A : Type 0} (same : A → A → Bool) → ((a b : A) → same a b ≡ true → a ≡ b) → (p : A → Bool) (xs : List A) → list_any p (without_repeats same xs) ≡ list_any p xs
 any_once same one p xs = sym (or_false (list_any p (without_repeats same xs))) ∙ any_fresh same one p [] xs ∙ or_false (list_any p xs)
 
 pub repeats_clash : {A : Type 0} (same : A → A → Bool) → ((a b : A) → same a b ≡ true → a ≡ b) → (clash : A → A → Bool) (xs : List A) → some_clash clash (without_repeats same xs) ≡ some_clash clash xs
@@ -119,7 +119,7 @@ kept_or : (b p rest kept : Bool) (f : Bool → Bool) → f true ≡ p || kept �
 kept_or true p rest kept f on off e = on ∙ ap (λ (r : Bool). p || r) e
 kept_or false p rest kept f on off e = off ∙ e
 
-any_kept : {A : Type 0} (test p : A → Bool) (xs : List A) → list_any p (filter test xs) ≡ list_any (λ x. test x && p x) xs
+pub any_kept : {A : Type 0} (test p : A → Bool) (xs : List A) → list_any p (filter test xs) ≡ list_any (λ x. test x && p x) xs
 any_kept test p [] = refl
 any_kept test p (x ∷ xs) =
     kept_or (test x) (p x) (list_any (λ y. test y && p y) xs) (list_any p (filter test xs)) (λ (b : Bool). list_any p (cond b (x ∷ filter test xs) (filter test xs))) refl refl (any_kept test p xs)

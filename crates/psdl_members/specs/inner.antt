@@ -13,4 +13,7 @@ pub mod Contested
 pub mod Firsts
 pub mod Room
 pub mod Had
-pub mod Asked
+pub mod Bits
+pub mod Seeing
+pub mod Claims
+pub mod Heirs

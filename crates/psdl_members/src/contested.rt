@@ -15,12 +15,12 @@ use psdl_directory::Directory;
 use pss_base::NoMemory;
 use std::alloc::Global;
 
-/// The lists that came with a name so far.
+/// The lists that came with a name so far, by the first of them.
 #[derive(Clone, Copy)]
-enum Lists {
+pub(crate) enum Lists {
     Nothing,
     One(usize),
-    Several,
+    Several(usize),
 }
 
 fn more_lists(lists: Lists, list: usize) -> Lists
@@ -33,10 +33,10 @@ fn more_lists(lists: Lists, list: usize) -> Lists
             if first == list {
                 Lists::One(first)
             } else {
-                Lists::Several
+                Lists::Several(first)
             }
         }
-        Lists::Several => Lists::Several,
+        Lists::Several(first) => Lists::Several(first),
     }
 }
 
@@ -58,8 +58,8 @@ fn add_each(lists: &mut Vec<Lists>, entries: &[Entry])
     }
 }
 
-// The lists of each name.
-fn lists_of_names(alloc: Global, rows: &Rows) -> Result<Vec<Lists>, NoMemory>
+/// The lists of each name.
+pub(crate) fn lists_of_names(alloc: Global, rows: &Rows) -> Result<Vec<Lists>, NoMemory>
     ensures { IfOk result (λ v. list_all (is_covered v.items) rows.now.entries.items ≡ true) }
 {
     let mut lists = vec![in alloc; Lists::Nothing; rows.names]?;
@@ -73,7 +73,7 @@ fn are_several(lists: Lists) -> bool
     match lists {
         Lists::Nothing => false,
         Lists::One(_) => false,
-        Lists::Several => true,
+        Lists::Several(_) => true,
     }
 }
 

@@ -2,11 +2,12 @@
 ghost use Rattle.std.specs.Prelude.{◌≡◌};
 ghost use Rattle.psdl_lineage.specs.Graph.{graph_of};
 ghost use Rattle.psdl_lineage.specs.Lineages.{text_of};
-ghost use Rattle.psdl_members.specs.inner.Asked.{IsAnswered};
 ghost use Rattle.psdl_members.specs.inner.Had.{AreHad, AreFlags, Fits};
+ghost use Rattle.psdl_members.specs.inner.Heirs.{AreClashes};
 
-use crate::asked::Asked;
+use crate::clashes::Clashes;
 use crate::firsts::Firsts;
+use crate::list_clash::lists_clash;
 use crate::member::Member;
 use crate::own::{Own, own_of, owners};
 use crate::owners::members_of;
@@ -23,12 +24,12 @@ pub struct Inherited<'l, 'd> {
     sources: Sources<'l>,
     own: Own,
     firsts: Firsts,
-    asked: Asked,
+    clashes: Clashes,
     ghost graphed: { sources.graph ≡ graph_of (text_of lineage.now) },
     ghost flagged: { AreFlags (text_of lineage.now) own sources.own },
     ghost had: { AreHad (text_of lineage.now) own },
     ghost fits: { Fits own firsts },
-    ghost answered: { IsAnswered own.lists asked },
+    ghost told: { AreClashes (graph_of (text_of lineage.now)) own.lists clashes.flags.items },
 }
 
 impl<'l, 'd> Inherited<'l, 'd> {
@@ -53,13 +54,13 @@ impl<'l, 'd> Inherited<'l, 'd> {
         let flags = owners(alloc, lineage.directory(), &own)?;
         let sources = Sources::new(alloc, lineage, flags)?;
         let firsts = Firsts::new(alloc, own.most_names())?;
-        let asked = Asked::new(alloc);
+        let clashes = Clashes::new(alloc);
         Ok(Inherited {
             lineage,
             sources,
             own,
             firsts,
-            asked,
+            clashes,
         })
     }
 
@@ -94,13 +95,34 @@ impl<'l, 'd> Inherited<'l, 'd> {
         Ok(clash)
     }
 
-    fn lists_clash(&mut self, alloc: Global, number: DeclarationNo) -> Result<bool, NoMemory>
+    // By what a home descends from, where it, or a declaration in front of it, names one that is not in front of itself.
+    // That is a fault in the header, so no home behind it is asked about.
+    fn lists_clash_apart(&mut self, alloc: Global, number: DeclarationNo) -> Result<bool, NoMemory>
         ensures same { inherited_in self.new ≡ inherited_in self.old }
         ensures clash { IfOk result (λ r. r ≡ (not (are_distinct clashes.lists_clash (home_keys (inherited_in self.old) number)) || not (are_distinct clashes.lists_clash (home_factories (inherited_in self.old) number)))) }
     {
         let sources = self.sources.of(alloc, number)?;
-        let clash = self.asked.clash(&mut self.firsts, &self.own.lists, sources);
+        let clash = lists_clash(&mut self.firsts, &self.own.lists, &sources);
         Ok(clash)
+    }
+
+    // Finds out what clashes, unless that was done.
+    fn learn(&mut self, alloc: Global) -> Result<(), NoMemory>
+        ensures { inherited_in self.new ≡ inherited_in self.old }
+    {
+        self.clashes
+            .learn(alloc, self.lineage.graph(), &self.own.lists)
+    }
+
+    fn lists_clash(&mut self, alloc: Global, number: DeclarationNo) -> Result<bool, NoMemory>
+        ensures same { inherited_in self.new ≡ inherited_in self.old }
+        ensures clash { IfOk result (λ r. r ≡ (not (are_distinct clashes.lists_clash (home_keys (inherited_in self.old) number)) || not (are_distinct clashes.lists_clash (home_factories (inherited_in self.old) number)))) }
+    {
+        self.learn(alloc)?;
+        match self.clashes.of(number.index()) {
+            Some(clash) => Ok(clash),
+            None => self.lists_clash_apart(alloc, number),
+        }
     }
 
     /// Whether a type has two members, or a home two keys or two factories, that clash: their names are equal but for case

@@ -2,16 +2,22 @@
 //! those by descent.
 #![tactic(auto)]
 
-mod asked;
+mod claims;
+mod clashes;
+mod columns;
 mod contested;
 mod entries;
 mod entry;
 mod firsts;
+mod group;
+mod heirs;
+mod in_order;
 mod inherited;
 mod list_clash;
 mod list_kind;
 mod list_numbers;
 mod listed;
+mod masks;
 mod member;
 mod numbers;
 mod own;
@@ -20,6 +26,8 @@ mod own_members;
 mod owners;
 mod pieces;
 mod rows;
+mod seen;
+mod showing;
 mod spelled;
 mod type_clash;
 mod written;

@@ -1,44 +1,24 @@
-use Rattle.std.proofs.Common.{◌∙◌, Bool, ◌||◌, not, ap}
+use Rattle.std.proofs.Common.{◌≡◌, ◌∙◌, ◌<◌, ◌||◌, ℕ, Bool, false, not, length, get_or, ap}
 use Rattle.type_layout.specs.Sound.{are_distinct}
 use Rattle.psdl_lineage.specs.Descent.{home_keys}
+use Rattle.psdl_lineage.specs.Graph.{graph_of}
 use Rattle.psdl_lineage.specs.Lineages.{text_of}
 use Rattle.psdl_members.specs.declared.list_kind.ListKind.TheVariants as kinds
 use Rattle.psdl_members.specs.Clashes as clashes
-use Rattle.psdl_members.specs.inner.Clashing.{some_clash, entries_clash}
-use Rattle.psdl_members.specs.inner.Rowed.{row_of}
-use Rattle.std.specs.List.{flat_map}
-use Rattle.psdl_members.proofs.Listing.{clash_by_sources}
-use Rattle.psdl_members.proofs.Owning.{fits_kept}
+use Rattle.psdl_members.specs.inner.Heirs.{clashes_by_descent}
+use Rattle.psdl_members.proofs.Listing.{clash_by_descent}
 use Rattle.psdl_members.proofs.inherited.Inherited.lists_clash.Goals as goal
 
-pub returns-clause-clash : goal.returns-clause-clash
-returns-clause-clash c =
-    let self = c.args.self.now in
+pub returns-in-Some-clause-clash : goal.returns-in-Some-clause-clash
+returns-in-Some-clause-clash c =
+    let self = c.learn.new.self in
     let all = text_of self.lineage.now in
     let lists = self.own.lists in
-    let sources = c.in_ok-sources.sources.items in
-    c.clash-clash.ensures.clash
-    ∙ (ap (λ (b : Bool). b || some_clash entries_clash (flat_map (row_of lists.factories) sources))
-    (clash_by_sources kinds.Key all lists.keys self.sources.graph self.sources.own c.args.number sources self.had.listed.keyed self.graphed self.flagged.keys c.in_ok-sources.ensures.sources)
-    ∙ ap (λ (b : Bool). not (are_distinct clashes.lists_clash (home_keys all c.args.number)) || b)
-    (clash_by_sources kinds.Factory all lists.factories self.sources.graph self.sources.own c.args.number sources self.had.listed.made self.graphed self.flagged.factories c.in_ok-sources.ensures.sources))
-
-pub clash-clash-requires-clause-keys : goal.clash-clash-requires-clause-keys
-clash-clash-requires-clause-keys c = c.args.self.now.fits.keys
-
-pub clash-clash-requires-clause-factories : goal.clash-clash-requires-clause-factories
-clash-clash-requires-clause-factories c = c.args.self.now.fits.factories
-
-pub invariant_of-self-2 : goal.invariant_of-self-2
-invariant_of-self-2 c =
-    let self = c.args.self.now in
-    record {
-      graphed = rw c.of.ensures.same self.graphed;
-      flagged = rw c.of.ensures.same self.flagged;
-      had = self.had;
-      fits = fits_kept self.own self.firsts c.clash-clash.new.firsts c.clash-clash.ensures.room self.fits;
-      answered = c.clash-clash.ensures.answered;
-    }
-
-pub clash-clash-requires-clause-answered : goal.clash-clash-requires-clause-answered
-clash-clash-requires-clause-answered c = c.args.self.now.answered
+    let n : ℕ = c.args.number in
+    let flag : c.in-Some.clash ≡ get_or self.clashes.flags.items n false = rw c.index.ensures at c.in-Some.ensures.told in
+    let within : n < length self.clashes.flags.items = rw c.index.ensures at c.in-Some.ensures.within in
+    rw c.in_ok-learn.ensures at
+    (flag
+    ∙ self.told n within
+    ∙ ap (λ (b : Bool). b || clashes_by_descent (graph_of all) lists.factories n) (clash_by_descent kinds.Key all lists.keys n self.had.listed.keyed)
+    ∙ ap (λ (b : Bool). not (are_distinct clashes.lists_clash (home_keys all n)) || b) (clash_by_descent kinds.Factory all lists.factories n self.had.listed.made))

@@ -26,5 +26,5 @@ invariant_of-self-2 c =
       flagged = rw c.of.ensures.same self.flagged;
       had = self.had;
       fits = fits_kept self.own self.firsts (record { marks = c.have_clash-clash.new.marks; lists = self.firsts.lists }) (record { marks = c.have_clash-clash.ensures.sized; lists = refl }) self.fits;
-      answered = self.answered;
+      told = self.told;
     }

@@ -1,5 +1,6 @@
 use Rattle.std.proofs.Common.{◌≡◌, length, map}
 use Rattle.std.specs.List.{range_with_len}
+use Rattle.psdl_lineage.specs.Graph.{graph_of}
 use Rattle.psdl_lineage.specs.Lineages.{text_of}
 use Rattle.psdl_members.specs.inner.Had.{has_own}
 use Rattle.psdl_members.proofs.Owning.{are_flags, fits_by}
@@ -14,5 +15,5 @@ invariant_of-result c =
       flagged = rw c.in_ok-sources.ensures.own (are_flags all c.args.own c.in_ok-flags.flags.items c.requires flags);
       had = c.requires;
       fits = fits_by c.args.own c.in_ok-firsts.firsts c.most_names.result c.most_names.ensures c.in_ok-firsts.ensures;
-      answered = c.new-asked.ensures c.args.own.lists;
+      told = c.new-clashes.ensures (graph_of all) c.args.own.lists;
     }

@@ -1,5 +1,5 @@
 -- Faults of lists that would not be the least.
-use Rattle.std.proofs.Common.{◌≡◌, ℕ, ◌≤◌, List, [], ◌∷◌, ◌++◌, Bool, true, false, ◌||◌, ◌&&◌, ◌==◌, nat_lt, not, Option, Some, None, refl, ap, ◌∙◌, arith}
+use Rattle.std.proofs.Common.{◌≡◌, List, [], ◌∷◌, ◌++◌, Bool, true, false, ◌||◌, not, Option, Some, None, refl, ap, ◌∙◌}
 use Rattle.std.specs.List.{flat_map, list_any, find}
 use Rattle.psdl_tree.specs.declared.names.Identifier.{Identifier}
 use Rattle.psdl_tree.specs.Trees.{Key, Factory}
@@ -9,10 +9,10 @@ use Rattle.psdl_directory.specs.declared.fault.CheckFault.{CheckFault}
 use Rattle.psdl_directory.specs.declared.fault.CheckKind.{CheckKind}
 use Rattle.psdl_directory.specs.declared.fault.CheckKind.TheVariants.{KeyMember, KeyType, FactoryMember}
 use Rattle.psdl_directory.specs.Declarations.{Declaration}
-use Rattle.psdl_directory.specs.Fault.{number, fault_if}
+use Rattle.psdl_directory.specs.Fault.{is_before, fault, fault_if}
 use Rattle.psdl_directory.specs.Noting.{noting, comes_first}
 use Rattle.psdl_directory.specs.Parts.{key_list, factory_list}
-use Rattle.psdl_directory.proofs.Noting.{noting-append, late}
+use Rattle.psdl_directory.proofs.Noting.{noting-append, late, not_after_both, not_after_alike}
 use Rattle.psdl_lineage.specs.Descent.{StateMember}
 use Rattle.psdl_standings.specs.Standings.{Standing}
 use Rattle.psdl_rules.specs.Words.{is_called, same_name, listed_wrong}
@@ -20,16 +20,27 @@ use Rattle.psdl_rules.specs.Faults.KeyType.{is_compound, keyed_wrong}
 use Rattle.psdl_rules.specs.inner.Early.{is_early, key_early, factory_early}
 use Rattle.psdl_rules.specs.inner.Listing.{listed_faults}
 
-later_plain : (p q m n : ℕ) → 8 ≤ n → (nat_lt q p || ((q == p) && nat_lt 8 m)) ≡ false → (nat_lt q p || ((q == p) && nat_lt n m)) ≡ false
-later_plain p q m n le h = grind arith
+-- the kinds of the faults of lists, in their order
+no_key_members : is_before KeyMember KeyMember ≡ false
+unfolding is_before
+no_key_members = refl
+
+no_key_types : is_before KeyType KeyMember ≡ false
+unfolding is_before
+no_key_types = refl
+
+no_factory_members : is_before FactoryMember KeyMember ≡ false
+unfolding is_before
+no_factory_members = refl
 
 -- a later kind at one place
-later : (first : Option CheckFault) (kind : CheckKind) (place : Place) → 8 ≤ number kind → comes_first first KeyMember place ≡ false → comes_first first kind place ≡ false
-later None kind place le h = absurd (cc)
-later (Some f) kind place le h = later_plain f.place.offset place.offset (number f.kind) (number kind) le h
+later : (first : Option CheckFault) (kind : CheckKind) (place : Place) → is_before kind KeyMember ≡ false → comes_first first KeyMember place ≡ false → comes_first first kind place ≡ false
+later None kind place late h = absurd (cc)
+later (Some f) kind place late h = not_after_both f (fault KeyMember place) (fault kind place) h (not_after_alike kind KeyMember place late)
 
-pub late_at : (first : Option CheckFault) (kind : CheckKind) (i : Identifier) (holds : Bool) → 8 ≤ number kind → is_early first i ≡ false → noting first (fault_if holds kind i.place) ≡ first
-late_at first kind i holds le h = late first kind i.place holds (later first kind i.place le h)
+pub late_at : (first : Option CheckFault) (kind : CheckKind) (i : Identifier) (holds : Bool) → is_before kind KeyMember ≡ false → is_early first i ≡ false
+    → noting first (fault_if holds kind i.place) ≡ first
+late_at first kind i holds behind h = late first kind i.place holds (later first kind i.place behind h)
 
 either : (a b : Bool) → a || b ≡ false → (a ≡ false) × (b ≡ false)
 either true b h = absurd (cc)
@@ -45,34 +56,28 @@ late_all first early f none (x ∷ xs) h =
     ∙ ap (λ (o : Option CheckFault). noting o (flat_map f xs)) (none x both.0)
     ∙ late_all first early f none xs both.1
 
-pub late_listed : (first : Option CheckFault) (kind : CheckKind) (ms : List StateMember) (earlier is : List Identifier) → 8 ≤ number kind → list_any (is_early first) is ≡ false → noting first (listed_wrong kind ms earlier is) ≡ first
-late_listed first kind ms earlier [] le h = refl
-late_listed first kind ms earlier (i ∷ is) le h =
+pub late_listed : (first : Option CheckFault) (kind : CheckKind) (ms : List StateMember) (earlier is : List Identifier) → is_before kind KeyMember ≡ false → list_any (is_early first) is ≡ false → noting first (listed_wrong kind ms earlier is) ≡ first
+late_listed first kind ms earlier [] behind h = refl
+late_listed first kind ms earlier (i ∷ is) behind h =
     let both = either (is_early first i) (list_any (is_early first) is) h in
     let wrong = not (list_any (is_called i) ms) || list_any (same_name i) earlier in
     noting-append first (fault_if wrong kind i.place) (listed_wrong kind ms (i ∷ earlier) is)
-    ∙ ap (λ (o : Option CheckFault). noting o (listed_wrong kind ms (i ∷ earlier) is)) (late_at first kind i wrong le both.0)
-    ∙ late_listed first kind ms (i ∷ earlier) is le both.1
+    ∙ ap (λ (o : Option CheckFault). noting o (listed_wrong kind ms (i ∷ earlier) is)) (late_at first kind i wrong behind both.0)
+    ∙ late_listed first kind ms (i ∷ earlier) is behind both.1
 
 late_keyed_one : (all : List Declaration) (done : List Standing) (first : Option CheckFault) (ms : List StateMember) (i : Identifier) → is_early first i ≡ false → noting first (keyed_wrong all done ms i) ≡ first
 late_keyed_one all done first ms i h = by (find (is_called i) ms)
   where
-    nine : 8 ≤ number KeyType
-    nine = omega arith
-
     by : (o : Option StateMember) → noting first (given o [] (λ m. fault_if (is_compound all done m) KeyType i.place)) ≡ first
     by None = refl
-    by (Some m) = late_at first KeyType i (is_compound all done m) nine h
+    by (Some m) = late_at first KeyType i (is_compound all done m) no_key_types h
 
 pub late_keyed : (all : List Declaration) (done : List Standing) (first : Option CheckFault) (ms : List StateMember) (is : List Identifier) → list_any (is_early first) is ≡ false
     → noting first (flat_map (keyed_wrong all done ms) is) ≡ first
 late_keyed all done first ms is h = late_all first (is_early first) (keyed_wrong all done ms) (late_keyed_one all done first ms) is h
 
 late_key_members : (first : Option CheckFault) (ms : List StateMember) (keys : List Key) → list_any (key_early first) keys ≡ false → noting first (flat_map (λ k. listed_wrong KeyMember ms [] (key_list k)) keys) ≡ first
-late_key_members first ms keys h = late_all first (key_early first) (λ k. listed_wrong KeyMember ms [] (key_list k)) (λ k e. late_listed first KeyMember ms [] (key_list k) eight e) keys h
-  where
-    eight : 8 ≤ number KeyMember
-    eight = omega arith
+late_key_members first ms keys h = late_all first (key_early first) (λ k. listed_wrong KeyMember ms [] (key_list k)) (λ k e. late_listed first KeyMember ms [] (key_list k) no_key_members e) keys h
 
 late_key_types : (all : List Declaration) (done : List Standing) (first : Option CheckFault) (ms : List StateMember) (keys : List Key) → list_any (key_early first) keys ≡ false
     → noting first (flat_map (λ k. flat_map (keyed_wrong all done ms) (key_list k)) keys) ≡ first
@@ -80,10 +85,7 @@ late_key_types all done first ms keys h = late_all first (key_early first) (λ k
 
 late_factories : (first : Option CheckFault) (ms : List StateMember) (factories : List Factory) → list_any (factory_early first) factories ≡ false
     → noting first (flat_map (λ f. listed_wrong FactoryMember ms [] (factory_list f)) factories) ≡ first
-late_factories first ms factories h = late_all first (factory_early first) (λ f. listed_wrong FactoryMember ms [] (factory_list f)) (λ f e. late_listed first FactoryMember ms [] (factory_list f) ten e) factories h
-  where
-    ten : 8 ≤ number FactoryMember
-    ten = omega arith
+late_factories first ms factories h = late_all first (factory_early first) (λ f. listed_wrong FactoryMember ms [] (factory_list f)) (λ f e. late_listed first FactoryMember ms [] (factory_list f) no_factory_members e) factories h
 
 -- the lists of a home
 pub late_lists : (all : List Declaration) (done : List Standing) (first : Option CheckFault) (ms : List StateMember) (keys : List Key) (factories : List Factory)

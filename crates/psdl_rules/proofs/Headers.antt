@@ -7,22 +7,24 @@ use Rattle.std.proofs.lemmas.List.Folds.{list_all-append, list_all-map}
 use Rattle.psdl_tree.specs.Trees.{Name, Provision}
 use Rattle.type_layout.specs.Schemas.{given}
 use Rattle.psdl_directory.specs.declared.fault.CheckFault.{CheckFault}
-use Rattle.psdl_directory.specs.declared.fault.CheckKind.TheVariants.{Incomplete, HomeType, Provides}
+use Rattle.psdl_directory.specs.declared.fault.CheckKind.TheVariants.{Incomplete, NotImplemented, HomeType, Provides}
 use Rattle.psdl_directory.specs.declared.uses.Use.{Use}
 use Rattle.psdl_directory.specs.Declarations.{What, Declaration}
 use Rattle.psdl_directory.specs.Fault.{fault_if}
 use Rattle.psdl_directory.specs.Headers.{used, header, header_of}
 use Rattle.psdl_directory.specs.Lookup.{at, nothing, named, defines, definition, origin, place_of}
 use Rattle.psdl_directory.specs.Parts.{parents, bases, implemented, managed, provided}
-use Rattle.psdl_lineage.specs.Descent.{type_of_home, provider}
+use Rattle.psdl_lineage.specs.Descent.{type_of_home, conforms, provider}
 use Rattle.psdl_standings.specs.Selves.{of_itself}
 use Rattle.psdl_rules.specs.Words as words
-use Rattle.psdl_rules.specs.Words.{of_types, has_whole_header}
+use Rattle.psdl_rules.specs.Words.{type_of_named, of_types, has_whole_header}
 use Rattle.psdl_rules.specs.Faults.Incomplete.{is_defined_by, of_forward}
 use Rattle.psdl_rules.specs.Faults.HomeType.{differs_from_base, is_other_kind, has_wrong_type, home_type}
 use Rattle.psdl_rules.specs.Faults.NotImplemented.{of_implemented}
 use Rattle.psdl_rules.specs.Faults.Provides.{of_provision, not_provided}
 use Rattle.psdl_rules.specs.inner.Headed.{no_header, above, are_meant, forward_use, own_use, implemented_use, differs_as_base, managed_use, provided_use, AreThere}
+use Rattle.psdl_rules.specs.declared.home_types.HomeTypes.{HomeTypes}
+use Rattle.psdl_rules.specs.inner.Pairs.{both}
 use Rattle.psdl_rules.proofs.Foremost.{first_there}
 
 pub no_names : (all : List Declaration) (n : ℕ) → length all ≤ n → header all n ≡ no_header
@@ -64,13 +66,21 @@ own_is all n name = refl
 
 -- ---- homes
 
+-- what is asked of both types
+both_types : (own named : Option ℕ) (test : ℕ → ℕ → Bool) → given (both own named) false (λ (p : HomeTypes). test p.own p.named) ≡ given own false (λ t. given named false (λ u. test t u))
+both_types None named test = refl
+both_types (Some t) None test = refl
+both_types (Some t) (Some u) test = refl
+
 pub implemented_is : (all : List Declaration) (n : ℕ) (name : Name) → implemented_use all (type_of_home all n) (used all (n + 1) n name) ≡ of_implemented all n name
-implemented_is all n name = refl
+implemented_is all n name = ap (λ (b : Bool). fault_if b NotImplemented (place_of name)) (both_types (type_of_home all n) (type_of_named all n name) (λ t u. not (conforms all t u)))
 
 bases_differ : (all : List Declaration) (n : ℕ) (what : What) (names : List Name)
     → list_any (differs_as_base all what (type_of_home all n)) (map (used all (n + 1) n) names) ≡ list_any (of_types all n (differs_from_base all what)) names
 bases_differ all n what [] = refl
-bases_differ all n what (name ∷ names) = ap (λ (b : Bool). of_types all n (differs_from_base all what) name || b) (bases_differ all n what names)
+bases_differ all n what (name ∷ names) =
+    ap (λ (b : Bool). b || list_any (differs_as_base all what (type_of_home all n)) (map (used all (n + 1) n) names)) (both_types (type_of_home all n) (type_of_named all n name) (differs_from_base all what))
+    ∙ ap (λ (b : Bool). of_types all n (differs_from_base all what) name || b) (bases_differ all n what names)
 
 managed_is : (all : List Declaration) (n : ℕ) (name : Name)
     → managed_use all n (at all n).what (header all n).bases (used all (n + 1) n name) ≡ fault_if (has_wrong_type all n (at all n).what name) HomeType (place_of name)

@@ -1,12 +1,10 @@
--- All faults of a text. The conditions, each in a file of its own, and all in the order of their numbers:
---
--- C1 Redefined, C2 Unknown, C3 WrongCase, C4 WrongKind, C5 Incomplete, C6 Cycle, C7 MemberClash, C8 KeyMember, C9 KeyType,
--- C10 FactoryMember, C11 NotImplemented, C12 HomeType, C13 FamilyType, C14 ConstRange, C15 ConstZero, C16 Provides, C17 Limit.
---
+-- All faults of a text. The conditions, each in a file of its own, and the table of their kinds, in the order of their numbers.
 -- `Words` has what several of them share.
-use Rattle.std.specs.Prelude.{ℕ, List, ◌++◌}
+use Rattle.std.specs.Prelude.{ℕ, codes, List, ◌++◌}
 use Rattle.std.specs.List.{flat_map}
 use Rattle.psdl_directory.specs.declared.fault.CheckFault.{CheckFault}
+use Rattle.psdl_directory.specs.declared.fault.CheckKind.{CheckKind}
+use Rattle.psdl_directory.specs.declared.fault.CheckKind.TheVariants as kinds
 use Rattle.psdl_directory.specs.Declarations.{Declaration}
 use Rattle.psdl_directory.specs.Fault.{each}
 use Rattle.psdl_standings.specs.Naming.{of_strings}
@@ -47,6 +45,33 @@ pub mod ConstRange
 pub mod ConstZero
 pub mod Provides
 pub mod Limit
+
+-- the number of a kind, and its text; want of memory is none of them
+abbrev pub row : CheckKind → ℕ × List ℕ
+row kinds.Redefined = (1, codes "C1 Redefined")
+row kinds.Unknown = (2, codes "C2 Unknown")
+row kinds.WrongCase = (3, codes "C3 WrongCase")
+row kinds.WrongKind = (4, codes "C4 WrongKind")
+row kinds.Incomplete = (5, codes "C5 Incomplete")
+row kinds.Cycle = (6, codes "C6 Cycle")
+row kinds.MemberClash = (7, codes "C7 MemberClash")
+row kinds.KeyMember = (8, codes "C8 KeyMember")
+row kinds.KeyType = (9, codes "C9 KeyType")
+row kinds.FactoryMember = (10, codes "C10 FactoryMember")
+row kinds.NotImplemented = (11, codes "C11 NotImplemented")
+row kinds.HomeType = (12, codes "C12 HomeType")
+row kinds.FamilyType = (13, codes "C13 FamilyType")
+row kinds.ConstRange = (14, codes "C14 ConstRange")
+row kinds.ConstZero = (15, codes "C15 ConstZero")
+row kinds.Provides = (16, codes "C16 Provides")
+row kinds.Limit = (17, codes "C17 Limit")
+row kinds.NoMemory = (18, codes "NoMemory")
+
+abbrev pub number : CheckKind → ℕ
+number kind = (row kind).0
+
+abbrev pub text : CheckKind → List ℕ
+text kind = (row kind).1
 
 -- the names in bodies: C2, C3 and C4
 abbrev pub wrong_names : List Declaration → List Standing → ℕ → Declaration → List CheckFault

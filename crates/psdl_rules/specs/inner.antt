@@ -8,3 +8,4 @@ pub mod Typed
 pub mod Early
 pub mod Listing
 pub mod Tables
+pub mod Pairs

@@ -1,14 +1,9 @@
-// The least of all faults of a text. The conditions, each in a file of its own, and all in the order of their numbers:
+// The least of all faults of a text, and the table of kinds. The conditions, each in a file of its own, go over all declarations.
 //
-// C1 redefined; C2 unknown, C3 wrong_case and C4 wrong_kind, in psdl_standings, as bodies are walked; C5 incomplete; C6 cycle;
-// C7 member_clash; C8 key_member, C9 key_type and C10 factory_member, in one pass, home_lists; C11 not_implemented;
-// C12 home_type; C13 family_type; C14 const_range and C15 const_zero, in psdl_standings, as bodies are walked; C16 provides;
-// C17 limit.
-//
-// Each goes over all declarations. C17 comes before what goes by members: so a list of members is never long where that
-// could still matter.
-ghost use Rattle.std.specs.Prelude.{◌≡◌, IfOk, OnOk};
-ghost use Rattle.psdl_directory.specs.Fault.{least as least_of};
+// C2, C3, C4, C14 and C15 are found in psdl_standings, as bodies are walked; C8, C9 and C10 in one pass, home_lists. C17 comes
+// before what goes by members: so a list of members is never long where that could still matter.
+ghost use Rattle.std.specs.Prelude.{◌≡◌, nat_lt, IfOk, OnOk};
+ghost use Rattle.psdl_directory.specs.Fault.{is_before, least as least_of};
 ghost use Rattle.psdl_directory.specs.Noting.{noting};
 ghost use Rattle.psdl_rules.specs.Faults as of;
 ghost use Rattle.psdl_rules.specs.Texts.{judged};
@@ -40,12 +35,48 @@ use limit::limit;
 use member_clash::member_clash;
 use not_implemented::not_implemented;
 use provides::not_provided;
-use psdl_directory::{CheckFault, Least};
+use psdl_directory::{CheckFault, CheckKind, Least};
 use psdl_members::Inherited;
 use psdl_standings::Standings;
 use pss_base::NoMemory;
 use redefined::redefined;
 use std::alloc::Global;
+
+/// The number and the name of a kind, as they are printed.
+pub fn fault_text(kind: CheckKind) -> &'static [u8]
+    ensures { result.now ≡ of.text kind }
+{
+    match kind {
+        CheckKind::Redefined => b"C1 Redefined",
+        CheckKind::Unknown => b"C2 Unknown",
+        CheckKind::WrongCase => b"C3 WrongCase",
+        CheckKind::WrongKind => b"C4 WrongKind",
+        CheckKind::Incomplete => b"C5 Incomplete",
+        CheckKind::Cycle => b"C6 Cycle",
+        CheckKind::MemberClash => b"C7 MemberClash",
+        CheckKind::KeyMember => b"C8 KeyMember",
+        CheckKind::KeyType => b"C9 KeyType",
+        CheckKind::FactoryMember => b"C10 FactoryMember",
+        CheckKind::NotImplemented => b"C11 NotImplemented",
+        CheckKind::HomeType => b"C12 HomeType",
+        CheckKind::FamilyType => b"C13 FamilyType",
+        CheckKind::ConstRange => b"C14 ConstRange",
+        CheckKind::ConstZero => b"C15 ConstZero",
+        CheckKind::Provides => b"C16 Provides",
+        CheckKind::Limit => b"C17 Limit",
+        CheckKind::NoMemory => b"NoMemory",
+    }
+}
+
+/// Whether a kind has a lesser number than another. Kinds are declared in the order of their numbers: so of two faults at one
+/// place, the first is that with the lesser number.
+#[tactic(auto, unfolding(psdl_directory::specs::Fault::is_before))]
+pub fn comes_before(kind: CheckKind, other: CheckKind) -> bool
+    ensures declared { result ≡ is_before kind other }
+    ensures numbered { result ≡ nat_lt (of.number kind) (of.number other) }
+{
+    kind < other
+}
 
 // C2, C3, C4, C14 and C15.
 fn body_faults(text: &Text, standings: &Standings, least: &mut Least)

@@ -1,10 +1,11 @@
-//! The conditions that a PSDL text has to meet, a file each.
+//! The conditions that a PSDL text has to meet, a file each, and the table of their kinds.
 #![tactic(auto)]
 
 mod early_lists;
 mod factories;
 mod faults;
 mod found_apart;
+mod home_types;
 mod keys;
 mod listed_members;
 mod lists;
@@ -18,5 +19,5 @@ mod taken_names;
 mod text;
 mod whole;
 
-pub use faults::first_fault;
+pub use faults::{comes_before, fault_text, first_fault};
 pub use text::Text;

@@ -12,9 +12,8 @@ ghost use Rattle.psdl_rules.specs.Faults.Redefined.{takes_name_of};
 ghost use Rattle.psdl_rules.specs.Texts.{judged};
 ghost use Rattle.psdl_rules.specs.inner.Others as of;
 
-use crate::sorts::{is_forward, same_kind};
 use crate::text::Text;
-use psdl_directory::{CheckKind, DeclarationNo, Directory, Least, What};
+use psdl_directory::{CheckKind, DeclarationNo, Directory, Least, What, is_forward, same_kind};
 use pss_base::NoMemory;
 use std::alloc::Global;
 

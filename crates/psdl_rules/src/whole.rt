@@ -6,9 +6,8 @@ ghost use Rattle.psdl_rules.specs.Texts.{judged};
 ghost use Rattle.psdl_rules.specs.Words.{has_whole_header};
 ghost use Rattle.psdl_rules.specs.inner.Headed.{are_meant};
 
-use crate::sorts::is_forward;
 use crate::text::Text;
-use psdl_directory::{DeclarationNo, Use};
+use psdl_directory::{DeclarationNo, Use, is_forward};
 
 fn are_meant(uses: &[Use]) -> bool
     ensures { result ≡ are_meant uses.now }

@@ -3,7 +3,7 @@ use Rattle.std.specs.Prelude.{ℕ, List, [], ◌∷◌, ◌++◌, codes, decimal
 use Rattle.pss_base.specs.declared.place.Place.{Place}
 use Rattle.psdl_syntax.specs.declared.syntax_fault.SyntaxKind.{SyntaxKind}
 use Rattle.psdl_syntax.specs.declared.syntax_fault.SyntaxKind.TheVariants as kinds
-use Rattle.psdl_directory.specs.Fault.{text}
+use Rattle.psdl_rules.specs.Faults.{text}
 use Rattle.pss_serving.specs.declared.schema_fault.SchemaFault.{SchemaFault}
 use Rattle.pss_serving.specs.declared.schema_fault.SchemaFault.TheVariants.{Syntax, Check}
 

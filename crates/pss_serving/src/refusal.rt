@@ -1,11 +1,12 @@
 // The line that is spoken for a text that has a fault.
 ghost use Rattle.std.specs.Prelude.{◌≡◌, ◌++◌, codes, decimal, IfOk, OnOk};
-ghost use Rattle.psdl_directory.specs.Fault.{text};
+ghost use Rattle.psdl_rules.specs.Faults.{text};
 ghost use Rattle.pss_serving.specs.Refusals.{kind_text, placed_line, refusal_line};
 
 use crate::schema_fault::SchemaFault;
 use itoa::Buffer;
 use psdl_check::CheckFault;
+use psdl_rules::fault_text;
 use psdl_syntax::{SyntaxFault, SyntaxKind};
 use pss_base::{Bytes, NoMemory, Place};
 use std::alloc::Global;
@@ -58,7 +59,7 @@ fn print_check(alloc: Global, fault: CheckFault) -> Result<Bytes, NoMemory>
     ensures { IfOk result (λ bytes. bytes ≡ placed_line fault.place (text fault.kind)) }
 {
     let mut line = placed(alloc, fault.place)?;
-    line.extend(fault.kind.text())?;
+    line.extend(fault_text(fault.kind))?;
     line.push(b'\n')?;
     Ok(line)
 }

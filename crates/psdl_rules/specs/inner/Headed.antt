@@ -13,6 +13,7 @@ use Rattle.psdl_directory.specs.Headers.{Header}
 use Rattle.psdl_directory.specs.Lookup.{at}
 use Rattle.psdl_lineage.specs.Descent.{conforms, type_of_home, provider}
 use Rattle.psdl_rules.specs.Faults.HomeType.{differs_from_base, is_other_kind}
+use Rattle.psdl_rules.specs.inner.Pairs.{types_with}
 
 -- of what has none
 abbrev pub no_header : Header
@@ -39,20 +40,16 @@ are_one first second = given first false (λ j. given second false (λ k. j == k
 abbrev pub own_use : Option ℕ → Use → List CheckFault
 own_use origin u = fault_if (are_one u.meant origin) Cycle u.place
 
--- the type of the home that it means
-abbrev pub type_of_use : List Declaration → Use → Option ℕ
-type_of_use all u = option_and_then (type_of_home all) u.defined
-
 -- the type of a home, where it has one, does not conform to that of the home that it means
 abbrev pub differs_from_use : List Declaration → Option ℕ → Use → Bool
-differs_from_use all home_type u = given home_type false (λ t. given (type_of_use all u) false (λ v. not (conforms all t v)))
+differs_from_use all home_type u = given (types_with all home_type u) false (λ p. not (conforms all p.own p.named))
 
 abbrev pub implemented_use : List Declaration → Option ℕ → Use → List CheckFault
 implemented_use all home_type u = fault_if (differs_from_use all home_type u) NotImplemented u.place
 
 -- the type of a home does not go with that of its base
 abbrev pub differs_as_base : List Declaration → What → Option ℕ → Use → Bool
-differs_as_base all what home_type u = given home_type false (λ t. given (type_of_use all u) false (λ v. differs_from_base all what t v))
+differs_as_base all what home_type u = given (types_with all home_type u) false (λ p. differs_from_base all what p.own p.named)
 
 -- what stands behind `of` is of another kind
 abbrev pub is_other_use : List Declaration → What → Use → Bool

@@ -12,6 +12,7 @@ ghost use Rattle.psdl_rules.specs.Faults.HomeType as conditions;
 ghost use Rattle.psdl_rules.specs.Texts.{judged};
 ghost use Rattle.psdl_rules.specs.inner.Headed.{differs_as_base, is_other_use, managed_use};
 
+use crate::home_types::types_with;
 use crate::sorts::{is_abstract_type, is_concrete_type};
 use crate::text::Text;
 use psdl_directory::{CheckKind, DeclarationNo, Least, Use, What};
@@ -51,18 +52,12 @@ fn differs_from_base(
     ensures same { asked_of conformity.new ≡ judged text.now }
     ensures differs { IfOk result (λ r. r ≡ differs_as_base (judged text.now) (at (judged text.now) number).what (type_of_home (judged text.now) number) used.now) }
 {
-    let Some(from) = text.lineage().type_of_home(number) else {
-        return Ok(false);
-    };
-    let Some(home) = used.defined else {
-        return Ok(false);
-    };
-    let Some(to) = text.lineage().type_of_home(home) else {
+    let Some(types) = types_with(text, number, used) else {
         return Ok(false);
     };
     let is_concrete = is_concrete_home(text.what(number));
-    let conforms = conformity.conforms(alloc, from, to)?;
-    Ok(!conforms || (is_concrete && from == to))
+    let conforms = conformity.conforms(alloc, types.own, types.named)?;
+    Ok(!conforms || (is_concrete && types.own == types.named))
 }
 
 // Whether the type of a home does not go with that of one of its bases.

@@ -10,9 +10,8 @@ ghost use Rattle.psdl_rules.specs.Faults.Incomplete as conditions;
 ghost use Rattle.psdl_rules.specs.Texts.{judged};
 ghost use Rattle.psdl_rules.specs.inner.Headed.{above, is_forward_use, forward_use};
 
-use crate::sorts::is_forward;
 use crate::text::Text;
-use psdl_directory::{CheckKind, DeclarationNo, Least, Use};
+use psdl_directory::{CheckKind, DeclarationNo, Least, Use, is_forward};
 
 fn is_forward_use(number: DeclarationNo, used: &Use) -> bool
     ensures { result ≡ is_forward_use number used.now }

@@ -10,6 +10,7 @@ ghost use Rattle.psdl_rules.specs.Faults.NotImplemented as conditions;
 ghost use Rattle.psdl_rules.specs.Texts.{judged};
 ghost use Rattle.psdl_rules.specs.inner.Headed.{differs_from_use, implemented_use};
 
+use crate::home_types::types_with;
 use crate::text::Text;
 use psdl_directory::{CheckKind, DeclarationNo, Least, Use};
 use psdl_lineage::Conformity;
@@ -28,16 +29,10 @@ fn differs(
     ensures same { asked_of conformity.new ≡ judged text.now }
     ensures differs { IfOk result (λ r. r ≡ differs_from_use (judged text.now) (type_of_home (judged text.now) number) used.now) }
 {
-    let Some(from) = text.lineage().type_of_home(number) else {
+    let Some(types) = types_with(text, number, used) else {
         return Ok(false);
     };
-    let Some(home) = used.defined else {
-        return Ok(false);
-    };
-    let Some(to) = text.lineage().type_of_home(home) else {
-        return Ok(false);
-    };
-    let conforms = conformity.conforms(alloc, from, to)?;
+    let conforms = conformity.conforms(alloc, types.own, types.named)?;
     Ok(!conforms)
 }
 

@@ -1,17 +1,15 @@
 // The keys in the bodies of homes, with a number for each name and list.
-ghost use Rattle.std.specs.Prelude.{◌≡◌, ◌++◌, ◌∷◌, ℕ, [], List, Some, IfOk, OnOk};
+ghost use Rattle.std.specs.Prelude.{◌≡◌, ◌∷◌, IfOk, OnOk};
 ghost use Rattle.psdl_directory.specs.Spelled.{Keeps};
 ghost use Rattle.psdl_directory.specs.inner.Nodes.{what_view};
-ghost use Rattle.psdl_lineage.specs.Descent.{names_of};
 ghost use Rattle.psdl_members.specs.Listings.{listed_view, listed_views};
 ghost use Rattle.psdl_members.specs.declared.list_kind.ListKind.TheVariants as kinds;
 ghost use Rattle.psdl_members.specs.inner.Entries.{AreSpelled};
 ghost use Rattle.psdl_members.specs.inner.Listing.{listed_in};
 ghost use Rattle.psdl_check.specs.inner.KeyIds.{id_of, KeepsIds, own_views, HaveIds};
 
-use psdl_directory::{DeclarationNo, Directory, Spelling, Spellings, What};
-use psdl_members::{ListKind, ListNumbers, Listed, add_lists};
-use psdl_tree::Identifier;
+use psdl_directory::{DeclarationNo, Directory, Spellings, What};
+use psdl_members::{ListKind, ListNumbers, Listed, add_lists, add_number, add_numbers};
 use pss_base::NoMemory;
 use std::alloc::Global;
 
@@ -34,37 +32,6 @@ pub(crate) struct OwnKey<'d> {
 pub(crate) struct KeyRows<'d> {
     pub ids: KeyIds,
     rows: Vec<Vec<OwnKey<'d>>>,
-}
-
-// Adds the number of an identifier.
-fn add_number(
-    alloc: Global,
-    numbers: &mut Vec<usize>,
-    spellings: &mut Spellings,
-    identifier: &Identifier,
-) -> Result<(), NoMemory>
-    ensures spelled { OnOk result ((names : List (List ℕ)) → AreSpelled spellings.old numbers.old.items names → AreSpelled spellings.new numbers.new.items (names ++ identifier.now.name ∷ [])) }
-    ensures kept { OnOk result (Keeps spellings.old spellings.new) }
-{
-    let number = Spelling::AsIs.note(alloc, spellings, identifier.name.as_slice())?;
-    numbers.push(number.index())?;
-    Ok(())
-}
-
-// Adds the numbers of identifiers.
-fn add_numbers(
-    alloc: Global,
-    numbers: &mut Vec<usize>,
-    spellings: &mut Spellings,
-    identifiers: &[Identifier],
-) -> Result<(), NoMemory>
-    ensures spelled { OnOk result ((names : List (List ℕ)) → AreSpelled spellings.old numbers.old.items names → AreSpelled spellings.new numbers.new.items (names ++ names_of identifiers.now)) }
-    ensures kept { OnOk result (Keeps spellings.old spellings.new) }
-{
-    for identifier in identifiers {
-        add_number(alloc, numbers, spellings, identifier)?;
-    }
-    Ok(())
 }
 
 // The numbers of a key's name and of what its list names.

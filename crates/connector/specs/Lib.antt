@@ -1,3 +1,4 @@
 pub mod Keeping
 pub mod Rests
 pub mod Storing
+pub mod Lines

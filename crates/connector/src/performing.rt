@@ -153,22 +153,3 @@ pub fn perform_counted<L: Ledger, W: Station>(
     let mut steps = Steps::<L>::new(blank);
     perform(parts, store, station, command, &mut steps)
 }
-
-/// What a `get` of these words comes to, with a count of steps that nobody reads.
-#[inline(always)]
-pub fn get_counted<L: Ledger>(
-    parts: &mut Parts,
-    s: &[u8],
-    entry: u64,
-    member: &[u8],
-    blank: Blank,
-) -> Result<Reply, NoMemory>
-    requires name { blank.name ≡ L.name }
-    requires parts { blank.parts ≡ L.parts }
-    requires some { 0 < blank.parts }
-    requires any { AnyAt parts.old }
-    ensures { IfOk result (λ reply. (k : Kept) → IsAt parts.old k → Comes parts.old k (commands.Get s.now entry member.now) reply parts.new) }
-{
-    let mut steps = Steps::<L>::new(blank);
-    data_calls::get_by(parts, s, entry, member, &mut steps)
-}

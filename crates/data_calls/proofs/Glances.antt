@@ -1,16 +1,14 @@
 -- What a body tells a basic session is its step, and what comes of it.
-use Rattle.std.proofs.Common.{◌≡◌, ℕ, Bool, true, false, List, [], ◌∷◌, Option, Some, None, IfSome, length, ◌==◌, ◌-◌, ◌^◌, refl, sym, ap, ◌∙◌, subst}
+use Rattle.std.proofs.Common.{◌≡◌, ℕ, Bool, true, false, List, [], ◌∷◌, Option, Some, None, length, ◌==◌, ◌-◌, ◌^◌, refl, sym, ap, ◌∙◌, subst}
 use Rattle.std.specs.Prelude.{IsSomeAnd, Ok, ◌&&◌, nat_le}
 use Rattle.std.specs.List.{slice_get}
-use Rattle.std.specs.Option.{option_map, option_and_then}
+use Rattle.std.specs.Option.{option_and_then}
 use Rattle.std.specs.FinMap.{get, len}
 use Rattle.pss_base.specs.declared.pid.Pid.{Pid}
 use Rattle.pss_base.specs.declared.owner.OwnerNo.{OwnerNo as OwnerNumber}
 use Rattle.pss_base.specs.declared.session.SessionNo.{SessionNo as SessionNumber}
 use Rattle.type_layout.specs.declared.schema.Schema.{Schema}
-use Rattle.type_layout.specs.declared.value.Value.{Value}
 use Rattle.type_layout.specs.Types.{PlainValue}
-use Rattle.type_layout.specs.Views.{plain_value}
 use Rattle.type_layout.specs.Schemas.{given}
 use Rattle.pss_catalog.specs.Catalog.{Object}
 use Rattle.pss_machine.specs.declared.reply.Reply.TheVariants as reply
@@ -43,13 +41,13 @@ use Rattle.data_calls.specs.Finishing.{AreSeated}
 use Rattle.data_calls.specs.Glances.{IsReading, IsGlance}
 use Rattle.data_calls.proofs.Granted.{free}
 use Rattle.data_calls.proofs.Steps.{copied_there, on_copy}
-use Rattle.data_calls.proofs.Taking.{step_here, seen_is, takes, basic_needs}
+use Rattle.data_calls.proofs.Taking.{step_here, step_is, seen_is, takes, basic_needs}
 use Rattle.data_calls.proofs.Bodies.{is_read_by}
 use Rattle.data_calls.proofs.Standing.{values_same}
 use Rattle.data_calls.proofs.Outdating.{as_before, undone}
 use Rattle.data_calls.proofs.Seats.{seated_now, attached_here}
 use Rattle.data_calls.proofs.Places.{may_seat_named, named_way, unfound_way}
-use Rattle.data_calls.proofs.Ends.{may_leave, may_name, may_find, are_seated, may_reply, is_finished, any_taken, follows}
+use Rattle.data_calls.proofs.Ends.{prints, may_leave, may_name, may_find, are_seated, is_finished, any_taken, follows}
 
 -- ---- it may be done
 
@@ -116,18 +114,15 @@ module _ {c : Parts} {acting : Acting} {asked : Asked} (m : MayTake c acting ask
         stands = some;
       }
 
--- of what is found of a member
-pub glanced : (c : Parts) (acting : Acting) {asked : Asked} (r : IsReading asked) → acting.basic ≡ true → AreCopies c.attended.copies → (values : List PlainValue)
-    → IsSomeAnd asked.entry (λ n. option_and_then (get c.attended.copies.bodies) (body_under c.attended.copies (slot acting.session n)) ≡ Some values)
-    → (found : Option Value) → option_map plain_value found ≡ slice_get values r.member → IfSome found (λ value. IsReading asked × ((m : MayTake c acting asked) → IsGlance m (plain_value value)))
-glanced c acting r basic are values kept None is = tt
-glanced c acting r basic are values kept (Some value) is = (r, λ m. is_glance m r basic are values (plain_value value) (sym is) kept)
-
 -- ---- what comes of it
 
 module _ {c : Parts} {acting : Acting} {asked : Asked} {v : PlainValue} (m : MayTake c acting asked) (r : IsReading asked) (g : IsGlance m v) where
   none_blocks : blocker m.asks.kept.owners acting.owner (step_here m).needs ≡ None
   none_blocks = ap (λ (t : Step). blocker m.asks.kept.owners acting.owner t.needs) g.step_is ∙ free m.asks.kept.owners acting.owner
+
+  -- the value is of its member's type
+  pub may_print : MayPrint c.schema asked.op v
+  may_print = prints (step_is m (Val v) none_blocks (ap (λ (t : Step). t.answer) g.step_is)) v refl
 
   -- the command is counted
   pub glance_takes : (new : Parts) → StayAs c new → new.attended ≡ c.attended → ((question : Question) → AreAccounts c.schema new.accounts (after_step m.asks.kept acting.owner acting.session (step_on_copy (Ask question) (Val v)) asked))
@@ -159,9 +154,6 @@ module _ {old new : Parts} {k : Kept} {d : Decision} {acting : Acting} {asked : 
 
   seated : AreSeated (any_taken t) None new
   seated = are_seated (any_taken t) new named_done None new (unfound_way (may_find (any_taken t) new named_done) (λ p is. cc))
-
-  pub prints : MayPrint new.schema asked.op v
-  prints = (may_reply (any_taken t) None new seated).can.prints v refl
 
   pub glance_follows : (text : List ℕ) → text ≡ value_text new.schema asked.op v → Follows old k d (reply.Val text) new
   glance_follows text is = follows t (reply.Val text) new (is_finished (any_taken t) None new seated (reply.Val text) (ap reply.Val is))

@@ -22,3 +22,4 @@ pub mod Acts
 pub mod Words
 pub mod Bodies
 pub mod Glances
+pub mod Tellings

@@ -18,6 +18,12 @@ use Rattle.data_calls.specs.Ways.{entry_found}
 abbrev pub MayPrint : Schema → PlainOp → PlainValue → Type 0
 MayPrint S op value = (p : Pid) (i : ℕ) (member : PlainMember) → op ≡ Ask (Get p i) → member_at S (home_of p) i ≡ Some member → Of member.type value
 
+-- the object's home has the member, and the value is of its type
+pub record IsOfMember (S : Schema) (p : Pid) (i : ℕ) (value : PlainValue) : Type 0 where
+  pub member : PlainMember
+  pub there : member_at S (home_of p) i ≡ Some member
+  pub of : Of member.type value
+
 -- by the entry of what was obtained, or by its object alone
 abbrev pub found_as : Option ℕ → Pid → Reply
 found_as None pid = reply.Reference pid

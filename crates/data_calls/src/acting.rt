@@ -1,5 +1,5 @@
 // Sessions that data commands are done in.
-ghost use Rattle.std.specs.Prelude.{◌≡◌, None, MatchOption, MatchResult};
+ghost use Rattle.std.specs.Prelude.{◌≡◌, None, IfSome, MatchOption, MatchResult};
 ghost use Rattle.pss_machine.specs.Kept.{Kept};
 ghost use Rattle.pss_machine.specs.Sessions.{Session, acts_for as machine_acts_for, active_in as machine_active_in};
 ghost use Rattle.connector_parts.specs.Stands.{IsAt};
@@ -67,5 +67,19 @@ pub fn acts_in(parts: &Parts, name: &[u8]) -> Result<Acting, Reply>
     match acting_for(found) {
         Some(acting) => Ok(acting),
         None => Err(Reply::NoTx),
+    }
+}
+
+/// The session of a name as it acts for an owner. None: no session has the name, or it acts for nobody.
+#[inline(always)]
+pub fn acting_in(parts: &Parts, name: &[u8]) -> Option<Acting>
+    ensures { (k : Kept) → IsAt parts.now k → IfSome result (IsNamed k name.now) }
+{
+    let Some(found) = parts.session(name) else {
+        return None;
+    };
+    match acting_for(found) {
+        Some(acting) => Some(acting),
+        None => None,
     }
 }

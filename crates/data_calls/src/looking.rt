@@ -60,6 +60,14 @@ pub fn value_at(alloc: Global, values: &Record, member: u32) -> Result<Option<Va
     }
 }
 
+/// The value of a member, which is not copied.
+#[inline(always)]
+pub fn value_in(values: &Record, member: u32) -> Option<&Value>
+    ensures { option_map (λ value. plain_value value.now) result ≡ slice_get values.now member }
+{
+    values.0.as_slice().get(member as usize)
+}
+
 // What a value refers to. None: it is no reference.
 fn referred(value: &Value) -> Option<Option<Pid>>
     ensures { IfSome result (λ to. plain_value value.now ≡ Ref to) }

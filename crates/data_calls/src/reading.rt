@@ -7,7 +7,6 @@ ghost use Rattle.connector_parts.specs.Stands.{AnyAt, IsAt, Comes};
 use crate::acting::acts_in;
 use crate::asking::{asking, named};
 use crate::finishing::ask;
-use crate::glancing::read;
 use connector_parts::Parts;
 use pss_base::{Bytes, NoMemory, Steps};
 use pss_machine::Reply;
@@ -33,28 +32,6 @@ pub fn exists<L: Ledger>(
     }
 }
 
-/// `get`, by its words as they stand in the line.
-#[inline(always)]
-pub fn get_by<L: Ledger>(
-    parts: &mut Parts,
-    name: &[u8],
-    entry: u64,
-    member: &[u8],
-    steps: &mut Steps<L>,
-) -> Result<Reply, NoMemory>
-    requires { AnyAt parts.old }
-    ensures { IfOk result (λ reply. (k : Kept) → IsAt parts.old k → Comes parts.old k (command.Get name.now entry member.now) reply parts.new) }
-{
-    match acts_in(parts, name) {
-        Ok(acting) => {
-            let entry = named(parts, acting, entry);
-            let asked = asking(parts, acting).get(&entry, member);
-            read(parts, acting, asked, steps)
-        }
-        Err(reply) => Ok(reply),
-    }
-}
-
 /// `get S I M`: the value of a member of an entry's object, as text. Else `NOENTRY`, `NOMEMBER`, or `GONE` with the object.
 pub fn get<L: Ledger>(
     parts: &mut Parts,
@@ -66,7 +43,14 @@ pub fn get<L: Ledger>(
     requires { AnyAt parts.old }
     ensures { IfOk result (λ reply. (k : Kept) → IsAt parts.old k → Comes parts.old k (command.Get name.now entry member.now) reply parts.new) }
 {
-    get_by(parts, name.as_slice(), entry, member.as_slice(), steps)
+    match acts_in(parts, name.as_slice()) {
+        Ok(acting) => {
+            let entry = named(parts, acting, entry);
+            let asked = asking(parts, acting).get(&entry, member.as_slice());
+            ask(parts, acting, asked, steps)
+        }
+        Err(reply) => Ok(reply),
+    }
 }
 
 /// `follow S I M`: obtains the object that a member of an entry's object refers to: its entry and its pid. Else `NOENTRY`,

@@ -1,14 +1,15 @@
 // Replies to answers.
-ghost use Rattle.std.specs.Prelude.{◌≡◌, IfOk};
+ghost use Rattle.std.specs.Prelude.{◌≡◌, ◌<◌, ◌++◌, pos, IfOk, IfSome, OnOk};
 ghost use Rattle.std.specs.Option.{option_map};
 ghost use Rattle.type_layout.specs.Members.{plain_member};
+ghost use Rattle.type_layout.specs.Types.{Int};
 ghost use Rattle.type_layout.specs.Views.{plain_value};
 ghost use Rattle.pss_machine.specs.Homes.{home_of, member_at};
 ghost use Rattle.pss_machine.specs.Kept.{copies_of};
-ghost use Rattle.pss_machine.specs.Operations.{plain_op, plain_answer};
+ghost use Rattle.pss_machine.specs.Operations.{Get, Ask, plain_op, plain_answer};
 ghost use Rattle.pss_machine.specs.Stepping.{value_text as text_in, key_name as name_in, reply_to};
 ghost use Rattle.pss_asking.specs.Telling.{plain_asked};
-ghost use Rattle.data_calls.specs.Replying.{MayPrint, found_as, MayReply};
+ghost use Rattle.data_calls.specs.Replying.{MayPrint, IsOfMember, found_as, MayReply};
 
 use connector_parts::Parts;
 use pss_asking::Asked;
@@ -16,7 +17,7 @@ use pss_base::{Bytes, NoMemory, Pid};
 use pss_catalog::{home_at, key_at};
 use pss_machine::{Answer, Op, Reply};
 use type_layout::{HomeNo, KeyNo, Member, Value};
-use value_text::print_value;
+use value_text::{append_value, print_value};
 
 // The member of an object with this number.
 #[inline(always)]
@@ -87,5 +88,55 @@ pub fn reply(
         Answer::Duplicate(key) => Ok(Reply::Duplicate(key_name(parts, key)?)),
         Answer::TooLarge => Ok(Reply::TooLarge),
         Answer::Busy(_) => unreachable!(),
+    }
+}
+
+// Adds the text of a member's value to a line, by the member's type.
+#[inline(never)]
+fn append_typed(
+    line: &mut Bytes,
+    parts: &Parts,
+    pid: Pid,
+    member: u32,
+    value: &Value,
+) -> Result<(), NoMemory>
+    requires { IsOfMember parts.now.schema pid member (plain_value value.now) }
+    ensures { OnOk result (line.new ≡ line.old ++ text_in parts.now.schema (Ask (Get pid member)) (plain_value value.now)) }
+{
+    match member_of(parts, pid, member) {
+        Some(found) => append_value(line, &found.ty, value),
+        None => unreachable!(),
+    }
+}
+
+// The digit that a value is. None: it is no number of one digit.
+#[inline(always)]
+fn digit_of(value: &Value) -> Option<u8>
+    ensures { IfSome result (λ digit. (digit < 10) × (plain_value value.now ≡ Int (pos digit))) }
+{
+    match value {
+        Value::Int(number) => match *number {
+            0..=9 => Some(*number as u8),
+            _ => None,
+        },
+        _ => None,
+    }
+}
+
+/// Adds the text of a member's value to a line. A number of one digit, as flags and small counts are, is that digit by each type.
+#[inline(always)]
+pub fn append_text(
+    line: &mut Bytes,
+    parts: &Parts,
+    pid: Pid,
+    member: u32,
+    value: &Value,
+) -> Result<(), NoMemory>
+    requires { IsOfMember parts.now.schema pid member (plain_value value.now) }
+    ensures { OnOk result (line.new ≡ line.old ++ text_in parts.now.schema (Ask (Get pid member)) (plain_value value.now)) }
+{
+    match digit_of(value) {
+        Some(digit) => line.push(b'0' + digit),
+        None => append_typed(line, parts, pid, member, value),
     }
 }

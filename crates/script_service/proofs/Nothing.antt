@@ -1,6 +1,5 @@
 -- A line that says no command, or one that stores nothing, leaves the store.
-use Rattle.std.proofs.Common.{ℕ, ◌≡◌, List, Option, Some, None, IfSome, Ok, Err, refl, sym, subst}
-use Rattle.std.specs.Prelude.{Result, OnOk, IfErr}
+use Rattle.std.proofs.Common.{ℕ, ◌≡◌, List, Option, Some, None, IfSome, refl, sym, subst}
 use Rattle.pss_disk.specs.Moments.{Moment, Through}
 use Rattle.pss_disk.proofs.Passing.{none_came}
 use Rattle.page_store.specs.Stores.{AllHave}
@@ -13,8 +12,7 @@ use Rattle.pss_machine.specs.Moving.{moved}
 use Rattle.pss_machine.specs.Run.{Said, Silent, Wrong}
 use Rattle.pss_recovery.specs.declared.parts.Parts.{Parts as Store}
 use Rattle.pss_recovery.specs.Mounted.{IsMounted, StandsEither}
-use Rattle.pss_recovery.specs.Stands.{Stands}
-use Rattle.commit_saving.specs.Saving.{BecomesSaved, IfTold, IsSavedThroughout, StaysSaved, saved_by}
+use Rattle.commit_saving.specs.Saving.{BecomesSaved, IfTold, IsSavedThroughout, saved_by}
 use Rattle.connector.specs.Storing.{IsUnstored}
 use Rattle.script_service.specs.Turns.{effect_of}
 
@@ -47,35 +45,10 @@ module _ {W : Type 0} (content : W → Option (List ℕ)) (history : W → List 
 
 -- ---- a command that stores nothing
 
-module _ {W : Type 0} (content : W → Option (List ℕ)) (history : W → List Moment) (S : Schema) (k : Kept) (e : Effect) (unstored : IsUnstored k e) (store : Store) (w : W) where
-  pub unstored_stays : BecomesSaved content S k e store store w w
-  unstored_stays saved = by (content w)
-    where
-      by : (o : Option (List ℕ)) → IfSome o (λ octets. IsMounted S k.catalog saved store octets → IfTold o (IsMounted S (moved k e).catalog (saved_by k saved e) store))
-      by None = tt
-      by (Some octets) = λ mounted.
-          (octets, refl, subst (λ (M : Catalog). IsMounted S M (saved_by k saved e) store octets) (sym unstored.catalog) (subst (λ (next : ℕ). IsMounted S k.catalog next store octets) (sym (unstored.saved saved)) mounted))
-
-  pub unstored_passes : IsSavedThroughout content history S k e store w w
-  unstored_passes saved = by (content w)
-    where
-      by : (o : Option (List ℕ)) → IfSome o (λ octets. IsMounted S k.catalog saved store octets → Through (history w) (history w) (AllHave (StandsEither S k.catalog saved (moved k e).catalog (saved_by k saved e))))
-      by None = tt
-      by (Some octets) = λ mounted. none_came (history w) (AllHave (StandsEither S k.catalog saved (moved k e).catalog (saved_by k saved e)))
-
-pub still_stays : {W : Type 0} (content : W → Option (List ℕ)) (history : W → List Moment) (S : Schema) (k : Kept) (store : Store) (w : W) → StaysSaved content history S k store w w
-still_stays content history S k store w saved = by (content w)
+pub unstored_stays : {W : Type 0} (content : W → Option (List ℕ)) (S : Schema) (k : Kept) (e : Effect) → IsUnstored k e → (store : Store) (w : W) → BecomesSaved content S k e store store w w
+unstored_stays content S k e unstored store w saved = by (content w)
   where
-    by : (o : Option (List ℕ)) → IfSome o (λ octets. IsMounted S k.catalog saved store octets → Through (history w) (history w) (AllHave (Stands S k.catalog saved)))
+    by : (o : Option (List ℕ)) → IfSome o (λ octets. IsMounted S k.catalog saved store octets → IfTold o (IsMounted S (moved k e).catalog (saved_by k saved e) store))
     by None = tt
-    by (Some octets) = λ mounted. none_came (history w) (AllHave (Stands S k.catalog saved))
-
--- ---- whatever the result
-
-pub whatever_ok : {T E : Type 0} {P : Type 0} (r : Result T E) → P → OnOk r P
-whatever_ok (Ok x) p = p
-whatever_ok (Err e) p = tt
-
-pub whatever_err : {T E : Type 0} {P : E → Type 0} (r : Result T E) → ((e : E) → P e) → IfErr r P
-whatever_err (Ok x) p = tt
-whatever_err (Err e) p = p e
+    by (Some octets) = λ mounted.
+        (octets, refl, subst (λ (M : Catalog). IsMounted S M (saved_by k saved e) store octets) (sym unstored.catalog) (subst (λ (next : ℕ). IsMounted S k.catalog next store octets) (sym (unstored.saved saved)) mounted))

@@ -3,6 +3,7 @@
 #![tactic(auto)]
 
 mod daemon;
+mod getting;
 mod laws;
 mod replying;
 mod saying;

@@ -1,5 +1,5 @@
 // What a line says is done, and its reply is told.
-ghost use Rattle.std.specs.Prelude.{◌≡◌, ◌≤◌, length, false, ℕ, IfErr, IfOk, IfSome, OnOk};
+ghost use Rattle.std.specs.Prelude.{◌≡◌, ◌≤◌, length, ℕ, IfErr, IfOk, IfSome, OnOk};
 ghost use Rattle.pss_base.specs.Causes.{HasCauseIf};
 ghost use Rattle.pss_base.specs.declared.stop.StoreStop.TheVariants as stop;
 ghost use Rattle.pss_disk.specs.Moments.{IsSettled};
@@ -15,15 +15,14 @@ ghost use Rattle.commit_saving.specs.Saving.{BecomesSaved, IsSavedThroughout, St
 ghost use Rattle.script_text.specs.Meaning as meaning;
 ghost use Rattle.connector.specs.Keeping.{Keeps, schema_of, limits_of, store_of};
 ghost use Rattle.connector.specs.Rests.{HasShortRest};
-ghost use Rattle.connector.specs.Storing.{IsUnstored};
 ghost use Rattle.script_service.specs.Turns.{effect_of, told_by};
 ghost use Rattle.script_service.specs.Going.{IsReady, Goes};
 
 use connector::Connector;
-use pss_base::{LineStep, NoMemory, StoreStop};
+use pss_base::{LineStep, StoreStop};
 use pss_disk::Station;
 use pss_machine::{Command, Reply};
-use script_text::{CommandFault, GetWords, read_command, read_get};
+use script_text::{CommandFault, read_command};
 use std::alloc::Global;
 
 /// The column that is told of a line which is too long: that of its first byte too many.
@@ -91,52 +90,6 @@ fn reply_to_any<W: Station>(
     }
 }
 
-// Performs the `get` of these words, and tells the reply.
-#[inline(always)]
-fn reply_to_get(connector: &mut Connector, words: GetWords<'_>) -> Result<Option<Reply>, StoreStop>
-    requires ready { IsReady connector.old }
-    ensures reply { IfOk result (λ reply. (k : Kept) → Keeps connector.old k
-        → reply ≡ reply_of (schema_of connector.old) (limits_of connector.old) k (Says (commands.Get words.entry.s.now words.entry.entry words.entry.member.now))) }
-    ensures goes { OnOk result (Goes (Says (commands.Get words.entry.s.now words.entry.entry words.entry.member.now)) connector.old connector.new) }
-    ensures unstored { (k : Kept) → Keeps connector.old k → IsUnstored k (effect_of (schema_of connector.old) (limits_of connector.old) k (Says (commands.Get words.entry.s.now words.entry.entry words.entry.member.now))) }
-    ensures store { store_of connector.new ≡ store_of connector.old }
-    ensures disk { is_disk_stop result ≡ false }
-{
-    match connector.get(words.s, words.entry, words.member) {
-        Ok(reply) => Ok(Some(reply)),
-        Err(NoMemory) => Err(StoreStop::NoMemory),
-    }
-}
-
-// The reply to a line by its text, if it has one.
-#[inline(always)]
-fn reply_to_text<W: Station>(
-    alloc: Global,
-    connector: &mut Connector,
-    text: &[u8],
-    station: &mut W,
-) -> Result<Option<Reply>, StoreStop>
-    requires short { length text.now ≤ 65536 }
-    requires ready { IsReady connector.old }
-    requires settled { IsSettled (W.content station.old) (W.now station.old) }
-    ensures reply { IfOk result (λ reply. (k : Kept) → Keeps connector.old k
-        → reply ≡ reply_of (schema_of connector.old) (limits_of connector.old) k (meaning.meaning text.now)) }
-    ensures goes { OnOk result (Goes (meaning.meaning text.now) connector.old connector.new) }
-    ensures saved { OnOk result ((k : Kept) → Keeps connector.old k → BecomesSaved W.content (schema_of connector.old) k (effect_of (schema_of connector.old) (limits_of connector.old) k (meaning.meaning text.now)) (store_of connector.old) (store_of connector.new) station.old station.new) }
-    ensures images { (k : Kept) → Keeps connector.old k → IsSavedThroughout W.content W.history (schema_of connector.old) k (effect_of (schema_of connector.old) (limits_of connector.old) k (meaning.meaning text.now)) (store_of connector.old) station.old station.new }
-    ensures memory { IfErr result (λ why. why ≡ stop.NoMemory → (k : Kept) → Keeps connector.old k → StaysSaved W.content W.history (schema_of connector.old) k (store_of connector.old) station.old station.new) }
-    ensures emptied { (meaning.meaning text.now) ≡ Says commands.Checkpoint → OnOk result (IfSome (W.content station.new) HasNoRecord) }
-    ensures still { (meaning.meaning text.now) ≡ Silent → station.new ≡ station.old }
-    ensures settled { OnOk result (IsSettled (W.content station.new) (W.now station.new)) }
-    ensures silent { IsSilent W.now W.history W.speak_faults station.old station.new }
-    ensures cause { HasCauseIf (W.disk_faults station.old) (W.disk_faults station.new) (is_disk_stop result) }
-{
-    match read_get(text) {
-        Some(words) => reply_to_get(connector, words),
-        None => reply_to_any(alloc, connector, text, station),
-    }
-}
-
 /// Does what a line says, and tells the reply, if it has one. Nothing is spoken. After an error the connector is not used again.
 #[inline(always)]
 pub fn reply_to<W: Station>(
@@ -161,7 +114,7 @@ pub fn reply_to<W: Station>(
     ensures cause { HasCauseIf (W.disk_faults station.old) (W.disk_faults station.new) (is_disk_stop result) }
 {
     match line {
-        LineStep::Line(text) => reply_to_text(alloc, connector, text.as_slice(), station),
+        LineStep::Line(text) => reply_to_any(alloc, connector, text.as_slice(), station),
         LineStep::TooLong => Ok(Some(Reply::Err(TOO_LONG))),
         _ => Ok(None),
     }

@@ -34,8 +34,8 @@ fn is_done(reply: &Reply) -> bool
     }
 }
 
-// Speaks a whole line in one call.
-fn speak_line<W: Station>(line: &[u8], station: &mut W) -> Turn
+/// Speaks a whole line in one call.
+pub fn speak_line<W: Station>(line: &[u8], station: &mut W) -> Turn
     ensures speaks { Speaks result line.now (W.now station.old).spoken (W.now station.new).spoken }
     ensures disk { (W.now station.new).disk ≡ (W.now station.old).disk }
     ensures content { W.content station.new ≡ W.content station.old }
@@ -52,6 +52,7 @@ fn speak_line<W: Station>(line: &[u8], station: &mut W) -> Turn
 
 /// Speaks a reply with its line feed in one call, which is made in the room of another line. Want of memory comes before anything
 /// is spoken.
+#[inline(never)]
 pub fn say<W: Station>(line: &mut Bytes, reply: &Reply, station: &mut W) -> Turn
     ensures speaks { Speaks result (line_for reply.now) (W.now station.old).spoken (W.now station.new).spoken }
     ensures disk { (W.now station.new).disk ≡ (W.now station.old).disk }

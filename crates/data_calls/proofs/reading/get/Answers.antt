@@ -1,12 +1,38 @@
-use Rattle.std.proofs.Common.{◌≡◌, ap, subst, ◌∙◌}
-use Rattle.std.specs.Prelude.{IfOk}
-use Rattle.pss_machine.specs.declared.command.Command.{Command}
+use Rattle.std.proofs.Common.{refl, ap, ◌∙◌, subst}
+use Rattle.std.specs.Prelude.{Result}
 use Rattle.pss_machine.specs.declared.command.Command.TheVariants as command
-use Rattle.pss_machine.specs.Kept.{Kept}
+use Rattle.pss_machine.specs.declared.reply.Reply.{Reply}
+use Rattle.pss_machine.specs.Kept.{Kept, copies_of}
+use Rattle.pss_machine.specs.Asking.{Asked, getting}
+use Rattle.pss_asking.specs.Telling.{Tells, plain_asked}
 use Rattle.connector_parts.specs.Stands.{IsAt, Comes}
+use Rattle.connector_parts.proofs.Tellings.{if_ok}
+use Rattle.data_calls.specs.Asking.{Asks, decision_on, Follows}
+use Rattle.data_calls.proofs.Fair.{getting_right}
+use Rattle.data_calls.proofs.Words.{named_as, any_asks, comes, idle}
 use Rattle.data_calls.proofs.reading.get.Goals as goal
 
-pub returns : goal.returns
-returns g c =
-    subst (λ (x : Command). IfOk c.get_by.result (λ reply. (k : Kept) → IsAt c.args.parts.now k → Comes c.args.parts.now k x reply c.get_by.new.parts))
-    (ap (λ n. command.Get n c.args.entry c.as_slice-2.result.now) c.as_slice.ensures ∙ ap (command.Get c.args.name.now c.args.entry) c.as_slice-2.ensures) c.get_by.ensures
+pub ask-requires : goal.ask-requires
+ask-requires g c =
+    let k = c.requires.kept in
+    let at = c.requires.at in
+    let named = named_as c.as_slice.result.now c.args.name.now c.as_slice.ensures (c.in-Ok.ensures k at) in
+    any_asks c.args.parts.now k at c.args.name.now c.in-Ok.acting named (command.Get c.args.name.now c.args.entry c.args.member.now) (λ s session. getting c.args.parts.now.schema (copies_of k s) c.args.entry c.args.member.now) (λ owners. refl)
+    (getting_right c.args.parts.now.schema (copies_of k c.in-Ok.acting.session) c.args.entry c.args.member.now) c.get-asked.result
+    (subst (Tells plain_asked c.get-asked.result) (ap (λ S. getting S (copies_of k c.in-Ok.acting.session) c.named-entry.result.number c.as_slice-in-Ok.result.now) c.asking.ensures.schema ∙ ap (λ n. getting c.args.parts.now.schema (copies_of k c.in-Ok.acting.session) n c.as_slice-in-Ok.result.now) c.named-entry.ensures.number ∙ ap (getting c.args.parts.now.schema (copies_of k c.in-Ok.acting.session) c.args.entry) c.as_slice-in-Ok.ensures) (c.get-asked.ensures (copies_of k c.in-Ok.acting.session) (c.named-entry.ensures.object k at)))
+
+pub returns-in-Ok : goal.returns-in-Ok
+returns-in-Ok g c =
+    if_ok
+    (λ (reply : Reply). (told : Result Asked Reply) (a : Asks c.args.parts.now c.in-Ok.acting told) → Tells plain_asked c.get-asked.result told → Follows c.args.parts.now a.kept (decision_on a) reply c.ask.new.parts)
+    (λ (reply : Reply). (k : Kept) → IsAt c.args.parts.now k → Comes c.args.parts.now k (command.Get c.args.name.now c.args.entry c.args.member.now) reply c.ask.new.parts)
+    c.ask.result
+    (λ reply h k at.
+    let named = named_as c.as_slice.result.now c.args.name.now c.as_slice.ensures (c.in-Ok.ensures k at) in
+    comes c.args.parts.now k at c.args.name.now c.in-Ok.acting named (command.Get c.args.name.now c.args.entry c.args.member.now) (λ s session. getting c.args.parts.now.schema (copies_of k s) c.args.entry c.args.member.now) (λ owners. refl)
+    (getting_right c.args.parts.now.schema (copies_of k c.in-Ok.acting.session) c.args.entry c.args.member.now) c.get-asked.result
+    (subst (Tells plain_asked c.get-asked.result) (ap (λ S. getting S (copies_of k c.in-Ok.acting.session) c.named-entry.result.number c.as_slice-in-Ok.result.now) c.asking.ensures.schema ∙ ap (λ n. getting c.args.parts.now.schema (copies_of k c.in-Ok.acting.session) n c.as_slice-in-Ok.result.now) c.named-entry.ensures.number ∙ ap (getting c.args.parts.now.schema (copies_of k c.in-Ok.acting.session) c.args.entry) c.as_slice-in-Ok.ensures) (c.get-asked.ensures (copies_of k c.in-Ok.acting.session) (c.named-entry.ensures.object k at))) reply c.ask.new.parts h)
+    c.ask.ensures
+
+pub returns-in-Err : goal.returns-in-Err
+returns-in-Err g c k at = idle c.args.parts.now k at c.as_slice.result.now c.args.name.now c.as_slice.ensures c.in-Err.reply (c.in-Err.ensures k at) (command.Get c.args.name.now c.args.entry c.args.member.now) (λ s session. getting c.args.parts.now.schema (copies_of k s) c.args.entry c.args.member.now) (λ owners. refl)

@@ -1,24 +1,19 @@
 -- In a text without a fault each declaration stands behind those that it names as bases or implements.
-use Rattle.std.proofs.Common.{◌≡◌, ℕ, zero, suc, ◌+◌, ◌<◌, List, [], ◌∷◌, ◌++◌, length, Bool, true, false, cond, not, nat_lt, ◌&&◌, ◌||◌, ◌==◌, Option, Some, None, refl, sym, ap, subst, ◌∙◌, arith, ⊎_elim}
-use Rattle.std.specs.List.{flat_map, position_from}
-use Rattle.std.specs.Option.{option_and_then, option_or, option_to_list}
-use Rattle.std.specs.Str.{bytes_eq}
-use Rattle.std.proofs.lemmas.Bool.{and_parts, cases_Bool, cases_eq, eq-eqb, eqb-true, ltb-true, ltb-false, not-false, not-true}
-use Rattle.std.proofs.lemmas.Slice.Eq.{bytes_eq-Decides}
+use Rattle.std.proofs.Common.{◌≡◌, ℕ, ◌+◌, ◌<◌, List, [], ◌∷◌, ◌++◌, length, Bool, true, false, cond, not, nat_lt, ◌||◌, ◌==◌, Option, Some, None, refl, sym, ap, subst, ◌∙◌, arith, ⊎_elim}
+use Rattle.std.specs.List.{flat_map}
+use Rattle.std.specs.Option.{option_or, option_to_list}
+use Rattle.std.proofs.lemmas.Bool.{cases_Bool, cases_eq, eq-eqb, eqb-true, ltb-true, ltb-false, not-false}
 use Rattle.std.proofs.lemmas.List.{get_or_past}
 use Rattle.std.proofs.lemmas.List.Concat.{flat_map-append}
 use Rattle.pss_base.specs.declared.place.Place.{Place}
 use Rattle.psdl_tree.specs.declared.names.NamePart.{NamePart}
 use Rattle.psdl_tree.specs.Trees.{Name}
 use Rattle.type_layout.specs.Schemas.{given}
-use Rattle.psdl_directory.specs.declared.fault.CheckFault.{CheckFault}
-use Rattle.psdl_directory.specs.declared.fault.CheckKind.{CheckKind}
 use Rattle.psdl_directory.specs.declared.fault.CheckKind.TheVariants.{Incomplete, Cycle}
 use Rattle.psdl_directory.specs.Declarations.{Path, Declaration}
-use Rattle.psdl_directory.specs.Fault.{fault_if, each, each_from, is_after, least, lesser}
-use Rattle.psdl_directory.specs.Lookup.{as_is, at, nothing, below, first, first_of, first_inside, outwards, inwards, beginning, meaning, named, origin, place_of, same_path, is_named, defines, definition, defined}
-use Rattle.psdl_directory.specs.Parts.{is_module, kind, same_kind, is_forward, parents}
-use Rattle.psdl_directory.proofs.Agreeing.{same_path-Decides}
+use Rattle.psdl_directory.specs.Fault.{fault_if, each, least}
+use Rattle.psdl_directory.specs.Lookup.{as_is, at, nothing, below, first, first_of, first_inside, outwards, inwards, beginning, meaning, named, origin, place_of, is_named, defined}
+use Rattle.psdl_directory.specs.Parts.{is_module, parents}
 use Rattle.psdl_lineage.specs.Descent.{has, definitions_of, same_sort}
 use Rattle.psdl_lineage.specs.Graph.{graph_of}
 use Rattle.psdl_lineage.proofs.Foremost.{first_passes}
@@ -33,113 +28,8 @@ use Rattle.psdl_rules.specs.Faults.Limit.{limit_faults}
 use Rattle.psdl_standings.specs.Standings.{Standing, standings}
 use Rattle.psdl_standings.specs.Selves.{is_itself, of_itself, of_selves}
 use Rattle.psdl_check.specs.inner.Rising.{IsRising}
-
--- ---- lists that are empty
-
--- of two lists that are empty together each is empty
-pub both_empty : {A : Type 0} (xs ys : List A) → xs ++ ys ≡ [] → (xs ≡ []) × (ys ≡ [])
-both_empty [] ys e = (refl, e)
-both_empty (x ∷ xs) ys e = absurd (cc)
-
--- a fault that is not given does not hold
-pub does_not_hold : (b : Bool) (kind : CheckKind) (place : Place) → fault_if b kind place ≡ [] → b ≡ false
-does_not_hold true kind place e = absurd (cc)
-does_not_hold false kind place e = refl
-
--- what follows of a thing that is there is nothing
-pub none_given : {X A : Type 0} (o : Option X) (f : X → List A) → given o [] f ≡ [] → (x : X) → o ≡ Some x → f x ≡ []
-none_given None f e x is = absurd (cc)
-none_given (Some y) f e x is = let same : y ≡ x = cc in ap f (sym same) ∙ e
-
--- ---- conditions at one declaration
-
--- none of the faults at all declarations, none at one
-none_of_each : (condition : ℕ → Declaration → List CheckFault) (k : ℕ) (ds : List Declaration) → each_from condition k ds ≡ [] → (i : ℕ) → i < length ds → condition (k + i) (at ds i) ≡ []
-none_of_each condition k [] e i lt = absurd (omega (arith, lt))
-none_of_each condition k (d ∷ ds) e zero lt =
-    let same : k + 0 ≡ k = omega arith in
-    ap (λ (n : ℕ). condition n d) same ∙ (both_empty (condition k d) (each_from condition (k + 1) ds) e).0
-none_of_each condition k (d ∷ ds) e (suc i) lt =
-    let same : k + suc i ≡ k + 1 + i = omega arith in
-    ap (λ (n : ℕ). condition n (at ds i)) same
-    ∙ none_of_each condition (k + 1) ds (both_empty (condition k d) (each_from condition (k + 1) ds) e).1 i (omega (arith, lt))
-
-some_least : (f : CheckFault) (o : Option CheckFault) → lesser (Some f) o ≡ None → ⊥
-some_least f None e = cc
-some_least f (Some g) e = by (is_after f g) e
-  where
-    by : (b : Bool) → cond b (Some g) (Some f) ≡ None → ⊥
-    by true e = cc
-    by false e = cc
-
-nothing_least : (fs : List CheckFault) → least fs ≡ None → fs ≡ []
-nothing_least [] e = refl
-nothing_least (f ∷ fs) e = absurd (some_least f (least fs) e)
-
--- a condition that has no fault at any declaration has none at one
-at_one : (all : List Declaration) (condition : ℕ → Declaration → List CheckFault) → each condition all ≡ [] → (n : ℕ) → n < length all → condition n (at all n) ≡ []
-at_one all condition e n lt =
-    let same : n ≡ 0 + n = omega arith in
-    ap (λ (k : ℕ). condition k (at all n)) same ∙ none_of_each condition 0 all e n lt
-
--- ---- definitions
-
--- what is declared there is defined here
-pub record IsDefinition (all : List Declaration) (j t : ℕ) : Type 0 where
-  pub is_declared : t < length all
-  pub is_whole : is_forward (at all t).what ≡ false
-  pub one_kind : kind (at all j).what ≡ kind (at all t).what
-  pub one_path : (at all j).path ≡ (at all t).path
-  pub one_name : (at all j).name ≡ (at all t).name
-
--- what is found lies in the list
-pub position_within : {X : Type 0} (test : X → Bool) (i : ℕ) (xs : List X) (p : ℕ) → position_from test i xs ≡ Some p → p < i + length xs
-position_within test i [] p is = absurd (cc)
-position_within test i (x ∷ xs) p is = by (test x) is (λ later. position_within test (i + 1) xs p later)
-  where
-    by : (b : Bool) → cond b (Some i) (position_from test (i + 1) xs) ≡ Some p → (position_from test (i + 1) xs ≡ Some p → p < i + 1 + length xs) → p < i + length (x ∷ xs)
-    by true e rest = let same : i ≡ p = cc in omega (arith, same)
-    by false e rest = omega (arith, rest e)
-
--- the parts of a name's match
-pub named_parts : (d e : Declaration) → is_named as_is d.path d.name e ≡ true → (d.path ≡ e.path) × (d.name ≡ e.name)
-named_parts d e h =
-    let p = and_parts (same_path d.path e.path) (bytes_eq d.name e.name) h in
-    ((same_path-Decides d.path e.path).0 p.0, (bytes_eq-Decides d.name e.name).0 p.1)
-
--- what is found as the definition defines it
-pub definition_is : (all : List Declaration) (j t : ℕ) → definition all j ≡ Some t → IsDefinition all j t
-definition_is all j t is =
-    let d : Declaration = at all j in
-    let e : Declaration = at all t in
-    let lt : t < length all = omega (arith, position_within (defines d) 0 all t is) in
-    let whole : defines d e ≡ true = first_passes (defines d) all t nothing lt is in
-    let outer = and_parts (not (is_forward e.what) && same_kind d.what e.what) (is_named as_is d.path d.name e) whole in
-    let inner = and_parts (not (is_forward e.what)) (same_kind d.what e.what) outer.0 in
-    let same = named_parts d e outer.1 in
-    record {
-      is_declared = lt;
-      is_whole = not-true (is_forward e.what) inner.0;
-      one_kind = eqb-true (kind d.what) (kind e.what) inner.1;
-      one_path = same.0;
-      one_name = same.1;
-    }
-
--- ---- names
-
--- a name in the body of a declaration means one that is declared, and that is defined
-pub record Means (all : List Declaration) (n : ℕ) (name : Name) (t : ℕ) : Type 0 where
-  pub declared : ℕ
-  pub is_named : named all n name ≡ Some declared
-  pub is_definition : definition all declared ≡ Some t
-
--- a name that is defined means a declaration
-pub means : (all : List Declaration) (n : ℕ) (name : Name) (t : ℕ) → defined all n name ≡ Some t → Means all n name t
-means all n name t is = by (named all n name) refl is
-  where
-    by : (o : Option ℕ) → named all n name ≡ o → option_and_then (definition all) o ≡ Some t → Means all n name t
-    by None e is = absurd (cc)
-    by (Some j) e is = record { declared = j; is_named = e; is_definition = is }
+use Rattle.psdl_check.proofs.FaultlessTexts.{both_empty, does_not_hold, none_given, nothing_least, at_one}
+use Rattle.psdl_check.proofs.Meanings.{IsDefinition, position_within, named_parts, definition_is, Means, means}
 
 -- ---- what a name means is the first of its own name
 

@@ -12,10 +12,12 @@ use Rattle.psdl_check.specs.declared.home_keys.HeldKey.{HeldKey}
 use Rattle.psdl_check.specs.declared.key_rows.KeyIds.{KeyIds}
 use Rattle.psdl_check.specs.declared.keys.Introducing.{Introducing}
 use Rattle.psdl_check.specs.declared.keys.Keys.{Keys}
+use Rattle.psdl_check.specs.declared.numbering.Numbered.{Numbered}
 use Rattle.psdl_check.specs.inner.HeldKeys.{AreHeld, base_has, held_view, held_views, news}
 use Rattle.psdl_check.specs.inner.Keys.{AreKeys}
 use Rattle.psdl_check.specs.inner.Made.{key_lines, HasNames}
-use Rattle.psdl_check.specs.inner.Numbering.{HasNumber, IsNumberable, numbers_of}
+use Rattle.psdl_check.specs.inner.NextHomes.{HasNumberedKeys}
+use Rattle.psdl_check.specs.inner.Numbering.{AreAllNumbered, HasNumber, IsNumberable, numbers_of}
 use Rattle.psdl_check.specs.inner.Rising.{IsRising}
 use Rattle.psdl_check.proofs.KeyedBases.{base_numbered}
 use Rattle.psdl_check.proofs.Homing.{news_are, all_parts, one_home_more}
@@ -40,20 +42,32 @@ module _ (all asked : List Declaration) (ids : KeyIds) (home : Introducing) (bas
       base_numbered all rising homes more home.home (held_view h) whole
       (ap (λ (o : Option ℕ). base_has all o (held_view h)) (sym is_base) ∙ sym (told_at all base held i h are.of_base lt is) ∙ on)
 
-  pub can_number : IsNumberable asked ids (flat_map (introduced all) homes) (flat_map (introduced all) more) home held keys
+  can_number : IsNumberable asked ids (flat_map (introduced all) homes) (flat_map (introduced all) more) home held keys
   can_number =
       subst (λ (d : List Declaration). IsNumberable d ids (flat_map (introduced all) homes) (flat_map (introduced all) more) home held keys) (sym same)
       (record { layout = record { number = number; members = names }; numbered = are.numbered; before = before; rest = all_parts all homes more home (news home held) whole new; few = few; of_base = of_base })
 
-  pub lines_are : (front length_ : ℕ) → length_ ≡ cut (front + length (flat_map (key_line (schema asked)) (numbers_of asked home.home (held_views held)))) → length_ ≡ cut (front + length (key_lines all home.home))
+  lines_are : (front length_ : ℕ) → length_ ≡ cut (front + length (flat_map (key_line (schema asked)) (numbers_of asked home.home (held_views held)))) → length_ ≡ cut (front + length (key_lines all home.home))
   lines_are front n is =
       is ∙ ap (λ (d : List Declaration). cut (front + length (flat_map (key_line (schema d)) (numbers_of d home.home (held_views held))))) same
       ∙ ap (λ (v : List Listed). cut (front + length (flat_map (key_line (schema all)) (numbers_of all home.home v)))) are.views
 
-  pub numbers_are : numbers_of asked home.home (held_views held) ≡ key_numbers all home.home
+  numbers_are : numbers_of asked home.home (held_views held) ≡ key_numbers all home.home
   numbers_are = ap (λ (d : List Declaration). numbers_of d home.home (held_views held)) same ∙ ap (numbers_of all home.home) are.views
 
-  pub keys_are : (after : Keys) → AreKeys asked ids (flat_map (introduced all) homes ++ news home held) after → AreKeys all ids (flat_map (introduced all) (homes ++ home.home ∷ [])) after
+  keys_are : (after : Keys) → AreKeys asked ids (flat_map (introduced all) homes ++ news home held) after → AreKeys all ids (flat_map (introduced all) (homes ++ home.home ∷ [])) after
   keys_are after is =
       subst (λ (l : List Introduced). AreKeys all ids l after) (ap (λ l. flat_map (introduced all) homes ++ l) new ∙ sym (one_home_more all homes home.home))
       (subst (λ (d : List Declaration). AreKeys d ids (flat_map (introduced all) homes ++ news home held) after) same is)
+
+  -- so they are numbered, where all keys that may be numbered are
+  pub keys_numbered : (front : ℕ) (after : Keys) (numbered : Numbered)
+      → ((before_ behind : List Introduced) → IsNumberable asked ids before_ behind home held keys → AreAllNumbered asked ids before_ home held front after numbered)
+      → HasNumberedKeys all ids homes home.home front after numbered
+  keys_numbered front after numbered f =
+      let told = f (flat_map (introduced all) homes) (flat_map (introduced all) more) can_number in
+      record {
+        reached = lines_are front numbered.length.0 told.reached;
+        counted = λ fits. told.counted fits ∙ numbers_are;
+        known = λ fits. keys_are after (told.known fits);
+      }

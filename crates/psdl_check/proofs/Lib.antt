@@ -30,3 +30,7 @@ pub mod Stating
 pub mod Numbers
 pub mod Introduced
 pub mod KeyLines
+pub mod FewHomes
+pub mod FewMembers
+pub mod FaultlessTexts
+pub mod Meanings

@@ -136,6 +136,21 @@ in_front_few all i = few (λ n. is_concrete_home (at all n).what) i 0
     few test zero a = omega arith
     few test (suc k) a = few_step k a (filter test (range_with_len (a + 1) k)) (few test k (a + 1)) (test a)
 
+-- no more homes stand in front than there are
+few_in_front : (test : ℕ → Bool) (k i a : ℕ) → i ≤ k → length (filter test (range_with_len a i)) ≤ length (filter test (range_with_len a k))
+few_in_front test k zero a le = omega arith
+few_in_front test zero (suc i) a le = absurd (omega (arith, le))
+few_in_front test (suc k) (suc i) a le =
+    by (filter test (range_with_len (a + 1) i)) (filter test (range_with_len (a + 1) k)) (test a) (few_in_front test k i (a + 1) (omega (arith, le)))
+  where
+    by : (xs ys : List ℕ) (b : Bool) → length xs ≤ length ys → length (cond b (a ∷ xs) xs) ≤ length (cond b (a ∷ ys) ys)
+    by xs ys true le = omega (arith, le)
+    by xs ys false le = le
+
+pub in_front_within : (all : List Declaration) (i : ℕ) → i ≤ length all → homes_in_front all i ≤ length (concrete_homes all)
+unfolding concrete_homes
+in_front_within all i le = few_in_front (λ n. is_concrete_home (at all n).what) (length all) i 0 le
+
 -- ---- one declaration more
 
 numbered_by : (all : List Declaration) (n : ℕ) (k : ℕ) → n < length all → (b : Bool) → is_concrete_home (at all n).what ≡ b → k ≡ cond b (1 + homes_in_front all n) 0 → number k ≡ home_no all n

@@ -1,5 +1,6 @@
 pub mod Declaring
 pub mod FactoryTexts
+pub mod FewMembers
 pub mod Gathered
 pub mod HeldKeys
 pub mod HomeNos
@@ -15,6 +16,7 @@ pub mod LineLengths
 pub mod Lists
 pub mod Masks
 pub mod MemberLines
+pub mod NextHomes
 pub mod NumbersIn
 pub mod Referring
 pub mod Rising

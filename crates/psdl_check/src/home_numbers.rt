@@ -1,8 +1,9 @@
 // The numbers that homes have in a schema.
-ghost use Rattle.std.specs.Prelude.{◌≡◌, ◌<◌, ◌+◌, ◌++◌, ◌∷◌, [], length, IfOk, OnOk};
+ghost use Rattle.std.specs.Prelude.{◌≡◌, ◌<◌, ◌≤◌, ◌+◌, ◌++◌, ◌∷◌, [], length, IfOk, OnOk};
 ghost use Rattle.psdl_directory.specs.Directories.{all_of};
+ghost use Rattle.psdl_rules.specs.Faults.Limit.{most_homes};
 ghost use Rattle.psdl_check.specs.Schemas.{home_no};
-ghost use Rattle.psdl_check.specs.inner.HomeNos.{home_nos, homes_in_front};
+ghost use Rattle.psdl_check.specs.inner.HomeNos.{HasFewHomes, home_nos, homes_in_front};
 
 use psdl_directory::{DeclarationNo, Directory};
 use psdl_lineage::is_concrete_home;
@@ -19,6 +20,7 @@ fn add_number(
 ) -> Result<u32, NoMemory>
     requires index { index < length (all_of directory.now) }
     requires homes { homes ≡ homes_in_front (all_of directory.now) index }
+    requires few { homes ≤ most_homes }
     ensures numbers { OnOk result (numbers.new.items ≡ numbers.old.items ++ home_no (all_of directory.now) index ∷ []) }
     ensures homes { IfOk result (λ r. r ≡ homes_in_front (all_of directory.now) (index + 1)) }
 {
@@ -27,11 +29,8 @@ fn add_number(
         numbers.push(HomeNo(0))?;
         return Ok(homes);
     }
-    let Some(count) = homes.checked_add(1) else {
-        return Err(NoMemory);
-    };
-    numbers.push(HomeNo(count))?;
-    Ok(count)
+    numbers.push(HomeNo(homes + 1))?;
+    Ok(homes + 1)
 }
 
 /// The number of each declaration that is a concrete home, from 1, and 0 of each other.
@@ -39,6 +38,7 @@ pub(crate) fn home_numbers(
     alloc: Global,
     directory: &Directory<'_>,
 ) -> Result<Vec<HomeNo>, NoMemory>
+    requires few { HasFewHomes (all_of directory.now) }
     ensures { IfOk result (λ v. v.items ≡ home_nos (all_of directory.now)) }
 {
     let mut numbers = Vec::new(alloc);

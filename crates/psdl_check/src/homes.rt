@@ -1,20 +1,20 @@
 // The homes of a schema, made one by one.
 ghost use Rattle.std.specs.Prelude.{◌≡◌, ◌≤◌, ◌++◌, ◌∷◌, ◌+◌, [], ℕ, List, Some, false, length, nat_lt, IfOk, IfNone};
-ghost use Rattle.std.specs.List.{flat_map};
 ghost use Rattle.std.specs.Option.{option_and_then};
 ghost use Rattle.type_layout.specs.Schemas.{nth};
 ghost use Rattle.type_layout.specs.ShapeText.{base_number};
 ghost use Rattle.psdl_lineage.specs.Descent as descent;
-ghost use Rattle.psdl_rules.specs.Faults.Limit.{most_shape};
+ghost use Rattle.psdl_rules.specs.Faults.Limit.{most_members, most_shape};
 ghost use Rattle.psdl_standings.specs.Standings.{standings};
 ghost use Rattle.psdl_standings.specs.Texts.{types_in};
 ghost use Rattle.psdl_standings.specs.TextLengths.{cut};
 ghost use Rattle.psdl_check.specs.Faults.{passing};
-ghost use Rattle.psdl_check.specs.Schemas.{home_of, introduced, key_numbers, schema};
+ghost use Rattle.psdl_check.specs.Schemas.{home_of, key_numbers, schema};
 ghost use Rattle.psdl_check.specs.inner.FactoryTexts.{factories_text};
-ghost use Rattle.psdl_check.specs.inner.Made.{IsLaid, front_lines, key_lines, lines_of, IsReady, AreMade, HasNames, HasKeys, AreFactories};
+ghost use Rattle.psdl_check.specs.inner.Made.{IsLaid, front_lines, lines_of, IsReady, AreMade, HasNames, AreFactories};
 ghost use Rattle.psdl_check.specs.inner.Laying.{laid_text};
 ghost use Rattle.psdl_check.specs.inner.Masks.{AreGroups};
+ghost use Rattle.psdl_check.specs.inner.NextHomes.{ComesNext, HasNumberedKeys};
 ghost use Rattle.psdl_check.specs.inner.Texts.{text_in, IsOne};
 
 use crate::heirs::Heirs;
@@ -164,11 +164,10 @@ fn number_keys(
     front: TextLength,
 ) -> Result<Numbered, NoMemory>
     requires ready { IsReady (text_in text.now) making.old }
+    requires few { length members.now ≤ most_members }
     ensures ready { IsReady (text_in text.now) making.new }
     ensures homes { making.new.homes ≡ making.old.homes }
-    ensures length { IfOk result (λ r. (homes more : List ℕ) → HasNames (text_in text.now) home members.now → descent.concrete_homes (text_in text.now) ≡ (homes ++ home ∷ []) ++ more → AreMade (text_in text.now) homes making.old → length (flat_map (introduced (text_in text.now)) homes) ≤ most_shape → r.length.0 ≡ cut (front.0 + length (key_lines (text_in text.now) home))) }
-    ensures numbers { IfOk result (λ r. (homes more : List ℕ) → HasNames (text_in text.now) home members.now → descent.concrete_homes (text_in text.now) ≡ (homes ++ home ∷ []) ++ more → AreMade (text_in text.now) homes making.old → length (flat_map (introduced (text_in text.now)) homes) ≤ most_shape → nat_lt most_shape r.length.0 ≡ false → r.numbers ≡ key_numbers (text_in text.now) home) }
-    ensures keys { IfOk result (λ r. (homes more : List ℕ) → HasNames (text_in text.now) home members.now → descent.concrete_homes (text_in text.now) ≡ (homes ++ home ∷ []) ++ more → AreMade (text_in text.now) homes making.old → length (flat_map (introduced (text_in text.now)) homes) ≤ most_shape → nat_lt most_shape r.length.0 ≡ false → HasKeys (text_in text.now) (homes ++ home ∷ []) making.new) }
+    ensures numbered { IfOk result (λ r. (homes more : List ℕ) → HasNames (text_in text.now) home members.now → ComesNext (text_in text.now) homes more home making.old → HasNumberedKeys (text_in text.now) making.new.rows.ids homes home front.0 making.new.keys r) }
 {
     let base = text.lineage.base_home(home);
     let held = making.home_keys.held(alloc, &making.rows, home, base)?;
@@ -177,15 +176,14 @@ fn number_keys(
         number: text.home_no(home),
         members,
     };
-    let numbered = number_all(
+    number_all(
         alloc,
         &mut making.keys,
         &mut making.conformity,
         &introducing,
         &held,
         front,
-    )?;
-    Ok(numbered)
+    )
 }
 
 // Makes a home, unless the shape gets too long with it. Answers the length of the shape with it.
@@ -199,8 +197,8 @@ fn add_home(
     requires one { IsOne text.now }
     requires ready { IsReady (text_in text.now) making.old }
     ensures ready { IsReady (text_in text.now) making.new }
-    ensures length { IfOk result (λ r. (homes more : List ℕ) → descent.concrete_homes (text_in text.now) ≡ (homes ++ home ∷ []) ++ more → AreMade (text_in text.now) homes making.old → length (flat_map (introduced (text_in text.now)) homes) ≤ most_shape → r.0 ≡ cut (front.0 + length (lines_of (text_in text.now) home))) }
-    ensures made { IfOk result (λ r. (homes more : List ℕ) → descent.concrete_homes (text_in text.now) ≡ (homes ++ home ∷ []) ++ more → AreMade (text_in text.now) homes making.old → length (flat_map (introduced (text_in text.now)) homes) ≤ most_shape → nat_lt most_shape r.0 ≡ false → AreMade (text_in text.now) (homes ++ home ∷ []) making.new) }
+    ensures length { IfOk result (λ r. (homes more : List ℕ) → ComesNext (text_in text.now) homes more home making.old → r.0 ≡ cut (front.0 + length (lines_of (text_in text.now) home))) }
+    ensures made { IfOk result (λ r. (homes more : List ℕ) → ComesNext (text_in text.now) homes more home making.old → nat_lt most_shape r.0 ≡ false → AreMade (text_in text.now) (homes ++ home ∷ []) making.new) }
 {
     let laid = lay_out(alloc, text, &mut making.layouts, &mut making.heirs, home)?;
     let between = with_laid(text, home, &laid, front);

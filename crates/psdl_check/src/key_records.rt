@@ -1,11 +1,12 @@
 // Keys as a schema holds them.
-ghost use Rattle.std.specs.Prelude.{◌≡◌, ◌++◌, IfOk, OnOk};
+ghost use Rattle.std.specs.Prelude.{◌≡◌, ◌<◌, ◌≤◌, ◌++◌, length, IfOk, IfSome, OnOk};
 ghost use Rattle.std.specs.Str.{bytes_eq};
 ghost use Rattle.std.specs.Option.{option_to_list};
 ghost use Rattle.type_layout.specs.NamePlaces.{place_among};
 ghost use Rattle.type_layout.specs.Factories.{numbers_among};
 ghost use Rattle.psdl_lineage.specs.Descent.{names_of};
 ghost use Rattle.psdl_members.specs.Listings.{listed_view};
+ghost use Rattle.psdl_rules.specs.Faults.Limit.{most_members};
 ghost use Rattle.psdl_check.specs.inner.TypedMembers.{typed_names};
 
 use crate::members::TypedMember;
@@ -21,9 +22,10 @@ fn is_called(member: &TypedMember<'_>, name: &[u8]) -> bool
     name == member.name.name.as_slice()
 }
 
-// The number of the first member of a name. A home has 255 members at most.
+// The number of the first member of a name.
 fn place_of(members: &[TypedMember<'_>], name: &[u8]) -> Option<usize>
-    ensures { result ≡ place_among (typed_names members.now) name.now }
+    ensures place { result ≡ place_among (typed_names members.now) name.now }
+    ensures within { IfSome result (λ p. p < length members.now) }
 {
     for place in 0..members.len() {
         if is_called(&members[place], name) {
@@ -39,15 +41,13 @@ fn add_index(
     members: &[TypedMember<'_>],
     name: &Identifier,
 ) -> Result<(), NoMemory>
+    requires few { length members.now ≤ most_members }
     ensures { OnOk result (found.new ≡ found.old ++ option_to_list (place_among (typed_names members.now) name.now.name)) }
 {
     let Some(place) = place_of(members, name.name.as_slice()) else {
         return Ok(());
     };
-    match u32::try_from(place) {
-        Ok(index) => found.push(index),
-        Err(_) => Err(NoMemory),
-    }
+    found.push(place as u32)
 }
 
 // Adds the numbers of the first members of these names.
@@ -56,6 +56,7 @@ fn add_indexes(
     members: &[TypedMember<'_>],
     names: &[Identifier],
 ) -> Result<(), NoMemory>
+    requires few { length members.now ≤ most_members }
     ensures { OnOk result (found.new ≡ found.old ++ numbers_among (typed_names members.now) (names_of names.now)) }
 {
     for name in names {
@@ -70,6 +71,7 @@ fn indexes_of(
     members: &[TypedMember<'_>],
     listed: &Listed<'_>,
 ) -> Result<Indexes, NoMemory>
+    requires few { length members.now ≤ most_members }
     ensures { IfOk result (λ found. found ≡ numbers_among (typed_names members.now) (listed_view listed.now).members) }
 {
     let mut found = Indexes::new(alloc);
@@ -85,6 +87,7 @@ pub(crate) fn key_of(
     members: &[TypedMember<'_>],
     listed: &Listed<'_>,
 ) -> Result<Key, NoMemory>
+    requires few { length members.now ≤ most_members }
     ensures { IfOk result (λ key. key ≡ record { name = (listed_view listed.now).name; home = home; members = numbers_among (typed_names members.now) (listed_view listed.now).members }) }
 {
     let name = listed.name.name.copy()?;

@@ -52,7 +52,7 @@ impl Keys {
     ghost use Rattle.psdl_check.specs.inner.Gathered.{FitsIds};
     ghost use Rattle.psdl_check.specs.inner.KeyIds.{id_of, own_view};
     ghost use Rattle.psdl_check.specs.inner.Keys.{AreKeys, number_among};
-    ghost use Rattle.psdl_check.specs.inner.KeysMade.{introduction, HasLayout};
+    ghost use Rattle.psdl_check.specs.inner.KeysMade.{introduction, HasFew, HasLayout};
     ghost use Rattle.psdl_check.specs.inner.NumbersIn.{numbers_in};
 
     /// None, where there are so many names and lists.
@@ -77,6 +77,7 @@ impl Keys {
         home: &Introducing<'_, '_>,
         key: OwnKey<'_>,
     ) -> Result<(), NoMemory>
+        requires few { HasFew home.now }
         ensures { OnOk result ((all : List Declaration) (ids : Ids) (introduced : List Introduced) → HasLayout all home.now → id_of ids (own_view key.entry) ≡ Some key.entry.id → AreKeys all ids introduced self.old → AreKeys all ids (introduced ++ introduction home.now (own_view key.entry) ∷ []) self.new) }
     {
         let number = self.homes.len();

@@ -1,19 +1,16 @@
 // The numbers of the keys that a home has.
 ghost use Rattle.std.specs.Prelude.{◌≡◌, ◌≤◌, ◌++◌, ◌∷◌, ◌+◌, [], ℕ, List, Some, false, true, length, nat_lt, IfOk, OnOk};
-ghost use Rattle.std.specs.List.{flat_map};
-ghost use Rattle.type_layout.specs.ShapeText.{key_line};
 ghost use Rattle.psdl_directory.specs.Declarations.{Declaration};
 ghost use Rattle.psdl_lineage.specs.Lineages.{asked_of};
 ghost use Rattle.psdl_lineage.specs.Descent.{Listed as ListedView};
 ghost use Rattle.psdl_rules.specs.Faults.Limit.{most_shape};
-ghost use Rattle.psdl_standings.specs.TextLengths.{cut};
-ghost use Rattle.psdl_check.specs.Schemas.{Introduced, all_introduced, schema};
+ghost use Rattle.psdl_check.specs.Schemas.{Introduced, all_introduced};
 ghost use Rattle.psdl_check.specs.declared.key_rows.KeyIds.{KeyIds as Ids};
 ghost use Rattle.psdl_check.specs.inner.KeyIds.{id_of, own_view};
 ghost use Rattle.psdl_check.specs.inner.Keys.{AreKeys, number_among};
-ghost use Rattle.psdl_check.specs.inner.HeldKeys.{held_view, held_views, news};
-ghost use Rattle.psdl_check.specs.inner.KeysMade.{HasLayout, new_one};
-ghost use Rattle.psdl_check.specs.inner.Numbering.{AreNumbered, numbers_of, HasNumber, IsNumberable};
+ghost use Rattle.psdl_check.specs.inner.HeldKeys.{held_view};
+ghost use Rattle.psdl_check.specs.inner.KeysMade.{HasFew, HasLayout, new_one};
+ghost use Rattle.psdl_check.specs.inner.Numbering.{AreAllNumbered, AreNumbered, HasNumber, IsNumberable};
 
 use crate::home_keys::HeldKey;
 use crate::key_lines::with_key;
@@ -40,6 +37,7 @@ fn introduce_new(
     key: OwnKey<'_>,
     of_base: bool,
 ) -> Result<(), NoMemory>
+    requires few { HasFew home.now }
     ensures { OnOk result ((all : List Declaration) (ids : Ids) (introduced : List Introduced) → HasLayout all home.now → id_of ids (own_view key.entry) ≡ Some key.entry.id → AreKeys all ids introduced keys.old → AreKeys all ids (introduced ++ new_one of_base home.now (own_view key.entry)) keys.new) }
 {
     if of_base {
@@ -72,6 +70,7 @@ pub(crate) fn number_of(
     key: OwnKey<'_>,
     of_base: bool,
 ) -> Result<KeyNo, NoMemory>
+    requires few { HasFew home.now }
     ensures same { asked_of conformity.new ≡ asked_of conformity.old }
     ensures keys { OnOk result ((ids : Ids) (introduced : List Introduced) → HasLayout (asked_of conformity.old) home.now → id_of ids (own_view key.entry) ≡ Some key.entry.id → AreKeys (asked_of conformity.old) ids introduced keys.old → AreKeys (asked_of conformity.old) ids (introduced ++ new_one of_base home.now (own_view key.entry)) keys.new) }
     ensures number { IfOk result (λ n. (ids : Ids) (introduced : List Introduced) → HasLayout (asked_of conformity.old) home.now → id_of ids (own_view key.entry) ≡ Some key.entry.id → length introduced ≤ most_shape + most_shape → (of_base ≡ true → HasNumber (asked_of conformity.old) home.now.home introduced (own_view key.entry)) → AreKeys (asked_of conformity.old) ids introduced keys.old → number_among (asked_of conformity.old) home.now.home (introduced ++ new_one of_base home.now (own_view key.entry)) (own_view key.entry) ≡ Some n.0) }
@@ -90,6 +89,7 @@ fn number_next(
     held: HeldKey<'_>,
     numbered: &mut Numbered,
 ) -> Result<(), NoMemory>
+    requires few { HasFew home.now }
     ensures same { asked_of conformity.new ≡ asked_of conformity.old }
     ensures numbered { OnOk result ((ids : Ids) (introduced more : List Introduced) (views : List ListedView) (front : ℕ) → HasLayout (asked_of conformity.old) home.now → id_of ids (held_view held.entry) ≡ Some held.entry.key.id → all_introduced (asked_of conformity.old) ≡ (introduced ++ new_one held.entry.of_base home.now (held_view held.entry)) ++ more → nat_lt most_shape numbered.old.length.0 ≡ false → (held.entry.of_base ≡ true → HasNumber (asked_of conformity.old) home.now.home introduced (held_view held.entry)) → AreNumbered (asked_of conformity.old) ids introduced home.now.home views front keys.old numbered.old → AreNumbered (asked_of conformity.old) ids (introduced ++ new_one held.entry.of_base home.now (held_view held.entry)) home.now.home (views ++ held_view held.entry ∷ []) front keys.new numbered.new) }
 {
@@ -108,10 +108,9 @@ pub(crate) fn number_all(
     held: &[HeldKey<'_>],
     front: TextLength,
 ) -> Result<Numbered, NoMemory>
+    requires few { HasFew home.now }
     ensures same { asked_of conformity.new ≡ asked_of conformity.old }
-    ensures length { IfOk result (λ r. (ids : Ids) (introduced more : List Introduced) → IsNumberable (asked_of conformity.old) ids introduced more home.now held.now keys.old → r.length.0 ≡ cut (front.0 + length (flat_map (key_line (schema (asked_of conformity.old))) (numbers_of (asked_of conformity.old) home.now.home (held_views held.now))))) }
-    ensures numbers { IfOk result (λ r. (ids : Ids) (introduced more : List Introduced) → IsNumberable (asked_of conformity.old) ids introduced more home.now held.now keys.old → nat_lt most_shape r.length.0 ≡ false → r.numbers ≡ numbers_of (asked_of conformity.old) home.now.home (held_views held.now)) }
-    ensures keys { IfOk result (λ r. (ids : Ids) (introduced more : List Introduced) → IsNumberable (asked_of conformity.old) ids introduced more home.now held.now keys.old → nat_lt most_shape r.length.0 ≡ false → AreKeys (asked_of conformity.old) ids (introduced ++ news home.now held.now) keys.new) }
+    ensures numbered { IfOk result (λ r. (ids : Ids) (introduced more : List Introduced) → IsNumberable (asked_of conformity.old) ids introduced more home.now held.now keys.old → AreAllNumbered (asked_of conformity.old) ids introduced home.now held.now front.0 keys.new r) }
 {
     let mut numbered = Numbered {
         numbers: KeyNos::new(alloc),

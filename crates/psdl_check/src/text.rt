@@ -3,6 +3,7 @@ ghost use Rattle.std.specs.Prelude.{◌≡◌};
 ghost use Rattle.psdl_directory.specs.Headers as of;
 ghost use Rattle.psdl_lineage.specs.Lineages.{text_of};
 ghost use Rattle.psdl_lineage.specs.Graph.{graph_of};
+ghost use Rattle.psdl_check.specs.inner.FewMembers.{HasFewMembers};
 ghost use Rattle.psdl_check.specs.inner.HomeNos.{home_nos};
 ghost use Rattle.psdl_check.specs.inner.Rising.{IsRising};
 
@@ -23,6 +24,7 @@ pub(crate) struct Text<'t, 'd> {
     numbers: Vec<HomeNo>,
     ghost headed: { headers.now ≡ of.headers (text_of lineage.now) },
     ghost rising: { IsRising (graph_of (text_of lineage.now)) },
+    ghost few: { HasFewMembers (text_of lineage.now) },
     ghost numbered: { numbers.items ≡ home_nos (text_of lineage.now) },
 }
 
@@ -32,6 +34,8 @@ impl<'t, 'd> Text<'t, 'd> {
     ghost use Rattle.psdl_directory.specs.Headers as of;
     ghost use Rattle.psdl_lineage.specs.Descent as descent;
     ghost use Rattle.psdl_lineage.specs.Graph.{graph_of};
+    ghost use Rattle.psdl_check.specs.inner.FewMembers.{HasFewMembers};
+    ghost use Rattle.psdl_check.specs.inner.HomeNos.{HasFewHomes};
     ghost use Rattle.psdl_check.specs.inner.Rising.{IsRising};
     ghost use Rattle.psdl_lineage.specs.Lineages.{text_of};
     ghost use Rattle.psdl_standings.specs.Texts as told;
@@ -47,6 +51,8 @@ impl<'t, 'd> Text<'t, 'd> {
     ) -> Result<Text<'t, 'd>, NoMemory>
         requires headers { headers.now ≡ of.headers (text_of lineage.now) }
         requires rising { IsRising (graph_of (text_of lineage.now)) }
+        requires few { HasFewHomes (text_of lineage.now) }
+        requires members { HasFewMembers (text_of lineage.now) }
         ensures text { IfOk result (λ t. text_in t ≡ text_of lineage.now) }
         ensures told { IfOk result (λ t. told_in t ≡ told.text_of standings.now) }
     {

@@ -14,7 +14,7 @@ use Rattle.psdl_lineage.proofs.Texts.{ancestry_is, length-graph_of, parents_are}
 use Rattle.psdl_lineage.proofs.Low.{AreLow, joined_of, same_on}
 use Rattle.psdl_lineage.proofs.Repeats.{once}
 use Rattle.psdl_sound.proofs.Among.{Among, among_front, among_behind, among_parts, among_flat, among_from, among_chosen, among_passing, among_some, among_fresh, among_once}
-use Rattle.psdl_sound.proofs.FaultlessTexts.{no_fault_at}
+use Rattle.psdl_check.proofs.FaultlessTexts.{no_fault_at}
 use Rattle.psdl_sound.proofs.MemberLists.{has_among}
 use Rattle.psdl_sound.proofs.Parents.{IsOfKind, Stands, IsAbove, base_stands, implemented_stands, above_is, abstract_type_kind, abstract_home_kind, option_among}
 

@@ -21,7 +21,7 @@ use Rattle.psdl_sound.proofs.Among.{Among, at_among, among_front, among_parts, a
 use Rattle.psdl_sound.proofs.Ancestors.{parents_of, parent_told, parent_from, parent_passes, parent_in_front, from_parent, from_whom, abstract_homes, same_some}
 use Rattle.psdl_sound.proofs.Catalogs.{housed, home_at_number}
 use Rattle.psdl_sound.proofs.Homes.{IsHome, homes_count}
-use Rattle.psdl_sound.proofs.Meanings.{IsDefinition, definition_is, IsOneOf, base_is}
+use Rattle.psdl_check.proofs.Meanings.{IsDefinition, definition_is, IsOneOf, base_is}
 use Rattle.psdl_sound.proofs.MemberLists.{has_among}
 use Rattle.psdl_sound.proofs.Parents.{Stands, base_stands, implemented_stands, concrete_home_kind, abstract_home_kind}
 use Rattle.psdl_sound.proofs.HomeNumbers.{lower_number}

@@ -21,10 +21,10 @@ use Rattle.psdl_rules.specs.Faults.Limit.{home_number}
 use Rattle.psdl_directory.specs.Lookup.{as_is, at, nothing, below, first, first_of, first_inside, outwards, inwards, beginning, meaning, named, origin, place_of, is_named}
 use Rattle.psdl_directory.specs.Parts.{is_module, is_concrete_home, bases, implemented}
 use Rattle.psdl_check.specs.Schemas.{home_no}
-use Rattle.psdl_sound.proofs.FaultlessTexts.{HasNone, both_empty, does_not_hold, none_at, none_given, no_fault_at}
+use Rattle.psdl_check.proofs.FaultlessTexts.{HasNone, both_empty, does_not_hold, none_at, none_given, no_fault_at}
 use Rattle.psdl_lineage.proofs.Foremost.{first_passes}
 use Rattle.psdl_sound.proofs.Homes.{IsHome}
-use Rattle.psdl_sound.proofs.Meanings.{position_within, named_parts, IsDefinition, definition_is, IsOneOf, base_is}
+use Rattle.psdl_check.proofs.Meanings.{position_within, named_parts, IsDefinition, definition_is, IsOneOf, base_is}
 use Rattle.psdl_sound.proofs.HomeNumbers.{number_is, lower_number}
 
 -- ---- what a name means is the first of its own name

@@ -24,7 +24,7 @@ use Rattle.psdl_rules.specs.Faults.Redefined.{redefined_behind, redefined_in}
 use Rattle.psdl_standings.specs.Standings.{standings}
 use Rattle.psdl_check.specs.TextNames.{AreNames}
 use Rattle.psdl_sound.proofs.Among.{Among, at_among, among_at, among_from, among_map, among_some, among_found, any_among, Differ, differ_flat, differ_under, map_tells, map_flat, distinct_told}
-use Rattle.psdl_sound.proofs.FaultlessTexts.{both_empty, does_not_hold, no_fault_at}
+use Rattle.psdl_check.proofs.FaultlessTexts.{both_empty, does_not_hold, no_fault_at}
 use Rattle.psdl_sound.proofs.Homes.{IsHome, is_home, homes_of}
 use Rattle.psdl_sound.proofs.ScopedNames.{each_passes, paths_named, name_named}
 use Rattle.psdl_sound.proofs.DistinctNames.{declared_once}

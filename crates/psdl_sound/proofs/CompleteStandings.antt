@@ -27,7 +27,7 @@ use Rattle.psdl_sound.specs.SmallLiterals.{is_small}
 use Rattle.psdl_sound.proofs.Expressions.{expressions_at, AreSmallAt}
 use Rattle.psdl_sound.proofs.Among.{Among, among_front, among_behind, among_image, each_of_all}
 use Rattle.psdl_sound.proofs.Bases.{means_first}
-use Rattle.psdl_sound.proofs.FaultlessTexts.{does_not_hold, none_given, no_fault_at}
+use Rattle.psdl_check.proofs.FaultlessTexts.{does_not_hold, none_given, no_fault_at}
 use Rattle.psdl_sound.proofs.Fronts.{front, front_same, size_same}
 use Rattle.psdl_sound.proofs.FirstDeclarators.{IsFirst, first_declarator, first_of_all, alias_is, type_as, no_number_type, no_number_of, IsGrounded, sight_same, IsFineBound, size_told}
 use Rattle.psdl_sound.proofs.Parents.{none_among}

@@ -21,9 +21,9 @@ use Rattle.psdl_standings.specs.Ranges.{is_out, of_expression, from_one, of_boun
 use Rattle.psdl_standings.specs.Standings.{Standing, type_of, natural, sight, all_there, assessed_by, size_by, integer_type, type_by_sign, plain_by, spec_by, arrays_by, field_by, fields_by, struct_by}
 use Rattle.psdl_standings.specs.Uses.{bounds_of, most_elements, spec_bounds, declarator_bounds, field_bounds}
 use Rattle.psdl_standings.specs.Values.{Assessed, is_within}
-use Rattle.psdl_sound.proofs.FaultlessTexts.{both_empty, does_not_hold}
+use Rattle.psdl_check.proofs.FaultlessTexts.{both_empty, does_not_hold}
 use Rattle.psdl_sound.proofs.FineTypes.{IsFine, AreFine, sequence_fine, array_fine, no_fields_fine, field_fine, struct_fine}
-use Rattle.psdl_sound.proofs.Layouts.{each_there}
+use Rattle.psdl_check.proofs.FewMembers.{each_there}
 
 -- ---- sizes
 

@@ -25,10 +25,11 @@ use Rattle.psdl_directory.specs.Lookup.{at, named, defined, place_of}
 use Rattle.psdl_directory.specs.Parts.{kind, bases, is_abstract_type, is_concrete_type, is_storage_type, is_concrete_home}
 use Rattle.psdl_check.specs.Schemas.{home_layout, referents}
 use Rattle.psdl_standings.specs.Standings.{Standing, standings, sight, all_there}
-use Rattle.psdl_sound.proofs.FaultlessTexts.{both_empty, does_not_hold, no_fault_at}
+use Rattle.psdl_check.proofs.FaultlessTexts.{both_empty, does_not_hold, no_fault_at}
 use Rattle.psdl_sound.proofs.Homes.{IsHome}
-use Rattle.psdl_sound.proofs.Layouts.{each_there, each_layout, whole_type, no_long}
-use Rattle.psdl_sound.proofs.Meanings.{IsDefinition, definition_is, IsTypeOf, type_is}
+use Rattle.psdl_check.proofs.FewMembers.{each_there, each_layout, no_long}
+use Rattle.psdl_sound.proofs.Layouts.{whole_type}
+use Rattle.psdl_check.proofs.Meanings.{IsDefinition, definition_is, IsTypeOf, type_is}
 
 -- ---- the defaults of members do not look at the homes of references
 

@@ -14,7 +14,7 @@ use Rattle.psdl_directory.specs.Lookup.{lower, at, nothing, same_path, is_named}
 use Rattle.psdl_directory.specs.Parts.{is_module, is_forward, same_kind}
 use Rattle.psdl_rules.specs.Faults.Redefined.{is_again, takes_name_of}
 use Rattle.psdl_directory.proofs.Agreeing.{same_path-Decides}
-use Rattle.psdl_sound.proofs.FaultlessTexts.{does_not_hold, no_fault_at}
+use Rattle.psdl_check.proofs.FaultlessTexts.{does_not_hold, no_fault_at}
 
 -- ---- names of a scope
 

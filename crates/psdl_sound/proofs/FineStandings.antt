@@ -18,7 +18,7 @@ use Rattle.psdl_standings.specs.Uses.{bounds_of, most_elements, spec_bounds}
 use Rattle.psdl_sound.proofs.ComposedTypes.{AreFineNames, AreSized, array_fine_of, spec_fine, sized_from, struct_type_fine}
 use Rattle.psdl_standings.proofs.Earlier.{standing_is}
 use Rattle.psdl_sound.proofs.Enumerators.{enumerators_distinct}
-use Rattle.psdl_sound.proofs.FaultlessTexts.{both_empty, no_fault_at}
+use Rattle.psdl_check.proofs.FaultlessTexts.{both_empty, no_fault_at}
 use Rattle.psdl_sound.proofs.FineTypes.{IsFine, enumeration_fine}
 use Rattle.psdl_sound.proofs.Fronts.{front, front_same, front_past, nothing_past, size_same}
 use Rattle.psdl_sound.proofs.ScopedNames.{each_passes}

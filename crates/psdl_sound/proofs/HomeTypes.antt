@@ -20,8 +20,8 @@ use Rattle.psdl_lineage.proofs.Repeats.{once, fresh, once-append, once_absorbs}
 use Rattle.psdl_sound.proofs.Among.{Among, among_parts, any_among}
 use Rattle.psdl_sound.proofs.Ancestors.{parents_of, parent_told, parent_passes, parent_in_front, ancestry_joined, from_itself, from_parent, from_whom, abstract_types, same_some}
 use Rattle.psdl_sound.proofs.BaseLines.{IsConcrete}
-use Rattle.psdl_sound.proofs.FaultlessTexts.{does_not_hold, no_fault_at}
-use Rattle.psdl_sound.proofs.Meanings.{IsDefinition, definition_is, Means, means, IsTypeOf, type_is}
+use Rattle.psdl_check.proofs.FaultlessTexts.{does_not_hold, no_fault_at}
+use Rattle.psdl_check.proofs.Meanings.{IsDefinition, definition_is, Means, means, IsTypeOf, type_is}
 use Rattle.psdl_sound.proofs.MemberLists.{has_among}
 use Rattle.psdl_sound.proofs.Parents.{Stands, IsAbove, base_stands, implemented_stands, managed_stands, above_is, abstract_type_kind, concrete_type_kind, storage_type_kind, passes_too, none_among, typed}
 

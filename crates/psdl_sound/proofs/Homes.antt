@@ -1,16 +1,15 @@
 -- The homes of a text's schema, by their numbers.
-use Rattle.std.proofs.Common.{◌≡◌, ℕ, zero, suc, ◌+◌, ◌<◌, ◌≤◌, List, length, map, get_or, Bool, true, false, ◌==◌, ◌&&◌, Option, Some, None, refl, sym, ap, subst, ◌∙◌, arith, ⊎_elim}
+use Rattle.std.proofs.Common.{◌≡◌, ℕ, zero, suc, ◌+◌, ◌<◌, ◌≤◌, List, length, map, Bool, true, false, ◌==◌, Option, Some, None, refl, sym, ap, subst, ◌∙◌, arith}
 use Rattle.std.specs.List.{slice_get, filter, range_with_len}
 use Rattle.std.specs.Option.{option_map}
-use Rattle.std.proofs.lemmas.Bool.{eqb-true, eq-eqb, cases_lt, and_from}
+use Rattle.std.proofs.lemmas.Bool.{eqb-true, eq-eqb}
 use Rattle.std.proofs.lemmas.List.{length-map}
 use Rattle.std.proofs.lemmas.List.Elements.{filter_passes}
-use Rattle.std.proofs.lemmas.Option.{slice_get-map, slice_get-get_or, slice_get_within, get_or_from_slice_get}
+use Rattle.std.proofs.lemmas.Option.{slice_get-map, slice_get_within, get_or_from_slice_get}
 use Rattle.type_layout.specs.declared.home.HomeNo.{HomeNo}
 use Rattle.type_layout.specs.declared.schema.Home.{Home}
 use Rattle.type_layout.specs.Schemas.{given, nth}
 use Rattle.type_layout.specs.Sound.{EachHome}
-use Rattle.psdl_directory.specs.declared.fault.CheckKind.TheVariants.{Limit}
 use Rattle.psdl_directory.specs.Declarations.{Declaration}
 use Rattle.psdl_lineage.specs.Descent.{concrete_homes}
 use Rattle.psdl_check.specs.Faults.{first_fault}
@@ -19,7 +18,8 @@ use Rattle.psdl_directory.specs.Lookup.{at}
 use Rattle.psdl_directory.specs.Parts.{is_concrete_home}
 use Rattle.psdl_check.specs.Schemas.{home_of, schema}
 use Rattle.psdl_standings.specs.Standings.{standings}
-use Rattle.psdl_sound.proofs.FaultlessTexts.{does_not_hold, no_fault_at}
+use Rattle.psdl_check.proofs.FaultlessTexts.{none_of_all}
+use Rattle.psdl_check.proofs.FewHomes.{few_homes as few_of_text}
 use Rattle.psdl_lineage.proofs.Inherited.{homes_below}
 use Rattle.psdl_lineage.proofs.Named.{has_at}
 use Rattle.psdl_check.proofs.Slots.{numbered_at}
@@ -79,15 +79,6 @@ each_home all P f h home is = by h.0 is
 
 -- ---- how many
 
-too_many : (all : List Declaration) → first_fault all ≡ None → (most : ℕ) → most ≡ most_homes → most < length (concrete_homes all) → ⊥
-too_many all none most limit lt =
-    let n : ℕ = get_or (concrete_homes all) most 0 in
-    let home : IsHome all most n = is_home all most n (slice_get-get_or (concrete_homes all) most 0 lt) in
-    let off = does_not_hold (is_concrete_home (at all n).what && home_number all n == most_homes + 1) Limit (at all n).place (no_fault_at all none n home.is_declared).no_many_homes in
-    let number : (home_number all n == most_homes + 1) ≡ true = eq-eqb (home_number all n) (most_homes + 1) (omega (arith, home.has_number, limit)) in
-    let on = and_from (is_concrete_home (at all n).what) (home_number all n == most_homes + 1) home.is_concrete number in
-    cc
-
 -- a text without a fault has at most 4,096 homes
 pub few_homes : (all : List Declaration) → first_fault all ≡ None → length (schema all).homes ≤ most_homes
-few_homes all none = ⊎_elim (λ lt. absurd (too_many all none most_homes refl lt)) (λ le. omega (arith, le, homes_count all)) (cases_lt most_homes (length (concrete_homes all)))
+few_homes all none = omega (arith, few_of_text all (none_of_all all none).0, homes_count all)

@@ -26,9 +26,9 @@ use Rattle.psdl_standings.specs.Standings.{standings}
 use Rattle.psdl_check.proofs.KeyIding.{listed_is, listed_itself}
 use Rattle.psdl_lineage.proofs.Foremost.{first_passes}
 use Rattle.psdl_sound.proofs.Among.{Among, at_among, among_from, among_map, among_chosen, among_some, all_among, Differ, differ_flat, differ_map, differ_option, distinct_told, pair_unlike, once_differ}
-use Rattle.psdl_sound.proofs.FaultlessTexts.{does_not_hold, no_fault_at}
+use Rattle.psdl_check.proofs.FaultlessTexts.{does_not_hold, no_fault_at}
 use Rattle.psdl_sound.proofs.Homes.{IsHome}
-use Rattle.psdl_sound.proofs.Meanings.{position_within}
+use Rattle.psdl_check.proofs.Meanings.{position_within}
 
 -- ---- lists with names
 

@@ -32,11 +32,12 @@ use Rattle.psdl_sound.proofs.Among.{Among, at_among, among_from, among_flat, amo
 use Rattle.psdl_sound.proofs.Ancestors.{from_itself, same_some}
 use Rattle.psdl_sound.proofs.BaseLines.{Line, IsConcrete, home_concrete, line_concrete, line_ancestry}
 use Rattle.psdl_sound.proofs.Catalogs.{housed}
-use Rattle.psdl_sound.proofs.FaultlessTexts.{both_empty, does_not_hold, none_given, no_fault_at}
+use Rattle.psdl_check.proofs.FaultlessTexts.{both_empty, does_not_hold, none_given, no_fault_at}
 use Rattle.psdl_sound.proofs.Homes.{IsHome}
 use Rattle.psdl_sound.proofs.KeyHolders.{introducer, key_on_line}
 use Rattle.psdl_sound.proofs.KeyNames.{IsKey, not_type}
-use Rattle.psdl_sound.proofs.Layouts.{each_there, members_differ, whole_type}
+use Rattle.psdl_check.proofs.FewMembers.{each_there}
+use Rattle.psdl_sound.proofs.Layouts.{members_differ, whole_type}
 use Rattle.psdl_sound.proofs.MemberLists.{IsPlaceOf, place_told, index_told, IsKeyOf, key_told, HasType, key_has_type, ancestor_declared, members_of_number}
 use Rattle.psdl_sound.proofs.Parents.{none_among}
 use Rattle.psdl_sound.proofs.HomeTypes.{IsWhole, home_typed, type_declared, descent_further, home_conforms, type_concrete, begins_with}

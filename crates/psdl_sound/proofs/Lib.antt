@@ -1,7 +1,5 @@
-mod FaultlessTexts
 mod Homes
 mod ShapeTexts
-mod Meanings
 mod Layouts
 mod HomeNumbers
 mod Bases

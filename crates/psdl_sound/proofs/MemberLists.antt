@@ -30,10 +30,10 @@ use Rattle.psdl_lineage.proofs.Foremost.{first_passes}
 use Rattle.psdl_lineage.proofs.Kept.{ancestry_below}
 use Rattle.psdl_sound.proofs.Among.{Among, at_among, among_from, among_map, among_some, any_among, among_any, all_among, among_fresh, Differ, differ_flat, differ_option, distinct_told}
 use Rattle.psdl_sound.proofs.Catalogs.{housed, home_at_number}
-use Rattle.psdl_sound.proofs.FaultlessTexts.{both_empty, does_not_hold, none_given, no_fault_at}
+use Rattle.psdl_check.proofs.FaultlessTexts.{both_empty, does_not_hold, none_given, no_fault_at}
 use Rattle.psdl_sound.proofs.Homes.{IsHome}
 use Rattle.psdl_sound.proofs.KeyNames.{IsKey, same_id}
-use Rattle.psdl_sound.proofs.Meanings.{position_within}
+use Rattle.psdl_check.proofs.Meanings.{position_within}
 use Rattle.psdl_sound.proofs.Parents.{none_among, typed}
 
 -- ---- numbers of members by names

@@ -18,7 +18,7 @@ use Rattle.psdl_rules.specs.Layouts.{member_type, layout_member, layout}
 use Rattle.psdl_check.specs.Schemas.{referents, home_layout}
 use Rattle.psdl_sound.proofs.Among.{Among, at_among, among_from, among_image, among_map, each_of_all}
 use Rattle.psdl_sound.proofs.NamedBodies.{has_name, AreNamedInside, named_inside, state_inside}
-use Rattle.psdl_sound.proofs.Layouts.{each_there, each_layout}
+use Rattle.psdl_check.proofs.FewMembers.{each_there, each_layout}
 use Rattle.psdl_sound.proofs.StandingNames.{HasNames, plain_named, AllStandNamed, sight_named}
 
 -- a member with a name, and names in its type

@@ -21,8 +21,8 @@ use Rattle.psdl_standings.specs.Standings.{Standing, standing, standings}
 use Rattle.psdl_standings.specs.Uses.{meets, Use, use_of, base_need, implements_need, in_state_type, in_operation, in_store, uses}
 use Rattle.psdl_sound.proofs.Among.{Among, among_at, among_front, among_behind, among_image}
 use Rattle.psdl_sound.proofs.Bases.{means_first}
-use Rattle.psdl_sound.proofs.FaultlessTexts.{HasNone, both_empty, does_not_hold, none_at, none_given, no_fault_at}
-use Rattle.psdl_sound.proofs.Meanings.{IsDefinition, definition_is}
+use Rattle.psdl_check.proofs.FaultlessTexts.{HasNone, both_empty, does_not_hold, none_at, none_given, no_fault_at}
+use Rattle.psdl_check.proofs.Meanings.{IsDefinition, definition_is}
 
 -- ---- what a place needs is told by the kind
 

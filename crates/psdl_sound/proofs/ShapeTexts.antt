@@ -17,7 +17,7 @@ use Rattle.psdl_check.specs.Faults.{first_fault, passing, long_shape}
 use Rattle.psdl_rules.specs.Faults.Limit.{most_shape}
 use Rattle.psdl_directory.specs.Lookup.{at}
 use Rattle.psdl_check.specs.Schemas.{schema}
-use Rattle.psdl_sound.proofs.FaultlessTexts.{no_long_shape}
+use Rattle.psdl_check.proofs.FaultlessTexts.{no_long_shape}
 use Rattle.psdl_sound.proofs.Homes.{homes_count}
 
 -- a number of a range that passes a test

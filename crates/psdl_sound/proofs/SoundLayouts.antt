@@ -23,7 +23,7 @@ use Rattle.psdl_check.specs.TextNames.{AreNames}
 use Rattle.psdl_sound.proofs.ComposedTypes.{plain_fine}
 use Rattle.psdl_sound.proofs.FineTypes.{IsFine, reference_fine}
 use Rattle.psdl_sound.proofs.Homes.{IsHome, homes_of, homes_count}
-use Rattle.psdl_sound.proofs.Layouts.{each_there, each_layout}
+use Rattle.psdl_check.proofs.FewMembers.{each_there, each_layout}
 use Rattle.psdl_sound.proofs.HomeNumbers.{referents_rise, referents_stay}
 use Rattle.psdl_sound.proofs.ShapeTexts.{short_shape}
 use Rattle.psdl_sound.proofs.FineStandings.{IsFineAt, all_names, all_fine}

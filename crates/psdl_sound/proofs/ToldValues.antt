@@ -18,7 +18,7 @@ use Rattle.psdl_standings.specs.Uses.{Use, use_of, base_need, meets, is_number, 
 use Rattle.psdl_standings.specs.Values.{Assessed, ranged, is_within}
 use Rattle.psdl_sound.specs.SmallLiterals.{is_small}
 use Rattle.psdl_sound.proofs.Among.{Among, among_flat, among_image, each_of_all}
-use Rattle.psdl_sound.proofs.FaultlessTexts.{both_empty, does_not_hold}
+use Rattle.psdl_check.proofs.FaultlessTexts.{both_empty, does_not_hold}
 use Rattle.psdl_sound.proofs.Values.{IsOperand, AreOperands, comes_to}
 
 -- the expression that is a name, and the place of that

@@ -15,7 +15,7 @@ use Rattle.type_layout.specs.Schemas.{given}
 use Rattle.psdl_standings.specs.Expressions.{in_primary, in_unary, in_product, in_sum, in_shift, in_and, in_xor, operands}
 use Rattle.psdl_standings.specs.Values.{Assessed, ranged, is_wide, is_zero, shift_of, made_by, is_shift, value_by, leaves_range, shifts_too_far, zero_divisor, operated, sign_leaves, signed_by, signed, shift_operator, sum_operator, product_operator, primary, unary, product, product_onto, sum, sum_onto, shift, shift_onto, and, and_onto, xor, xor_onto, assessed, or_onto}
 use Rattle.psdl_sound.proofs.Among.{Among, among_front, among_behind}
-use Rattle.psdl_sound.proofs.FaultlessTexts.{both_empty}
+use Rattle.psdl_check.proofs.FaultlessTexts.{both_empty}
 
 -- a part that does not leave the range and divides by no 0 comes to a number
 abbrev pub IsValued : Assessed → Type 0

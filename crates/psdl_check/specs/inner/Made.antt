@@ -28,12 +28,17 @@ use Rattle.psdl_check.specs.inner.Lists.{homes_in}
 use Rattle.psdl_check.specs.inner.Masks.{AreGroups}
 use Rattle.psdl_check.specs.inner.TypedMembers.{typed_views, typed_names, AreTyped}
 
+-- members have the names of those of a home
+abbrev pub HasNames : List Declaration → ℕ → List TypedMember → Type 0
+HasNames all home ms = typed_names ms ≡ map (λ m. m.name) (home_layout all (standings all) home)
+
 -- what is made of a home in front of its keys
 pub record IsLaid (all : List Declaration) (types : List PlainType) (home : ℕ) (l : Laid) : Type 0 where
   pub name : l.name ≡ scoped_name (at all home)
   pub base : l.base ≡ option_map (home_no all) (base_home all home)
   pub typed : AreTyped (length types) l.members.items
   pub members : typed_views types (homes_in l.referents) l.members.items ≡ home_layout all (standings all) home
+  pub names : HasNames all home l.members.items
 
 -- its lines but for those of its keys
 abbrev pub front_lines : List Declaration → ℕ → List ℕ
@@ -73,14 +78,6 @@ key_lines all home = flat_map (key_line (schema all)) (key_numbers all home)
 -- all lines of a home
 abbrev pub lines_of : List Declaration → ℕ → List ℕ
 lines_of all home = lines_at all (home_no all home).0 home
-
--- members have the names of those of a home
-abbrev pub HasNames : List Declaration → ℕ → List TypedMember → Type 0
-HasNames all home ms = typed_names ms ≡ map (λ m. m.name) (home_layout all (standings all) home)
-
--- the keys that these homes introduce
-abbrev pub HasKeys : List Declaration → List ℕ → Making → Type 0
-HasKeys all homes m = AreKeys all m.rows.ids (flat_map (introduced all) homes) m.keys
 
 -- the factories of a home
 abbrev pub AreFactories : List Declaration → ℕ → List TypedMember → List Factory → Type 0

@@ -1,5 +1,5 @@
 -- The keys of a home are numbered one by one.
-use Rattle.std.specs.Prelude.{◌≡◌, ◌<◌, ◌≤◌, ◌+◌, ◌++◌, ℕ, List, length, map, true}
+use Rattle.std.specs.Prelude.{◌≡◌, ◌<◌, ◌≤◌, ◌+◌, ◌++◌, ℕ, List, length, map, true, false, nat_lt}
 use Rattle.std.proofs.Common.{get_or}
 use Rattle.std.specs.List.{flat_map}
 use Rattle.std.specs.Option.{is_some, option_to_list}
@@ -15,7 +15,7 @@ use Rattle.psdl_check.specs.declared.key_rows.KeyIds.{KeyIds}
 use Rattle.psdl_check.specs.declared.keys.Introducing.{Introducing}
 use Rattle.psdl_check.specs.declared.keys.Keys.{Keys}
 use Rattle.psdl_check.specs.declared.numbering.Numbered.{Numbered}
-use Rattle.psdl_check.specs.inner.HeldKeys.{held_view, news}
+use Rattle.psdl_check.specs.inner.HeldKeys.{held_view, held_views, news}
 use Rattle.psdl_check.specs.inner.KeyIds.{HaveIds}
 use Rattle.psdl_check.specs.inner.Keys.{AreKeys, number_among}
 use Rattle.psdl_check.specs.inner.KeysMade.{HasLayout}
@@ -43,3 +43,9 @@ pub record IsNumberable (all : List Declaration) (ids : KeyIds) (introduced more
   pub rest : all_introduced all ≡ (introduced ++ news home held) ++ more
   pub few : length introduced ≤ most_shape
   pub of_base : (i : ℕ) (h : HeldKey) → i < length held → h ≡ get_or held i h → h.of_base ≡ true → HasNumber all home.home introduced (held_view h)
+
+-- all keys of a home are numbered, unless the shape gets too long with them
+pub record AreAllNumbered (all : List Declaration) (ids : KeyIds) (introduced : List Introduced) (home : Introducing) (held : List HeldKey) (front : ℕ) (keys : Keys) (numbered : Numbered) : Type 0 where
+  pub reached : numbered.length.0 ≡ cut (front + length (flat_map (key_line (schema all)) (numbers_of all home.home (held_views held))))
+  pub counted : nat_lt most_shape numbered.length.0 ≡ false → numbered.numbers ≡ numbers_of all home.home (held_views held)
+  pub known : nat_lt most_shape numbered.length.0 ≡ false → AreKeys all ids (introduced ++ news home held) keys

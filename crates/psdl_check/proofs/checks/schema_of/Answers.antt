@@ -3,6 +3,10 @@ use Rattle.psdl_directory.specs.Declarations.{Declaration}
 use Rattle.psdl_directory.specs.Lookup.{at}
 use Rattle.psdl_lineage.specs.Lineages.{text_of}
 use Rattle.psdl_check.specs.inner.Made.{IsMade}
+use Rattle.psdl_rules.specs.Faults.{faults}
+use Rattle.psdl_check.proofs.FaultlessTexts.{nothing_least}
+use Rattle.psdl_check.proofs.FewHomes.{few_homes}
+use Rattle.psdl_check.proofs.FewMembers.{few_members}
 use Rattle.psdl_check.proofs.InFront.{rising_of}
 use Rattle.psdl_check.proofs.Judging.{whole_is, too_long_is}
 use Rattle.psdl_check.proofs.checks.schema_of.Goals as goal
@@ -23,3 +27,13 @@ make_schema-requires c = c.in_ok-text.ensures.told ∙ c.requires.one ∙ sym c.
 
 pub new-requires-clause-rising : goal.new-requires-clause-rising
 new-requires-clause-rising c = rising_of (text_of c.args.lineage.now) c.requires.sound
+
+pub new-requires-clause-few : goal.new-requires-clause-few
+new-requires-clause-few c =
+    let all = text_of c.args.lineage.now in
+    few_homes all (nothing_least (faults all) c.requires.sound)
+
+pub new-requires-clause-members : goal.new-requires-clause-members
+new-requires-clause-members c n =
+    let all = text_of c.args.lineage.now in
+    few_members all (nothing_least (faults all) c.requires.sound) n

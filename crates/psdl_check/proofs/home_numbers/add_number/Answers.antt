@@ -1,4 +1,4 @@
-use Rattle.std.proofs.Common.{◌≡◌, ◌∙◌, ◌++◌, ◌∷◌, [], true, false, ap, rules}
+use Rattle.std.proofs.Common.{◌≡◌, ◌∙◌, ◌+◌, ◌++◌, ◌∷◌, [], true, false, refl, ap, rules}
 use Rattle.type_layout.specs.declared.home.HomeNo.{HomeNo}
 use Rattle.psdl_directory.specs.Directories.{all_of}
 use Rattle.psdl_directory.specs.Lookup.{at}
@@ -23,10 +23,10 @@ returns-clause-numbers c =
     let all = all_of c.args.directory.now in
     let home : is_concrete_home (at all c.args.index).what ≡ true = search rules in
     c.in_ok-push-2.ensures.items
-    ∙ ap (λ (h : HomeNo). c.args.numbers.now.items ++ h ∷ []) (with_home all c.args.index c.args.homes c.in-Some.count c.requires.index c.requires.homes (search rules) home)
+    ∙ ap (λ (h : HomeNo). c.args.numbers.now.items ++ h ∷ []) (with_home all c.args.index c.args.homes (c.args.homes + 1) c.requires.index c.requires.homes refl home)
 
 pub returns-clause-homes : goal.returns-clause-homes
 returns-clause-homes c =
     let all = all_of c.args.directory.now in
     let home : is_concrete_home (at all c.args.index).what ≡ true = search rules in
-    one_home_more all c.args.index c.args.homes c.in-Some.count c.requires.homes (search rules) home
+    one_home_more all c.args.index c.args.homes (c.args.homes + 1) c.requires.homes refl home

@@ -1,38 +1,35 @@
 use Rattle.std.proofs.Common.{◌∙◌, ap, sym}
 use Rattle.psdl_standings.specs.Standings.{standings}
-use Rattle.psdl_standings.specs.Texts.{types_in}
 use Rattle.psdl_check.specs.Schemas.{home_of}
-use Rattle.psdl_check.specs.inner.Lists.{homes_in}
-use Rattle.psdl_check.specs.inner.Made.{HasNames}
 use Rattle.psdl_check.specs.inner.TypedMembers.{typed_names}
 use Rattle.psdl_check.specs.inner.Texts.{text_in}
 use Rattle.psdl_check.proofs.Counted.{not_over}
-use Rattle.psdl_check.proofs.Homing.{names_are, whole_lines, homes_more}
+use Rattle.psdl_check.proofs.FewMembers.{few_named}
+use Rattle.psdl_check.proofs.Homing.{whole_lines, homes_more}
 use Rattle.psdl_check.proofs.homes.add_home.Goals as goal
 
 pub returns-then-is_over-clause-length : goal.returns-then-is_over-clause-length
-returns-then-is_over-clause-length c homes more whole before few =
-    let all = text_in c.args.text.now in
-    let laid = c.in_ok-laid.laid in
-    let has : HasNames all c.args.home c.deref.result.now = ap typed_names c.deref.ensures.value ∙ names_are all (types_in c.args.text.now.standings.now) (homes_in laid.referents) c.args.home laid.members.items c.in_ok-laid.ensures.laid.members in
-    whole_lines all c.args.home c.args.front.0 c.with_laid-between.result.0 c.in_ok-numbered.numbered.length.0 c.with_laid-between.ensures (c.in_ok-numbered.ensures.length homes more has whole (record { keys = before.keys; homes_made = before.homes_made }) few)
+returns-then-is_over-clause-length c homes more next =
+    let made = c.in_ok-numbered.ensures.numbered homes more (ap typed_names c.deref.ensures.value ∙ c.in_ok-laid.ensures.laid.names) (record { whole = next.whole; made = record { keys = next.made.keys; homes_made = next.made.homes_made }; few = next.few }) in
+    whole_lines (text_in c.args.text.now) c.args.home c.args.front.0 c.with_laid-between.result.0 c.in_ok-numbered.numbered.length.0 c.with_laid-between.ensures made.reached
 
 pub returns-then-is_over-clause-made : goal.returns-then-is_over-clause-made
-returns-then-is_over-clause-made c homes more whole before few fits = absurd (not_over c.in_ok-numbered.numbered.length.0 (sym c.is_over.ensures ∙ c.if-is_over.true) fits)
+returns-then-is_over-clause-made c homes more next fits = absurd (not_over c.in_ok-numbered.numbered.length.0 (sym c.is_over.ensures ∙ c.if-is_over.true) fits)
 
 pub returns-clause-length : goal.returns-clause-length
-returns-clause-length c homes more whole before few =
-    let all = text_in c.args.text.now in
-    let laid = c.in_ok-laid.laid in
-    let has : HasNames all c.args.home c.deref.result.now = ap typed_names c.deref.ensures.value ∙ names_are all (types_in c.args.text.now.standings.now) (homes_in laid.referents) c.args.home laid.members.items c.in_ok-laid.ensures.laid.members in
-    whole_lines all c.args.home c.args.front.0 c.with_laid-between.result.0 c.in_ok-numbered.numbered.length.0 c.with_laid-between.ensures (c.in_ok-numbered.ensures.length homes more has whole (record { keys = before.keys; homes_made = before.homes_made }) few)
+returns-clause-length c homes more next =
+    let made = c.in_ok-numbered.ensures.numbered homes more (ap typed_names c.deref.ensures.value ∙ c.in_ok-laid.ensures.laid.names) (record { whole = next.whole; made = record { keys = next.made.keys; homes_made = next.made.homes_made }; few = next.few }) in
+    whole_lines (text_in c.args.text.now) c.args.home c.args.front.0 c.with_laid-between.result.0 c.in_ok-numbered.numbered.length.0 c.with_laid-between.ensures made.reached
 
 pub returns-clause-made : goal.returns-clause-made
-returns-clause-made c homes more whole before few fits =
+returns-clause-made c homes more next fits =
     let all = text_in c.args.text.now in
-    let laid = c.in_ok-laid.laid in
-    let has : HasNames all c.args.home c.deref.result.now = ap typed_names c.deref.ensures.value ∙ names_are all (types_in c.args.text.now.standings.now) (homes_in laid.referents) c.args.home laid.members.items c.in_ok-laid.ensures.laid.members in
+    let made = c.in_ok-numbered.ensures.numbered homes more (ap typed_names c.deref.ensures.value ∙ c.in_ok-laid.ensures.laid.names) (record { whole = next.whole; made = record { keys = next.made.keys; homes_made = next.made.homes_made }; few = next.few }) in
     record {
-      keys = c.in_ok-numbered.ensures.keys homes more has whole (record { keys = before.keys; homes_made = before.homes_made }) few fits;
-      homes_made = homes_more (home_of all (standings all)) homes c.args.home c.args.making.now.homes c.number_keys.new.making.homes _ c.in_ok-record.record before.homes_made c.number_keys.ensures.homes c.in_ok-push.ensures.ok (c.in_ok-record.ensures.home (c.in_ok-numbered.ensures.numbers homes more has whole (record { keys = before.keys; homes_made = before.homes_made }) few fits));
+      keys = made.known fits;
+      homes_made = homes_more (home_of all (standings all)) homes c.args.home c.args.making.now.homes c.number_keys.new.making.homes _ c.in_ok-record.record next.made.homes_made c.number_keys.ensures.homes c.in_ok-push.ensures.ok (c.in_ok-record.ensures.home (made.counted fits));
     }
+
+pub number_keys-requires-clause-few : goal.number_keys-requires-clause-few
+number_keys-requires-clause-few c =
+    few_named (text_in c.args.text.now) c.args.home c.deref.result.now (ap typed_names c.deref.ensures.value ∙ c.in_ok-laid.ensures.laid.names) (c.args.text.now.few c.args.home)

@@ -22,12 +22,12 @@ loop-place-preserved c =
     let parts = cut_at (concrete_homes all) i c.in-Some.home there in
     let total : c.in_ok-length.length.0 ≡ cut (length (lines_before all (i + 1))) =
     longer all i c.in-Some.home c.loop-place.length.0 c.in_ok-length.length.0 there c.loop-place.invariant.length
-    (own_number all i c.in-Some.home c.loop-place.length.0 c.in_ok-length.length.0 there (c.in_ok-length.ensures.length (take i (concrete_homes all)) parts.0 parts.1 c.loop-place.invariant.made few)) in
+    (own_number all i c.in-Some.home c.loop-place.length.0 c.in_ok-length.length.0 there (c.in_ok-length.ensures.length (take i (concrete_homes all)) parts.0 (record { whole = parts.1; made = c.loop-place.invariant.made; few = few }))) in
     record {
       within = omega (arith, lt);
       ready = c.add_home.ensures.ready;
       made = subst (λ (l : List ℕ). AreMade all l c.add_home.new.making) (sym (take_step (concrete_homes all) i c.in-Some.home there))
-          (c.in_ok-length.ensures.made (take i (concrete_homes all)) parts.0 parts.1 c.loop-place.invariant.made few (sym c.is_over.ensures ∙ c.if-is_over.false));
+          (c.in_ok-length.ensures.made (take i (concrete_homes all)) parts.0 (record { whole = parts.1; made = c.loop-place.invariant.made; few = few }) (sym c.is_over.ensures ∙ c.if-is_over.false));
       length = total;
       few = few_more all i c.in-Some.home there c.loop-place.invariant.few;
       short = fits_in all (i + 1) c.in_ok-length.length.0 total (sym c.is_over.ensures ∙ c.if-is_over.false);
@@ -44,7 +44,7 @@ returns-then-is_over-clause-passing c =
     let parts = cut_at (concrete_homes all) i c.in-Some.home there in
     let total : c.in_ok-length.length.0 ≡ cut (length (lines_before all (i + 1))) =
     longer all i c.in-Some.home c.loop-place.length.0 c.in_ok-length.length.0 there c.loop-place.invariant.length
-    (own_number all i c.in-Some.home c.loop-place.length.0 c.in_ok-length.length.0 there (c.in_ok-length.ensures.length (take i (concrete_homes all)) parts.0 parts.1 c.loop-place.invariant.made few)) in
+    (own_number all i c.in-Some.home c.loop-place.length.0 c.in_ok-length.length.0 there (c.in_ok-length.ensures.length (take i (concrete_homes all)) parts.0 (record { whole = parts.1; made = c.loop-place.invariant.made; few = few }))) in
     sym (passed_here all i c.in-Some.home there lt c.loop-place.invariant.fits (over_is all (i + 1) c.in_ok-length.length.0 true total (sym c.if-is_over.true ∙ c.is_over.ensures)))
 
 pub returns-clause-passing : goal.returns-clause-passing

@@ -3,16 +3,15 @@ use Rattle.psdl_directory.specs.Declarations.{Declaration}
 use Rattle.type_layout.specs.Types.{PlainType}
 use Rattle.psdl_standings.specs.Texts.{types_in}
 use Rattle.psdl_check.specs.inner.Lists.{homes_in}
-use Rattle.psdl_check.specs.inner.Made.{AreFactories, HasNames}
+use Rattle.psdl_check.specs.inner.Made.{AreFactories}
 use Rattle.psdl_check.specs.inner.TypedMembers.{typed_names, typed_views}
 use Rattle.psdl_check.specs.inner.Texts.{text_in}
-use Rattle.psdl_check.proofs.Homing.{home_is, names_are}
+use Rattle.psdl_check.proofs.Homing.{home_is}
 use Rattle.psdl_check.proofs.homes.home_record.Goals as goal
 
 pub returns-clause-home : goal.returns-clause-home
 returns-clause-home c numbered =
     let all = text_in c.args.text.now in
     let laid = c.args.laid in
-    let has : HasNames all c.args.home laid.members.items = names_are all (types_in c.args.text.now.standings.now) (homes_in laid.referents) c.args.home laid.members.items c.requires.laid.members in
     let made = subst (λ (d : List Declaration). AreFactories d c.args.home c.deref.result.now c.in_ok-made.made) c.requires.factories c.in_ok-made.ensures.factories in
-    home_is all c.args.home laid.name laid.base c.in_ok-members.members c.args.keys c.in_ok-made.made c.requires.laid.name c.requires.laid.base (c.in_ok-members.ensures ∙ ap (λ (ts : List PlainType). typed_views ts (homes_in laid.referents) c.deref-2.result.now) c.types.ensures ∙ ap (typed_views (types_in c.args.text.now.standings.now) (homes_in laid.referents)) c.deref-2.ensures.value ∙ c.requires.laid.members) numbered (made (ap typed_names c.deref.ensures.value ∙ has))
+    home_is all c.args.home laid.name laid.base c.in_ok-members.members c.args.keys c.in_ok-made.made c.requires.laid.name c.requires.laid.base (c.in_ok-members.ensures ∙ ap (λ (ts : List PlainType). typed_views ts (homes_in laid.referents) c.deref-2.result.now) c.types.ensures ∙ ap (typed_views (types_in c.args.text.now.standings.now) (homes_in laid.referents)) c.deref-2.ensures.value ∙ c.requires.laid.members) numbered (made (ap typed_names c.deref.ensures.value ∙ c.requires.laid.names))

@@ -2,8 +2,8 @@ use Rattle.std.proofs.Common.{◌∙◌, arith, sym, rules}
 use Rattle.psdl_check.proofs.Numbers.{found_here, none_more}
 use Rattle.psdl_check.proofs.key_records.place_of.Goals as goal
 
-pub returns-then-is_called : goal.returns-then-is_called
-returns-then-is_called c =
+pub returns-then-is_called-clause-place : goal.returns-then-is_called-clause-place
+returns-then-is_called-clause-place c =
     found_here c.args.name.now c.args.members.now c.loop-place.place c.index-members-place.result c.loop-place-test.true (search rules) (sym c.is_called.ensures ∙ c.if-is_called.true) c.loop-place.invariant.none
 
 pub loop-place-preserved : goal.loop-place-preserved

@@ -19,24 +19,20 @@ loop-key-preserved c =
           c.loop-key.invariant.same can c.loop-key-test.true c.key-item.is (sym c.is_over.ensures ∙ c.if-is_over.false) c.in_ok-number_next.ensures.numbered (c.loop-key.invariant.numbered ids introduced more can);
     }
 
-pub returns-then-is_over-clause-length : goal.returns-then-is_over-clause-length
-returns-then-is_over-clause-length c ids introduced more can =
-    length_stopped (asked_of c.args.conformity.now) ids introduced more c.args.home.now c.args.held.now c.args.keys.now c.args.front.0 c.loop-key.key-index c.loop-key.keys c.loop-key.numbered (sym c.is_over.ensures ∙ c.if-is_over.true) (c.loop-key.invariant.numbered ids introduced more can)
+pub returns-then-is_over-clause-numbered : goal.returns-then-is_over-clause-numbered
+returns-then-is_over-clause-numbered c ids introduced more can =
+    let over = not_over c.loop-key.numbered.length.0 (sym c.is_over.ensures ∙ c.if-is_over.true) in
+    record {
+      reached = length_stopped (asked_of c.args.conformity.now) ids introduced more c.args.home.now c.args.held.now c.args.keys.now c.args.front.0 c.loop-key.key-index c.loop-key.keys c.loop-key.numbered (sym c.is_over.ensures ∙ c.if-is_over.true) (c.loop-key.invariant.numbered ids introduced more can);
+      counted = λ fits. absurd (over fits);
+      known = λ fits. absurd (over fits);
+    }
 
-pub returns-then-is_over-clause-numbers : goal.returns-then-is_over-clause-numbers
-returns-then-is_over-clause-numbers c ids introduced more can fits = absurd (not_over c.loop-key.numbered.length.0 (sym c.is_over.ensures ∙ c.if-is_over.true) fits)
-
-pub returns-then-is_over-clause-keys : goal.returns-then-is_over-clause-keys
-returns-then-is_over-clause-keys c ids introduced more can fits = absurd (not_over c.loop-key.numbered.length.0 (sym c.is_over.ensures ∙ c.if-is_over.true) fits)
-
-pub returns-clause-length : goal.returns-clause-length
-returns-clause-length c ids introduced more can =
-    (all_counted (asked_of c.args.conformity.now) ids introduced c.args.home.now c.args.held.now c.args.front.0 c.loop-key.key-index c.loop-key.keys c.loop-key.numbered (omega (arith, c.loop-key-test.false)) (c.loop-key.invariant.numbered ids introduced more can)).reached
-
-pub returns-clause-numbers : goal.returns-clause-numbers
-returns-clause-numbers c ids introduced more can fits =
-    (all_counted (asked_of c.args.conformity.now) ids introduced c.args.home.now c.args.held.now c.args.front.0 c.loop-key.key-index c.loop-key.keys c.loop-key.numbered (omega (arith, c.loop-key-test.false)) (c.loop-key.invariant.numbered ids introduced more can)).counted
-
-pub returns-clause-keys : goal.returns-clause-keys
-returns-clause-keys c ids introduced more can fits =
-    (all_counted (asked_of c.args.conformity.now) ids introduced c.args.home.now c.args.held.now c.args.front.0 c.loop-key.key-index c.loop-key.keys c.loop-key.numbered (omega (arith, c.loop-key-test.false)) (c.loop-key.invariant.numbered ids introduced more can)).known
+pub returns-clause-numbered : goal.returns-clause-numbered
+returns-clause-numbered c ids introduced more can =
+    let all = all_counted (asked_of c.args.conformity.now) ids introduced c.args.home.now c.args.held.now c.args.front.0 c.loop-key.key-index c.loop-key.keys c.loop-key.numbered (omega (arith, c.loop-key-test.false)) (c.loop-key.invariant.numbered ids introduced more can) in
+    record {
+      reached = all.reached;
+      counted = λ fits. all.counted;
+      known = λ fits. all.known;
+    }

@@ -175,26 +175,26 @@ some_least f (Some g) e = by (is_after f g) e
     by true e = cc
     by false e = cc
 
-nothing_least : (fs : List CheckFault) → least fs ≡ None → fs ≡ []
+pub nothing_least : (fs : List CheckFault) → least fs ≡ None → fs ≡ []
 nothing_least [] e = refl
 nothing_least (f ∷ fs) e = absurd (some_least f (least fs) e)
 
-none_of_all : (all : List Declaration) → first_fault all ≡ None → (faults all ≡ []) × (long_shape all ≡ [])
+pub none_of_all : (all : List Declaration) → first_fault all ≡ None → (faults all ≡ []) × (long_shape all ≡ [])
 unfolding all_faults
 none_of_all all e = both_none (faults all) (long_shape all) (nothing_least (all_faults all) e)
 
 -- a condition that has no fault at any declaration has none at one
-at_one : (all : List Declaration) (condition : ℕ → Declaration → List CheckFault) → each condition all ≡ [] → (n : ℕ) → n < length all → condition n (at all n) ≡ []
+pub at_one : (all : List Declaration) (condition : ℕ → Declaration → List CheckFault) → each condition all ≡ [] → (n : ℕ) → n < length all → condition n (at all n) ≡ []
 at_one all condition e n lt =
     let same : n ≡ 0 + n = omega arith in
     ap (λ (k : ℕ). condition k (at all n)) same ∙ none_of_each condition 0 all e n lt
 
--- a text without a fault has none at any declaration
-pub no_fault_at : (all : List Declaration) → first_fault all ≡ None → (n : ℕ) → n < length all → HasNone all n
+-- a text in which nothing is wrong but for its shape has no fault at any declaration
+pub faultless_at : (all : List Declaration) → faults all ≡ [] → (n : ℕ) → n < length all → HasNone all n
 unfolding faults
-no_fault_at all e n lt =
+faultless_at all e n lt =
     let done : List Standing = standings all in
-    let on_homes = both_empty _ _ (none_of_all all e).0 in
+    let on_homes = both_empty _ _ e in
     let on_members = both_empty _ _ on_homes.0 in
     let on_definitions = both_empty _ _ on_members.0 in
     let on_bodies = both_empty _ _ on_definitions.0 in
@@ -235,6 +235,9 @@ no_fault_at all e n lt =
       no_family_type = at_one all (family_type all) kin.1 n lt;
       no_not_provided = at_one all (not_provided all) provisions.1 n lt;
     }
+
+pub no_fault_at : (all : List Declaration) → first_fault all ≡ None → (n : ℕ) → n < length all → HasNone all n
+no_fault_at all e n lt = faultless_at all (none_of_all all e).0 n lt
 
 -- its shape text is not too long
 pub no_long_shape : (all : List Declaration) → first_fault all ≡ None → long_shape all ≡ []

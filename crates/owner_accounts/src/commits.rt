@@ -18,6 +18,7 @@ use crate::weights::is_too_much;
 use owner_titles::{Called, commit_text};
 use pss_base::{Bytes, NoMemory, OwnerNo};
 use pss_machine::Level;
+use std::alloc::Global;
 use storage_home::Changes;
 use type_layout::Schema;
 
@@ -44,6 +45,7 @@ impl Accounts {
     /// `NoMemory`: nothing is said of the accounts, which are not used again.
     pub fn prepare(
         &mut self,
+        alloc: Global,
         owner: OwnerNo,
         schema: &Schema,
         most: u64,
@@ -58,16 +60,21 @@ impl Accounts {
             return Ok(None);
         }
         self.homes.reserve_for(&changes)?;
-        let text = self.text_of(owner, changes.as_slice().len() as u32)?;
+        let text = self.text_of(alloc, owner, changes.as_slice().len() as u32)?;
         Ok(Some(Commit { changes, text }))
     }
 
     // What the history will tell of an owner's commit of so many changes, where it will tell of it.
-    fn text_of(&self, owner: OwnerNo, changed: u32) -> Result<Option<Bytes>, NoMemory>
+    fn text_of(
+        &self,
+        alloc: Global,
+        owner: OwnerNo,
+        changed: u32,
+    ) -> Result<Option<Bytes>, NoMemory>
         ensures { IfOk result (λ text. (S : PlainSchema) (k : Kept) (o : Owner) → AreAccounts S self.now k → get k.owners owner.0 ≡ Some o → length (net k.catalog o) ≡ changed → text ≡ text_of k owner o) }
     {
         match self.titles.get(owner) {
-            Some(called) => text_of(called, changed),
+            Some(called) => text_of(alloc, called, changed),
             None => Ok(None),
         }
     }
@@ -97,11 +104,11 @@ fn joins(level: Level, changed: u32) -> bool
 }
 
 // What the history will tell of a commit of so many changes by one who is called so, where it will tell of it.
-fn text_of(called: &Called, changed: u32) -> Result<Option<Bytes>, NoMemory>
+fn text_of(alloc: Global, called: &Called, changed: u32) -> Result<Option<Bytes>, NoMemory>
     ensures { IfOk result (λ text. (changes : List Change) → length changes ≡ changed → text ≡ (if joins called.now.level changes then Some (machine.commit_text (title_of called.now) called.now.level changes) else None)) }
 {
     if joins(called.level, changed) {
-        let text = commit_text(called, changed)?;
+        let text = commit_text(alloc, called, changed)?;
         Ok(Some(text))
     } else {
         Ok(None)

@@ -9,6 +9,7 @@ use crate::called::Called;
 use itoa::Buffer;
 use pss_base::{Bytes, NoMemory};
 use pss_machine::Level;
+use std::alloc::Global;
 
 // The name of a level.
 fn level_name(level: Level) -> &'static [u8]
@@ -41,11 +42,12 @@ const BEHIND_NAME: usize = 37;
 
 /// What the history tells of an owner's commit: its name, its level, how many data commands it has done, and how many
 /// objects it changed.
-pub fn commit_text(called: &Called, changed: u32) -> Result<Bytes, NoMemory>
+pub fn commit_text(alloc: Global, called: &Called, changed: u32) -> Result<Bytes, NoMemory>
     ensures { (changes : List Change) → length changes ≡ changed → IfOk result (λ text. text ≡ machine.commit_text (title_of called.now) called.now.level changes) }
 {
-    let mut text = called.name.copy()?;
-    text.reserve(BEHIND_NAME)?;
+    let name = called.name.as_slice();
+    let mut text = Bytes::with_room(alloc, name.len() + BEHIND_NAME)?;
+    text.extend(name)?;
     append_part(&mut text, level_name(called.level))?;
     append_number(&mut text, called.commands)?;
     append_number(&mut text, changed)?;

@@ -169,7 +169,7 @@ some_where : {A : Type 0} (o : Option A) → is_some o ≡ true → IsSome o
 some_where None h = absurd (cc)
 some_where (Some x) h = refl
 
-none_where : {A : Type 0} (o : Option A) → is_some o ≡ false → o ≡ None
+pub none_where : {A : Type 0} (o : Option A) → is_some o ≡ false → o ≡ None
 none_where None h = refl
 none_where (Some x) h = absurd (cc)
 

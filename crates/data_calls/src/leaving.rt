@@ -7,7 +7,7 @@ ghost use Rattle.data_calls.specs.Leaving.{MayLeave, MayRewrite, IsLeft};
 use crate::acting::Acting;
 use connector_parts::Parts;
 use pss_base::{NoMemory, Pid, Steps};
-use pss_machine::{Answer, Op};
+use pss_machine::{Answer, Op, View};
 use std::sync::ledger::Ledger;
 use type_layout::Record;
 
@@ -25,8 +25,8 @@ fn record_set(parts: &Parts, acting: Acting, pid: Pid) -> Result<Record, NoMemor
     }
 }
 
-// The object was set: its older bodies are left, and its body in the owner's view has its values.
-fn rewrite<L: Ledger>(
+// The object was set, of which the owner has a body: its older bodies are left, and that one has its values.
+fn write<L: Ledger>(
     parts: &mut Parts,
     acting: Acting,
     pid: Pid,
@@ -37,6 +37,27 @@ fn rewrite<L: Ledger>(
 {
     let values = record_set(parts, acting, pid)?;
     parts.attended.write(acting.owner, pid, values, steps);
+    Ok(())
+}
+
+// The object was set: its older bodies are left, and its body in the owner's view, where there is one, has its values.
+fn rewrite<L: Ledger>(
+    parts: &mut Parts,
+    acting: Acting,
+    pid: Pid,
+    steps: &mut Steps<L>,
+) -> Result<(), NoMemory>
+    requires { MayRewrite parts.old acting pid }
+    ensures { OnOk result ((m : MayRewrite parts.old acting pid) → IsLeft m.left parts.new) }
+{
+    if parts
+        .attended
+        .copies()
+        .has_body(pid, View::Own(acting.owner))
+    {
+        return write(parts, acting, pid, steps);
+    }
+    parts.attended.outdate(acting.owner, pid, steps);
     Ok(())
 }
 

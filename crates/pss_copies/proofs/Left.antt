@@ -68,6 +68,14 @@ module _ (f : Slot → Entry → Option Entry) (old new : Meaning) (left : Leave
       by true e = e
       by false e = absurd (none_some e)
 
+  -- one that was not there is not there
+  pub none_left : (b : BodyName) → get old.bodies b ≡ None → get new.bodies b ≡ None
+  none_left b none = by (get new.bodies b) refl
+    where
+      by : (o : Option (List PlainValue)) → get new.bodies b ≡ o → o ≡ None
+      by None is = refl
+      by (Some values) is = absurd (none_some (sym none ∙ old_body b values is))
+
   pub valued_less : (M : Catalog) (owners : Owners) → AreValued M owners old → AreValued M owners new
   valued_less M owners valued = record { committed = λ pid values at. valued.committed pid values (old_body (body pid Committed) values at); own = λ pid n values at. valued.own pid n values (old_body (body pid (Own n)) values at) }
 

@@ -106,6 +106,10 @@ module _ (old new : Meaning) (p : Pid) (n : OwnerNo) (value : List PlainValue) (
       unlike : InCopy s ≡ Own n → ⊥
       unlike e = cc
 
+-- one that is not there is not rewritten
+pub unwritten : (m : Meaning) (b : BodyName) (value : List PlainValue) → get m.bodies b ≡ None → m ≡ rewritten m b value
+unwritten m b value none = ap (λ (o : Option (List PlainValue)). record { lasts = m.lasts; entries = m.entries; bodies = given o m.bodies (λ v. insert m.bodies b value) }) (sym none)
+
 -- ---- the set
 
 module _ (k : Kept) (old new : Parts) (mid : Meaning) (n : OwnerNo) (step : Step) (p : Pid) (values : List PlainValue) (sets : SetsAt k n step p values) (homes : HomesAgree k) (are : AreCopies old.copies) (at : Attends k old) (stays : new.sessions ≡ old.sessions) (lasts : mid.lasts ≡ old.copies.lasts)

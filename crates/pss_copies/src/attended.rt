@@ -5,8 +5,10 @@ ghost use Rattle.std.specs.Option.{option_map};
 ghost use Rattle.pss_catalog.specs.Catalog.{Object, Catalog};
 ghost use Rattle.pss_machine.specs.declared.level.Level.{Level};
 ghost use Rattle.type_layout.specs.declared.schema.Schema.{Schema};
+ghost use Rattle.type_layout.specs.Types.{PlainValue};
 ghost use Rattle.pss_laws.specs.Sound.{IsSound};
 ghost use Rattle.pss_machine.specs.declared.session.Association.TheVariants as association;
+ghost use Rattle.pss_machine.specs.declared.session.View.TheVariants.{Own};
 ghost use Rattle.pss_machine.specs.Sessions.{Session, active_in, open_in, is_basic};
 ghost use Rattle.pss_machine.specs.Copies.{Copies, Entry as PlainEntry, bodies, entry_numbered, is_attached, view_in};
 ghost use Rattle.pss_machine.specs.Attaching.{is_open};
@@ -294,6 +296,19 @@ impl Attended {
             .sessions
             .detach_pid(&mut parts.copies, owner, pid, steps);
         parts.copies.rewrite(pid, owner, value);
+    }
+
+    /// An owner that has no body of the object has given it other values: in its sessions the entries for the object stand on no
+    /// body where they stood on the committed one or on the session's own copy. It looks at each session, and takes no memory.
+    pub fn outdate<L: Ledger>(&mut self, owner: OwnerNo, pid: Pid, steps: &mut Steps<L>)
+        requires { get self.old.copies.bodies (body pid (Own owner)) ≡ None }
+        ensures { (k : Kept) (step : Step) (values : List PlainValue) → SetsAt k owner step pid values → HomesAgree k → Attends k self.old → Attends (left_by k owner step) self.new }
+    {
+        let parts = &mut self.parts;
+        parts.copies.copies_hold();
+        parts
+            .sessions
+            .detach_pid(&mut parts.copies, owner, pid, steps);
     }
 
     /// An owner has taken the object away: in its sessions no entry for the object stands on a body. It looks at each session

@@ -1,11 +1,14 @@
 -- What step is taken of what is asked: on a copy, or on what the owner sees.
-use Rattle.std.proofs.Common.{◌≡◌, Bool, true, false, List, Option, Some, None, refl, sym, ap, ◌∙◌, inl, inr}
+use Rattle.std.proofs.Common.{◌≡◌, ℕ, Bool, true, false, List, Option, Some, None, refl, sym, ap, ◌∙◌, subst, inl, inr}
 use Rattle.std.specs.Prelude.{◌⊎◌, if◌then◌else◌}
+use Rattle.pss_base.specs.declared.pid.Pid.{Pid}
 use Rattle.type_layout.specs.declared.schema.Schema.{Schema}
 use Rattle.type_layout.specs.Types.{PlainValue}
 use Rattle.type_layout.specs.Schemas.{given}
 use Rattle.pss_catalog.specs.Catalog.{Catalog}
-use Rattle.pss_machine.specs.Operations.{FindKey, FindPid, FindShort, Exists, Get, Follow, Count, ListOf, PlainOp, Create, Set, Destroy, Ask, PlainAnswer}
+use Rattle.pss_machine.specs.declared.operation.Op.{Op}
+use Rattle.pss_machine.specs.declared.operation.Op.TheVariants as operation
+use Rattle.pss_machine.specs.Operations.{FindKey, FindPid, FindShort, Exists, Get, Follow, Count, ListOf, PlainOp, Create, Set, Destroy, Ask, PlainAnswer, plain_op}
 use Rattle.pss_machine.specs.Owners.{Owner, view, is_basic, step_on_view}
 use Rattle.pss_machine.specs.Copies.{Copies}
 use Rattle.pss_machine.specs.Asking.{Asked}
@@ -74,6 +77,28 @@ module _ (S : Schema) (M : Catalog) (owner : Owner) (copies : Copies) (asked : A
           → (step_of S M owner copies asked ≡ step_on_view S M owner asked.op) ⊎ ((answer : PlainAnswer) × (step_of S M owner copies asked ≡ step_on_copy asked.op answer) × IsOnCopy M owner copies asked answer)
       by None is = inl (on_view is)
       by (Some answer) is = inr (answer, on_copy answer is, copied_there answer is)
+
+-- the words of the code ask nothing of a member
+of_no_member : (o : Op) → ((p : Pid) (member : ℕ) → o ≡ operation.Get p member → ⊥) → ((p : Pid) (member : ℕ) → o ≡ operation.Follow p member → ⊥) → OfMember (plain_op o) → ⊥
+of_no_member (operation.Create serial home values) gets follows of = of
+of_no_member (operation.FindKey home key bytes) gets follows of = of
+of_no_member (operation.FindPid p) gets follows of = of
+of_no_member (operation.FindShort home serial) gets follows of = of
+of_no_member (operation.Exists p) gets follows of = of
+of_no_member (operation.Get p member) gets follows of = gets p member refl
+of_no_member (operation.Set p member value) gets follows of = of
+of_no_member (operation.Destroy p) gets follows of = of
+of_no_member (operation.Follow p member) gets follows of = follows p member refl
+of_no_member (operation.Count home) gets follows of = of
+of_no_member (operation.List home) gets follows of = of
+
+-- then no copy tells
+pub untold : (S : Schema) (M : Catalog) (owner : Owner) (copies : Copies) (asked : Asked) (o : Op) → asked.op ≡ plain_op o → ((p : Pid) (member : ℕ) → o ≡ operation.Get p member → ⊥) → ((p : Pid) (member : ℕ) → o ≡ operation.Follow p member → ⊥) → None ≡ copied_answer M owner copies asked
+untold S M owner copies asked o is gets follows = by (copied_answer M owner copies asked) refl
+  where
+    by : (told : Option PlainAnswer) → copied_answer M owner copies asked ≡ told → None ≡ told
+    by None at = refl
+    by (Some answer) at = absurd (of_no_member o gets follows (subst OfMember is (copied_there S M owner copies asked answer at).of))
 
 -- the answer of a copy, by its values
 pub copied_as : (M : Catalog) (owner : Owner) (copies : Copies) (asked : Asked) (b : Bool) → is_basic owner.level ≡ b → (o : Option (List PlainValue)) → o ≡ (if b then copied_values copies asked.entry else None)

@@ -91,12 +91,24 @@ fn told_by(alloc: Global, values: &Record, op: &Op) -> Result<Told, NoMemory>
     }
 }
 
-/// What the session's own copy on which the named entry stands tells of what is asked.
-pub fn consult(parts: &Parts, acting: Acting, asked: &Asked) -> Result<Told, NoMemory>
+// What the session's own copy on which the named entry stands tells of what is asked.
+fn told_of(parts: &Parts, acting: Acting, asked: &Asked) -> Result<Told, NoMemory>
     ensures { IfOk result (λ told. (k : Kept) (is : IsActing k acting) → IsAt parts.now k → copy_tells k is (plain_asked asked.now) told) }
 {
     match copied(parts, acting, asked.entry) {
         Some(values) => told_by(parts.alloc, values, &asked.op),
         None => Ok(Told::Nothing),
+    }
+}
+
+/// What the session's own copy on which the named entry stands tells of what is asked. It is looked for where that is of a
+/// member: of nothing else does a copy tell.
+pub fn consult(parts: &Parts, acting: Acting, asked: &Asked) -> Result<Told, NoMemory>
+    ensures { IfOk result (λ told. (k : Kept) (is : IsActing k acting) → IsAt parts.now k → copy_tells k is (plain_asked asked.now) told) }
+{
+    match &asked.op {
+        Op::Get { .. } => told_of(parts, acting, asked),
+        Op::Follow { .. } => told_of(parts, acting, asked),
+        _ => Ok(Told::Nothing),
     }
 }

@@ -1,5 +1,6 @@
 pub mod WordLaws
 pub mod NumberLaws
+pub mod FrontLaws
 pub mod VerbLaws
 pub mod KindLaws
 pub mod RowLaws

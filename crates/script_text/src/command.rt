@@ -12,7 +12,7 @@ ghost use Rattle.script_text.specs.inner.Seen.{seen, seen_word, Gives};
 
 use crate::CommandFault;
 use crate::owned::{own, own_last, own_two};
-use crate::parts::{any_in, choice_in, entry_in, entry_of, is_name, name_in, pid_in, serial_in};
+use crate::parts::{any_in, choice_in, entry_in, name_in, one_entry, one_name, pid_in, serial_in};
 use crate::tail::Tail;
 use crate::verb::{
     AloneVerb, EntryVerb, HomeVerb, KeyVerb, MemberVerb, SessionVerb, TransactionVerb, Verb,
@@ -358,19 +358,15 @@ pub struct GetWords<'a> {
 fn get_words<'a>(tail: Tail<'a>) -> Option<GetWords<'a>>
     ensures { IfSome result (λ words. meaning.command_in (Verb.Member MemberVerb.Get) (seen tail.entry) ≡ Ok (command.Get words.s.now words.entry words.member.now)) }
 {
-    let s = one_word(tail)?;
-    if !is_name(s.text) {
-        return None;
-    }
-    let number = one_word(s.rest)?;
-    let entry = entry_of(number.text)?;
-    let member = one_word(number.rest)?;
+    let s = one_name(tail)?;
+    let found = one_entry(s.rest)?;
+    let member = one_word(found.word.rest)?;
     if !member.rest.text.is_empty() {
         return None;
     }
     Some(GetWords {
         s: s.text,
-        entry,
+        entry: found.entry,
         member: member.text,
     })
 }

@@ -5,6 +5,6 @@ use Rattle.script_text.proofs.command.get_words.Goals as goal
 
 pub returns : goal.returns
 returns c =
-    get_row (seen c.args.tail) (seen_word c.in_ok-s.s) (seen_word c.in_ok-number.number) (seen_word c.in_ok-member.member) c.in_ok-entry.entry
-    c.in_ok-s.ensures (sym c.is_name.ensures ∙ c.if-not-is_name.false) c.in_ok-number.ensures (sym c.entry_of.ensures ∙ c.in_ok-entry.was) c.in_ok-member.ensures
+    get_row (seen c.args.tail) (seen_word c.in_ok-s.s) (seen_word c.in_ok-found.found.word) (seen_word c.in_ok-member.member) c.in_ok-found.found.entry
+    c.in_ok-s.ensures.word c.in_ok-s.ensures.name c.in_ok-found.ensures.word c.in_ok-found.ensures.entry c.in_ok-member.ensures
     (eqb→eq (length c.in_ok-member.member.rest.text.now) 0 (subst T (sym (sym c.is_empty.ensures ∙ c.if-not-is_empty.false)) tt))

@@ -3,11 +3,14 @@ ghost use Rattle.std.specs.Prelude.{◌≡◌, ◌<◌, ◌^◌, Some, None, IsS
 ghost use Rattle.std.specs.Option.{option_map};
 ghost use Rattle.std.specs.FinMap as map;
 ghost use Rattle.incarnations.specs.Maps.{IsWith};
+ghost use Rattle.incarnations.specs.Meaning.{same_body};
 ghost use Rattle.incarnations.specs.Records.{with_entries, with_value};
+ghost use Rattle.pss_machine.specs.Copies.{same_view};
 
 use crate::names::{BodyName, BodyPlace, BodyRecord};
 use indexmap::IndexMap;
 use pss_base::NoMemory;
+use pss_machine::View;
 use std::alloc::Global;
 use std::cell::Cell;
 use std::hash::BuildHasherDefault;
@@ -37,6 +40,29 @@ impl Model for BodyTable {
     ghost view = { λ t. from_entries t.table.entries };
 }
 
+// Whether two views are one.
+#[inline(always)]
+fn is_view(there: View, view: View) -> bool
+    ensures { result ≡ same_view there view }
+{
+    match (there, view) {
+        (View::Committed, View::Committed) => true,
+        (View::Own(there), View::Own(owner)) => there.0 == owner.0,
+        (View::Kept(there), View::Kept(session)) => there.0 == session.0,
+        _ => false,
+    }
+}
+
+// Whether two names are one. It is compared where it stands: the derived comparison is a call for each.
+#[inline(always)]
+fn is_name(there: &BodyName, name: BodyName) -> bool
+    ensures { result ≡ same_body there.now name }
+{
+    there.pid.home == name.pid.home
+        && there.pid.serial == name.pid.serial
+        && is_view(there.view, name.view)
+}
+
 impl BodyTable {
     pub fn new(alloc: Global) -> BodyTable
         ensures { result ≡ map.empty }
@@ -60,7 +86,7 @@ impl BodyTable {
         ensures { IfSome (option_copied result) (λ body. map.get self.now name ≡ Some body) }
     {
         match self.table.get_index(place) {
-            Some((there, body)) if *there == name => Some(body),
+            Some((there, body)) if is_name(there, name) => Some(body),
             _ => None,
         }
     }

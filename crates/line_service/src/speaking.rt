@@ -9,6 +9,7 @@ use pss_base::Failed;
 use pss_disk::Station;
 
 /// Speaks bytes in one call: so at a moment that comes all was spoken that is spoken at the end. The disk stays.
+#[inline(always)]
 pub fn speak<W: Station>(station: &mut W, bytes: &[u8]) -> Result<(), Failed>
     ensures said { OnOk result ((W.now station.new).spoken ≡ append_known (W.now station.old).spoken bytes.now) }
     ensures part { OnErr result (SaidOf bytes.now (W.now station.old).spoken (W.now station.new).spoken) }

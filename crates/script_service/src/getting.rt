@@ -28,9 +28,7 @@ fn begin(line: &mut Bytes) -> Result<(), NoMemory>
     ensures { OnOk result (line.new ≡ codes "OK ") }
 {
     line.clear();
-    line.push(b'O')?;
-    line.push(b'K')?;
-    line.push(b' ')
+    line.extend(b"OK ")
 }
 
 // Performs the `get` of these words where its value is told at once, and makes the line of its reply in the room of another.

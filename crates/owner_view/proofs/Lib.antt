@@ -22,6 +22,7 @@ pub mod Following
 pub mod Roots
 pub mod Merging
 pub mod Told
+pub mod Ordered
 pub mod Putting
 pub mod OneOwner
 pub mod Outcomes

@@ -20,7 +20,9 @@ cond-state false x y = refl
 
 pub get-changes_of : (es : List (ℕ × Slot)) (q : ℕ) → get (changes_of es) q ≡ state_at q es
 get-changes_of [] q = get-empty nat_cmp q
-get-changes_of (e ∷ es) q = get-with_told (slot_state e.1) e.0 q (changes_of es) ∙ ap (cond (eq_by_cmp nat_cmp q e.0) (slot_state e.1)) (get-changes_of es q) ∙ sym (cond-state (eq_by_cmp nat_cmp q e.0) (Some e.1) (slot_at q es))
+get-changes_of (e ∷ es) q =
+    get-with_told (slot_state e.1) e.0 q (changes_of es) ∙ ap (λ (b : Bool). cond b (slot_state e.1) (get (changes_of es) q)) (tie q e.0) ∙ ap (cond (q == e.0) (slot_state e.1)) (get-changes_of es q)
+    ∙ sym (cond-state (q == e.0) (Some e.1) (slot_at q es))
 
 turned_tie : (s q : ℕ) → (s == q) ≡ eq_by_cmp nat_cmp q s
 turned_tie s q = nat_eq_equiv.symm s q ∙ sym (tie q s)

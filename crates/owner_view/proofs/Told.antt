@@ -1,14 +1,10 @@
 -- What slots stand for, in the order of their serials.
-use Rattle.std.proofs.Common.{◌≡◌, ◌<◌, ◌≤◌, ℕ, suc, ◌+◌, Bool, true, false, cond, List, [], ◌∷◌, ◌++◌, length, map, take, Option, Some, None, refl, sym, ap, subst, ◌∙◌, arith, Less}
+use Rattle.std.proofs.Common.{◌≡◌, ◌<◌, ◌≤◌, ℕ, suc, ◌+◌, ◌==◌, Bool, true, false, cond, List, [], ◌∷◌, ◌++◌, length, map, take, Option, Some, None, refl, sym, ap, subst, ◌∙◌, arith, Less}
 use Rattle.std.specs.Ordering.{nat_cmp, eq_by_cmp}
 use Rattle.std.specs.Cmp.{nat_cmp_total}
 use Rattle.std.specs.FinMap.{get, entries, empty, remove, put, len-empty, len-entries, entries-insert, get-remove, same_map, nat_cmp-IsAntisymmetric}
-use Rattle.std.specs.List.{AllByRecursion}
-use Rattle.std.specs.List.Sorted.{IsStrictlySortedBy}
-use Rattle.std.specs.Map.{keys_of}
 use Rattle.std.specs.Option.{option_map, option_to_list}
 use Rattle.std.proofs.lemmas.Bool.Decides.{nat_tests}
-use Rattle.std.proofs.lemmas.Map.Keys.{sorted_head, sorted_tail}
 use Rattle.pss_base.specs.declared.pid.Pid.{Pid}
 use Rattle.type_layout.specs.Schemas.{given}
 use Rattle.pss_catalog.specs.Catalog.{Object, Catalog}
@@ -34,18 +30,6 @@ abbrev pub SlotsRise : ℕ → Slots → Type 0
 SlotsRise least [] = Unit {0}
 SlotsRise least (e ∷ es) = (least ≤ e.0) × SlotsRise (e.0 + 1) es
 
-less_of : (a b : ℕ) → nat_cmp a b ≡ Less → a + 1 ≤ b
-less_of a b is = grind (arith, nat_tests)
-
-rise_behind : (k : ℕ) (es : Slots) → AllByRecursion (λ y. nat_cmp k y ≡ Less) (keys_of es) → IsStrictlySortedBy nat_cmp (keys_of es) → SlotsRise (k + 1) es
-rise_behind k [] above sorted = tt
-rise_behind k (e ∷ es) above sorted = (less_of k e.0 above.0, rise_behind e.0 es (sorted_head nat_cmp e.0 (keys_of es) sorted) (sorted_tail nat_cmp e.0 (keys_of es) sorted))
-
--- the slots of an ordered map
-pub slots_rise : (es : Slots) → IsStrictlySortedBy nat_cmp (keys_of es) → SlotsRise 0 es
-slots_rise [] sorted = tt
-slots_rise (e ∷ es) sorted = (omega arith, rise_behind e.0 es (sorted_head nat_cmp e.0 (keys_of es) sorted) (sorted_tail nat_cmp e.0 (keys_of es) sorted))
-
 rises_lower : (n m : ℕ) (cs : List Change) → n ≤ m → Rises m cs → Rises n cs
 rises_lower n m [] le h = tt
 rises_lower n m (c ∷ cs) le h = (omega (arith, le, h.0), h.1)
@@ -66,9 +50,12 @@ apart q s lt = grind (arith, nat_tests)
 pub same_place : (q s : ℕ) → eq_by_cmp nat_cmp q s ≡ true → q ≡ s
 same_place q s e = grind (arith, nat_tests)
 
+below_it : (q s : ℕ) → q + 1 ≤ s → (q == s) ≡ false
+below_it q s lt = grind (arith, nat_tests)
+
 none_at : (s n : ℕ) (es : Slots) → s < n → SlotsRise n es → state_at s es ≡ None
 none_at s n [] lt h = refl
-none_at s n (e ∷ es) lt h = ap (λ (b : Bool). given (cond b (Some e.1) (slot_at s es)) None slot_state) (apart s e.0 (let le = h.0 in omega (arith, lt, le))) ∙ none_at s (e.0 + 1) es (let le = h.0 in omega (arith, lt, le)) h.1
+none_at s n (e ∷ es) lt h = ap (λ (b : Bool). given (cond b (Some e.1) (slot_at s es)) None slot_state) (below_it s e.0 (let le = h.0 in omega (arith, lt, le))) ∙ none_at s (e.0 + 1) es (let le = h.0 in omega (arith, lt, le)) h.1
 
 none_changed : (s : ℕ) (es : Slots) → SlotsRise (s + 1) es → get (changes_of es) s ≡ None
 none_changed s es h = get-changes_of es s ∙ none_at s (s + 1) es (omega arith) h

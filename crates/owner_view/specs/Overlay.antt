@@ -11,14 +11,14 @@ use Rattle.owner_view.specs.Keyed.{Pair}
 use Rattle.owner_view.specs.Views.{IsOwnHolder}
 
 abbrev pub changes_in : Overlay → Changes
-changes_in overlay = changes_of overlay.states.entries
+changes_in overlay = changes_of overlay.states.table.entries
 
 abbrev pub indexes_in : Overlay → List Index
 indexes_in overlay = overlay.indexes.items
 
 -- a state may be put at the serial, and each of the keys
 pub record IsReady (keys serial : ℕ) (pairs : List Pair) (overlay : Overlay) : Type 0 where
-  pub there : IsSome (slot_at serial overlay.states.entries)
+  pub there : IsSome (slot_at serial overlay.states.table.entries)
   pub many : keys ≤ length (indexes_in overlay)
   pub reserved : (key : ℕ) (bytes : List ℕ) → IsTrue (lists pairs key bytes) → is_key_reserved (indexes_in overlay) key bytes ≡ true
 

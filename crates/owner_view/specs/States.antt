@@ -1,9 +1,8 @@
 -- The states of objects by what stands at their serials.
-use Rattle.std.specs.Prelude.{ℕ, ◌≡◌, List, [], ◌∷◌, Option, Some, None, cond, ◌==◌}
-use Rattle.std.specs.Ordering.{nat_cmp}
+use Rattle.std.specs.Prelude.{ℕ, ◌≡◌, ◌≤◌, ◌+◌, List, [], ◌∷◌, Option, Some, None, is_some, cond, ◌==◌}
+use Rattle.std.specs.List.{list_any}
 use Rattle.std.specs.Map.{lookup}
 use Rattle.std.specs.FinMap.{insert, remove, empty}
-use Rattle.std.specs.BTreeMap.{is_at}
 use Rattle.type_layout.specs.Schemas.{given}
 use Rattle.pss_catalog.specs.Catalog.{Object}
 use Rattle.pss_machine.specs.Changes.{Changes}
@@ -25,7 +24,7 @@ told_state told.Gone = Some None
 told_state (told.There object) = Some (Some (plain_object object.now))
 
 abbrev pub slot_at : ℕ → List (ℕ × Slot) → Option Slot
-slot_at s es = lookup (is_at (nat_cmp s)) es
+slot_at s es = lookup (λ t. s == t) es
 
 abbrev pub state_at : ℕ → List (ℕ × Slot) → Option (Option Object)
 state_at s es = given (slot_at s es) None slot_state
@@ -47,3 +46,13 @@ with_told (Some state) s changes = insert changes s state
 abbrev pub changes_of : List (ℕ × Slot) → Changes
 changes_of [] = empty
 changes_of (e ∷ es) = with_told (slot_state e.1) e.0 (changes_of es)
+
+-- numbers rise, from this one on
+abbrev pub Rise : ℕ → List ℕ → Type 0
+Rise least [] = Unit {0}
+Rise least (s ∷ ss) = (least ≤ s) × Rise (s + 1) ss
+
+-- these are the serials at which something stands, in their order
+pub record AreInOrder (es : List (ℕ × Slot)) (ss : List ℕ) : Type 0 where
+  pub rise : Rise 0 ss
+  pub all : (q : ℕ) → list_any (λ t. q == t) ss ≡ is_some (slot_at q es)

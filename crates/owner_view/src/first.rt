@@ -8,12 +8,12 @@ ghost use Rattle.pss_machine.specs.Changes.{listed};
 ghost use Rattle.pss_machine.specs.Homes.{extent};
 ghost use Rattle.owner_view.specs.Merging.{is_before, before, onward, past, passing_at, merged};
 ghost use Rattle.owner_view.specs.Overlay.{changes_in};
-ghost use Rattle.owner_view.specs.States.{slot_state};
+ghost use Rattle.owner_view.specs.States.{told_state, AreInOrder};
 ghost use Rattle.owner_view.specs.Stored.{Sees};
 ghost use Rattle.owner_view.specs.Views.{seen_with};
 
 use crate::committed::Committed;
-use crate::states::Slot;
+use crate::states::Told;
 use crate::view::{View, is_below};
 use pss_base::{NoMemory, Pid, Pids};
 use std::alloc::Global;
@@ -31,9 +31,25 @@ pub fn first_in<C: Committed>(
     requires { Sees C.shows view.now }
     ensures { IfOk result (λ pids. (v : Sees C.shows view.now) → pids ≡ take 256 (extent view.now.schema.now (seen_with v.catalog (changes_in view.now.overlay.now)) home)) }
 {
-    let asked = most_asked(view.overlay.states().len())?;
+    let serials = view.overlay.in_order()?;
+    first_with(alloc, view, home, &serials)
+}
+
+// The same, with the serials of the changes.
+fn first_with<C: Committed>(
+    alloc: Global,
+    view: &View<'_, C>,
+    home: HomeNo,
+    serials: &[u64],
+) -> Result<Pids, NoMemory>
+    requires sees { Sees C.shows view.now }
+    requires few { length serials.now < 2 ^ 63 }
+    requires order { AreInOrder view.now.overlay.now.states.table.entries serials.now }
+    ensures { IfOk result (λ pids. (v : Sees C.shows view.now) → pids ≡ take 256 (extent view.now.schema.now (seen_with v.catalog (changes_in view.now.overlay.now)) home)) }
+{
+    let asked = most_asked(serials.len())?;
     let committed = view.committed.first(home, asked)?;
-    first_merged(alloc, view, home, committed.as_slice())
+    first_merged(alloc, view, home, serials, committed.as_slice())
 }
 
 // So many committed objects are enough, since each change takes one of them away at most. More than a `u32`
@@ -52,13 +68,15 @@ fn first_merged<C: Committed>(
     alloc: Global,
     view: &View<'_, C>,
     home: HomeNo,
+    serials: &[u64],
     committed: &[Pid],
 ) -> Result<Pids, NoMemory>
-    requires { Sees C.shows view.now }
+    requires sees { Sees C.shows view.now }
+    requires order { AreInOrder view.now.overlay.now.states.table.entries serials.now }
     ensures { IfOk result (λ pids. pids ≡ take 256 (merged (is_of view.now.schema.now home) (listed (changes_in view.now.overlay.now)) committed.now)) }
 {
     let mut pids = Pids::new(alloc);
-    put_merged(&mut pids, view, home, committed)?;
+    put_merged(&mut pids, view, home, serials, committed)?;
     Ok(pids)
 }
 
@@ -66,15 +84,17 @@ fn put_merged<C: Committed>(
     pids: &mut Pids,
     view: &View<'_, C>,
     home: HomeNo,
+    serials: &[u64],
     committed: &[Pid],
 ) -> Result<(), NoMemory>
     requires sees { Sees C.shows view.now }
+    requires order { AreInOrder view.now.overlay.now.states.table.entries serials.now }
     requires none { pids.old ≡ [] }
     ensures { OnOk result (pids.new ≡ take 256 (merged (is_of view.now.schema.now home) (listed (changes_in view.now.overlay.now)) committed.now)) }
 {
     let mut rest = committed;
-    for (serial, slot) in view.overlay.states() {
-        if let Some(own) = own_in(view, home, *serial, slot) {
+    for serial in serials {
+        if let Some(own) = own_in(view, home, *serial, view.overlay.told(*serial)) {
             rest = put_change(pids, rest, *serial, own)?;
         }
     }
@@ -87,15 +107,15 @@ fn own_in<C: Committed>(
     view: &View<'_, C>,
     home: HomeNo,
     serial: u64,
-    slot: &Slot,
+    told: Told<'_>,
 ) -> Option<Option<Pid>>
     requires { Sees C.shows view.now }
-    ensures { result ≡ option_map (passing_at (is_of view.now.schema.now home) serial) (slot_state slot.now) }
+    ensures { result ≡ option_map (passing_at (is_of view.now.schema.now home) serial) (told_state told.entry) }
 {
-    match slot {
-        Slot::Reserved => None,
-        Slot::Gone => Some(None),
-        Slot::There(object) => Some(below(view, home, object.home, serial)),
+    match told {
+        Told::Untouched => None,
+        Told::Gone => Some(None),
+        Told::There(object) => Some(below(view, home, object.home, serial)),
     }
 }
 

@@ -11,7 +11,7 @@ ghost use Rattle.owner_view.specs.Keyed.{all_keyed, keys_of};
 ghost use Rattle.owner_view.specs.Net.{net_of, AreNet, IsNet, IsNetAt, IsNetIn};
 ghost use Rattle.owner_view.specs.Overlay.{changes_in};
 ghost use Rattle.owner_view.specs.Seen.{Fits, IsShown, plain_object};
-ghost use Rattle.owner_view.specs.States.{slot_state};
+ghost use Rattle.owner_view.specs.States.{told_state, AreInOrder};
 ghost use Rattle.owner_view.specs.Stored.{Shows};
 
 use crate::committed::Committed;
@@ -19,7 +19,7 @@ use crate::draft::keys_of_changed;
 use crate::keyed::keyed_of;
 use crate::object::Changed;
 use crate::seen::{Seen, home_of};
-use crate::states::Slot;
+use crate::states::Told;
 use crate::step::Pairs;
 use crate::view::{View, stored_at};
 use cdr_codec::encode_record;
@@ -36,8 +36,22 @@ pub fn net_changes<C: Committed>(alloc: Global, view: &View<'_, C>) -> Result<Ch
     ensures net { IfOk result (λ changes. (v : Shows C.shows view.now) → AreNet view.now.schema.now v.catalog (net_of v.catalog (changes_in view.now.overlay.now)) changes) }
     ensures wanted { IfOk result (λ changes. (v : Shows C.shows view.now) → AreChanges view.now.schema.now v.catalog changes (net_of v.catalog (changes_in view.now.overlay.now))) }
 {
+    let serials = view.overlay.in_order()?;
+    net_at(alloc, view, &serials)
+}
+
+// The changes at these serials.
+fn net_at<C: Committed>(
+    alloc: Global,
+    view: &View<'_, C>,
+    serials: &[u64],
+) -> Result<Changes, NoMemory>
+    requires shows { Shows C.shows view.now }
+    requires order { AreInOrder view.now.overlay.now.states.table.entries serials.now }
+    ensures { IfOk result (λ changes. (v : Shows C.shows view.now) → AreNet view.now.schema.now v.catalog (net_of v.catalog (changes_in view.now.overlay.now)) changes) }
+{
     let mut changes = Changes::new(alloc);
-    put_net(&mut changes, alloc, view)?;
+    put_net(&mut changes, alloc, view, serials)?;
     Ok(changes)
 }
 
@@ -45,13 +59,15 @@ fn put_net<C: Committed>(
     changes: &mut Changes,
     alloc: Global,
     view: &View<'_, C>,
+    serials: &[u64],
 ) -> Result<(), NoMemory>
     requires shows { Shows C.shows view.now }
+    requires order { AreInOrder view.now.overlay.now.states.table.entries serials.now }
     requires none { changes.old ≡ [] }
     ensures { OnOk result ((v : Shows C.shows view.now) → AreNet view.now.schema.now v.catalog (net_of v.catalog (changes_in view.now.overlay.now)) changes.new) }
 {
-    for (serial, slot) in view.overlay.states() {
-        let change = net_in(alloc, view, *serial, slot)?;
+    for serial in serials {
+        let change = net_in(alloc, view, *serial, view.overlay.told(*serial))?;
         put_change(changes, change)?;
     }
     Ok(())
@@ -67,21 +83,21 @@ fn put_change(changes: &mut Changes, change: Option<Change>) -> Result<(), NoMem
     }
 }
 
-// The change of what stands in a slot, where it is another state than was committed.
+// The change of what was made of an object, where it is another state than was committed.
 fn net_in<C: Committed>(
     alloc: Global,
     view: &View<'_, C>,
     serial: u64,
-    slot: &Slot,
+    told: Told<'_>,
 ) -> Result<Option<Change>, NoMemory>
     requires shows { Shows C.shows view.now }
-    requires fits { (x : Object) → slot_state slot.now ≡ Some (Some x) → Fits view.now.schema.now x }
-    ensures { IfOk result (λ change. (v : Shows C.shows view.now) → IsNetIn view.now.schema.now v.catalog serial (slot_state slot.now) change) }
+    requires fits { (x : Object) → told_state told ≡ Some (Some x) → Fits view.now.schema.now x }
+    ensures { IfOk result (λ change. (v : Shows C.shows view.now) → IsNetIn view.now.schema.now v.catalog serial (told_state told.entry) change) }
 {
-    match slot {
-        Slot::Reserved => Ok(None),
-        Slot::Gone => net_removal(alloc, view, serial),
-        Slot::There(object) => net_record(alloc, view, serial, object),
+    match told {
+        Told::Untouched => Ok(None),
+        Told::Gone => net_removal(alloc, view, serial),
+        Told::There(object) => net_record(alloc, view, serial, object),
     }
 }
 

@@ -1,8 +1,8 @@
 // What an owner changed, and who holds which keys among the changed objects.
-ghost use Rattle.std.specs.Prelude.{◌≡◌, ◌≤◌, List, [], length, None, OnOk, IsSome};
+ghost use Rattle.std.specs.Prelude.{◌≡◌, ◌≤◌, List, [], length, None, IfOk, OnOk, IsSome};
 ghost use Rattle.std.specs.FinMap as map;
 ghost use Rattle.key_index.specs.Index.{Index};
-ghost use Rattle.owner_view.specs.States.{slot_at, slot_state, told_state, with_told};
+ghost use Rattle.owner_view.specs.States.{slot_at, slot_state, told_state, with_told, AreInOrder};
 ghost use Rattle.storage_home.specs.Keys.{found_at, AreThere, MayPut, KeepsFound, TurnsFound, KeepsKeysReserved};
 ghost use Rattle.owner_view.specs.Overlay.{changes_in, indexes_in, IsReady, FoundAfter};
 
@@ -10,7 +10,6 @@ use crate::states::{self, Slot, States, Told, told_at};
 use key_index::KeyIndex;
 use pss_base::{Bytes, NoMemory};
 use std::alloc::Global;
-use std::collections::BTreeMap;
 use storage_home::keys::{find, put_all, reserve_all, take_all};
 use type_layout::KeyNo;
 
@@ -31,16 +30,16 @@ impl Overlay {
     {
         Overlay {
             alloc,
-            states: BTreeMap::new(alloc),
+            states: states::none(alloc),
             indexes: Vec::new(alloc),
         }
     }
 
-    /// The states by serial, with the serials that are only reserved.
-    pub fn states(&self) -> &States
-        ensures { result.now ≡ self.now.states }
+    /// The serials of the states in their order, with those that are only reserved.
+    pub fn in_order(&self) -> Result<Vec<u64>, NoMemory>
+        ensures { IfOk result (λ serials. AreInOrder self.now.states.table.entries serials.items) }
     {
-        &self.states
+        states::in_order(self.alloc, &self.states)
     }
 
     /// What was made of the object with a serial.
@@ -84,7 +83,7 @@ impl Overlay {
         had: &[(KeyNo, Bytes)],
         has: &[(KeyNo, Bytes)],
     )
-        requires there { IsSome (slot_at serial self.old.states.entries) }
+        requires there { IsSome (slot_at serial self.old.states.table.entries) }
         requires had { AreThere (indexes_in self.old) had.now }
         requires has { (between : List Index) → TurnsFound (indexes_in self.old) between had.now None → KeepsKeysReserved (indexes_in self.old) between → MayPut between has.now }
         ensures changes { changes_in self.new ≡ with_told (slot_state slot) serial (changes_in self.old) }

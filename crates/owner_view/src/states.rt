@@ -1,11 +1,17 @@
 // The states to which objects were changed, by serial.
-ghost use Rattle.std.specs.Prelude.{◌≡◌, OnOk, IsSome};
-ghost use Rattle.owner_view.specs.States.{slot_at, slot_state, state_at, told_state, KeepsStates, TurnsState};
+ghost use Rattle.std.specs.Prelude.{◌≡◌, [], Some, None, nat_eq, IfOk, IfSome, OnOk, IsSome};
+ghost use Rattle.std.specs.Option.{option_map};
+ghost use Rattle.owner_view.specs.States.{slot_at, slot_state, state_at, told_state, KeepsStates, TurnsState, AreInOrder};
+ghost use Rattle.std.specs.List.{IsDistinct};
+ghost use Rattle.std.specs.Map.{keys_of};
 
 use crate::object::Changed;
+use indexmap::IndexMap;
 use pss_base::NoMemory;
 use std::alloc::Global;
-use std::collections::BTreeMap;
+use std::cell::Cell;
+use std::hash::BuildHasherDefault;
+use table_hash::NumberHasher;
 
 /// What stands at a serial.
 #[derive(Drop)]
@@ -18,7 +24,16 @@ pub enum Slot {
     There(Changed),
 }
 
-pub type States = BTreeMap<u64, Slot>;
+type Table = IndexMap<u64, Slot, BuildHasherDefault<NumberHasher>>;
+
+/// What stands at serials, by hash: an order is made of them where one is asked for.
+#[derive(Drop)]
+pub struct States {
+    pub table: Table,
+    // The place of the slot that was found last, where the next one is looked for first: one command asks for its object several
+    // times, and a commit for one after the other. It may be any number.
+    last: Cell<usize>,
+}
 
 /// What an owner made of an object.
 #[derive(Clone, Copy)]
@@ -31,11 +46,21 @@ pub enum Told<'a> {
     There(&'a Changed),
 }
 
+/// Nothing stands anywhere. It takes no memory.
+pub fn none(alloc: Global) -> States
+    ensures { result.table.entries ≡ [] }
+{
+    States {
+        table: IndexMap::with_hasher(alloc, BuildHasherDefault::new()),
+        last: Cell::new(0),
+    }
+}
+
 /// What was made of the object with a serial.
 pub fn told_at(states: &States, serial: u64) -> Told<'_>
-    ensures { told_state result ≡ state_at serial states.now.entries }
+    ensures { told_state result ≡ state_at serial states.now.table.entries }
 {
-    match states.get(&serial) {
+    match slot_of(states, serial) {
         Some(slot) => told_by(slot),
         None => Told::Untouched,
     }
@@ -51,24 +76,110 @@ fn told_by(slot: &Slot) -> Told<'_>
     }
 }
 
+// The slot of a serial, where it has one. Where it is the one found last or stands behind it, it is not hashed.
+fn slot_of(states: &States, serial: u64) -> Option<&Slot>
+    ensures { option_map (λ slot. slot.now) result ≡ slot_at serial states.now.table.entries }
+{
+    match slot_near(states, serial) {
+        Some(slot) => Some(slot),
+        None => look_up(states, serial),
+    }
+}
+
+fn slot_near(states: &States, serial: u64) -> Option<&Slot>
+    ensures { IfSome result (λ slot. Some slot.now ≡ slot_at serial states.now.table.entries) }
+{
+    let last = states.last.get();
+    match slot_there(&states.table, last, serial) {
+        Some(slot) => Some(slot),
+        None => slot_next(states, last.wrapping_add(1), serial),
+    }
+}
+
+// The slot at a place of the table, where this serial stands there. The next one is looked for there first.
+fn slot_next(states: &States, place: usize, serial: u64) -> Option<&Slot>
+    ensures { IfSome result (λ slot. Some slot.now ≡ slot_at serial states.now.table.entries) }
+{
+    match slot_there(&states.table, place, serial) {
+        Some(slot) => {
+            states.last.set(place);
+            Some(slot)
+        }
+        None => None,
+    }
+}
+
+fn slot_there(table: &Table, place: usize, serial: u64) -> Option<&Slot>
+    ensures { IfSome result (λ slot. Some slot.now ≡ slot_at serial table.now.entries) }
+{
+    match table.get_index(place) {
+        Some((there, slot)) if *there == serial => Some(slot),
+        _ => None,
+    }
+}
+
+// The slot that a serial has by its hash.
+fn look_up(states: &States, serial: u64) -> Option<&Slot>
+    ensures { option_map (λ slot. slot.now) result ≡ slot_at serial states.now.table.entries }
+{
+    match states.table.get_full(&serial) {
+        Some((place, _, slot)) => {
+            states.last.set(place);
+            Some(slot)
+        }
+        None => None,
+    }
+}
+
 /// Sees to it that a state may be put at a serial without memory. All states stay.
 pub fn reserve(states: &mut States, serial: u64) -> Result<(), NoMemory>
-    ensures kept { KeepsStates states.old.entries states.new.entries }
-    ensures ok { OnOk result (IsSome (slot_at serial states.new.entries)) }
+    ensures kept { KeepsStates states.old.table.entries states.new.table.entries }
+    ensures ok { OnOk result (IsSome (slot_at serial states.new.table.entries)) }
 {
-    if states.contains_key(&serial) {
-        return Ok(());
+    match slot_of(states, serial) {
+        Some(_) => Ok(()),
+        None => add(states, serial),
     }
-    states.insert(serial, Slot::Reserved)?;
+}
+
+// Reserves a serial that has no slot. It is looked for there next.
+fn add(states: &mut States, serial: u64) -> Result<(), NoMemory>
+    requires { slot_at serial states.old.table.entries ≡ None }
+    ensures kept { KeepsStates states.old.table.entries states.new.table.entries }
+    ensures ok { OnOk result (IsSome (slot_at serial states.new.table.entries)) }
+{
+    states.last.set(states.table.len());
+    states.table.insert(serial, Slot::Reserved)?;
     Ok(())
 }
 
 /// Puts a state at a serial.
 pub fn put(states: &mut States, serial: u64, slot: Slot)
-    requires { IsSome (slot_at serial states.old.entries) }
-    ensures { TurnsState states.old.entries states.new.entries serial (slot_state slot) }
+    requires { IsSome (slot_at serial states.old.table.entries) }
+    ensures { TurnsState states.old.table.entries states.new.table.entries serial (slot_state slot) }
 {
-    if let Some(place) = states.get_mut(&serial) {
+    if let Some(place) = states.table.get_mut(&serial) {
         *place = slot;
     }
+}
+
+/// The serials that have a slot, in their order.
+pub fn in_order(alloc: Global, states: &States) -> Result<Vec<u64>, NoMemory>
+    ensures { IfOk result (λ serials. AreInOrder states.now.table.entries serials.items) }
+{
+    let mut serials = serials_of(alloc, states)?;
+    serials.sort_unstable();
+    Ok(serials)
+}
+
+// They as they came.
+fn serials_of(alloc: Global, states: &States) -> Result<Vec<u64>, NoMemory>
+    ensures apart { OnOk result (IsDistinct nat_eq (keys_of states.now.table.entries)) }
+    ensures all { IfOk result (λ serials. serials.items ≡ keys_of states.now.table.entries) }
+{
+    let mut serials = Vec::with_capacity(alloc, states.table.len())?;
+    for serial in states.table.keys() {
+        serials.push(*serial)?;
+    }
+    Ok(serials)
 }

@@ -1,0 +1,5 @@
+use Rattle.owner_view.proofs.Ordered.{reserved_keeps}
+use Rattle.owner_view.proofs.states.add.Goals as goal
+
+pub returns-clause-kept : goal.returns-clause-kept
+returns-clause-kept c = reserved_keeps c.args.states.now.table.entries c.insert.new.self.entries c.args.serial c.requires c.in_ok-insert.ensures.updates.0

@@ -1,5 +1,5 @@
 -- The pieces of a line are taken one after the other.
-use Rattle.std.proofs.Common.{◌≡◌, ℕ, zero, suc, ◌+◌, ◌-◌, ◌<◌, List, [], ◌∷◌, ◌++◌, length, take, drop, get_or, true, false, None, Some, IfSome, sym, ◌∙◌, ap, subst, arith, append_assoc, length-append, take-append-drop}
+use Rattle.std.proofs.Common.{◌≡◌, ℕ, zero, suc, ◌+◌, ◌-◌, ◌<◌, List, [], ◌∷◌, ◌++◌, length, take, drop, get_or, true, false, None, Some, IfSome, refl, sym, ◌∙◌, ap, subst, arith, append_assoc, length-append, take-append-drop}
 use Rattle.std.proofs.lemmas.Grind.{common_steps}
 use Rattle.std.proofs.lemmas.List.{drop_more, length-take-le, take_at}
 use Rattle.std.specs.declared.option.Option.{Option}
@@ -116,3 +116,17 @@ over_limit a b left kept next ahead room limit so_far keeps is lt e =
         ∙ sym (append_assoc kept (take room ahead) (drop room ahead ++ rest)) ∙ ap (λ l. l ++ (drop room ahead ++ rest)) (sym is) in
         let len : length next ≡ limit = ap length is ∙ length-append kept (take room ahead) ∙ ap (λ k. length kept + k) (length-take-le room ahead (omega (arith, lt))) ∙ e in
         (omega (arith, lt, e, ap length taken, length-append kept (ahead ++ rest), length-append ahead rest), sym (ap (take limit) shape ∙ take_at next (drop room ahead ++ rest) limit len))
+
+keeps_self : (ahead : List ℕ) (left : Option (List ℕ)) → Keeps (prepend_known ahead left) (prepend_known ahead left)
+keeps_self ahead None = tt
+keeps_self ahead (Some rest) = refl
+
+-- a line that is ahead whole
+pub at_once : (left : Option (List ℕ)) (next before after : List ℕ) (most : ℕ) (piece : Piece) → TakesPiece piece 0 most before after [] next → piece.ended ≡ true
+    → let part : Part = record { text = next; count = piece.len; size = piece.len + 1; ended = true } in PartOf part most (prepend_known before left) (prepend_known after left)
+at_once left next before after most piece takes ended =
+    let whole : Option (List ℕ) = prepend_known before left in
+    let none : Taken whole whole [] 0 most = ([], from_ahead [] before before left refl, record { one = refl; text = refl; count = refl; within = omega arith }) in
+    let same : 0 + piece.len ≡ piece.len = omega arith in
+    subst (λ n. PartOf (record { text = next; count = n; size = n + 1; ended = true }) most whole (prepend_known after left)) same
+    (at_feed whole whole left [] next before after 0 most piece none (keeps_self before left) takes ended)

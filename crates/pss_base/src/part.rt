@@ -1,5 +1,5 @@
 // What is read of a source up to the next line feed.
-ghost use Rattle.std.specs.Prelude.{◌≡◌, ◌≤◌, ◌-◌, ◌==◌, ◌++◌, [], IfOk, OnOk, OnErr, IfErr, IsTrue, position, take};
+ghost use Rattle.std.specs.Prelude.{◌≡◌, ◌≤◌, ◌-◌, ◌==◌, ◌++◌, [], IfOk, IfSome, MatchOption, OnOk, OnErr, IfErr, IsTrue, Some, true, position, take};
 ghost use Rattle.std.specs.Io.KnownBytes.{prepend_known};
 ghost use Rattle.pss_base.specs.Causes.{HasCauseIf};
 ghost use Rattle.pss_base.specs.Reading.{holds_line};
@@ -8,6 +8,7 @@ ghost use Rattle.pss_base.specs.Parts.{PartOf, StopsAt, is_stopped_by_fault, IsP
 use crate::ahead::Ahead;
 use crate::keep::extend_within;
 use crate::{Bytes, NoMemory, Source};
+use std::simd::prelude::*;
 
 /// The greatest number of bytes of a line that is handed out, without its line feed.
 pub const LONGEST: u64 = 65536;
@@ -42,6 +43,41 @@ struct Piece {
     size: usize,
     // Whether there is one.
     ended: bool,
+}
+
+// So many bytes are looked at together: most lines are shorter.
+const NEAR: usize = 32;
+
+// Where the first line feed stands, if it is near.
+#[inline(always)]
+fn feed_near(bytes: &[u8]) -> Option<usize>
+    ensures { IfSome result (λ at. position (λ b. b == 10) bytes.now ≡ Some at) }
+{
+    if bytes.len() < NEAR {
+        return None;
+    }
+    let feeds = u8x32::from_slice(bytes)
+        .simd_eq(u8x32::splat(b'\n'))
+        .to_bitmask();
+    if feeds == 0 {
+        return None;
+    }
+    Some(feeds.trailing_zeros() as usize)
+}
+
+// Up to the first line feed, if it is near.
+#[inline(always)]
+fn piece_near(bytes: &[u8]) -> Option<Piece>
+    ensures { IfSome result (λ piece. IsPiece piece bytes.now × (piece.ended ≡ true)) }
+{
+    match feed_near(bytes) {
+        Some(len) => Some(Piece {
+            len,
+            size: len + 1,
+            ended: true,
+        }),
+        None => None,
+    }
 }
 
 // Where the first line feed stands.
@@ -96,9 +132,26 @@ fn take_piece(ahead: &mut Ahead, text: &mut Bytes, count: u64, most: u64) -> Res
     Ok(piece)
 }
 
-/// Reads to the next line feed or the end, and at most so many bytes, into the room of another text. It reads from the source
-/// only where neither a line feed nor a byte too many is ahead.
-pub fn read_part<C: Source>(
+// Takes a line whose end is near into the room of another text. None: its end is not, or there is no memory; nothing was taken.
+#[inline(always)]
+fn take_near(ahead: &mut Ahead, text: &mut Bytes, most: u64) -> Option<Piece>
+    ensures { MatchOption result (ahead.new ≡ ahead.old) (λ piece. TakesPiece piece 0 most ahead.old ahead.new [] text.new × (piece.ended ≡ true)) }
+{
+    let piece = piece_near(ahead.as_slice())?;
+    if piece.size as u64 > most {
+        return None;
+    }
+    text.clear();
+    let Ok(()) = keep(text, 0, &ahead.as_slice()[..piece.len]) else {
+        return None;
+    };
+    ahead.skip(piece.size);
+    Some(piece)
+}
+
+// Reads to the next line feed or the end, piece by piece.
+#[inline(never)]
+fn read_pieces<C: Source>(
     mut text: Bytes,
     ahead: &mut Ahead,
     source: &mut C,
@@ -137,5 +190,30 @@ pub fn read_part<C: Source>(
                 ended: true,
             });
         }
+    }
+}
+
+/// Reads to the next line feed or the end, and at most so many bytes, into the room of another text. It reads from the source
+/// only where neither a line feed nor a byte too many is ahead.
+pub fn read_part<C: Source>(
+    mut text: Bytes,
+    ahead: &mut Ahead,
+    source: &mut C,
+    most: u64,
+) -> Result<Part, Stop>
+    ensures ok { IfOk result (λ part. PartOf part most (prepend_known ahead.old (C.left source.old)) (prepend_known ahead.new (C.left source.new))) }
+    ensures err { IfErr result (λ stop. StopsAt stop most (prepend_known ahead.old (C.left source.old)) (prepend_known ahead.new (C.left source.new))) }
+    ensures empty { IsTrue (is_stopped_by_fault result) → ahead.new ≡ [] }
+    ensures unread { IsTrue (holds_line most ahead.old) → source.new ≡ source.old }
+    ensures cause { HasCauseIf (C.faults source.old) (C.faults source.new) (is_stopped_by_fault result) }
+{
+    match take_near(ahead, &mut text, most) {
+        Some(piece) => Ok(Part {
+            text,
+            count: piece.len as u64,
+            size: piece.len as u64 + 1,
+            ended: true,
+        }),
+        None => read_pieces(text, ahead, source, most),
     }
 }

@@ -76,6 +76,7 @@ fn sync_file<F: OpenFile>(file: &F) -> Result<(), Failed> {
 }
 
 // Writes bytes until none is left or the writer fails, and answers how many were written.
+#[inline(never)]
 fn write_front<O: Write>(out: &mut O, bytes: &[u8]) -> usize
     ensures bound { result ≤ length bytes.now }
     ensures written { Appends (O.contents out.old) (O.contents out.new) (take result bytes.now) }
@@ -93,6 +94,21 @@ fn write_front<O: Write>(out: &mut O, bytes: &[u8]) -> usize
         }
     }
     count
+}
+
+// The same. Most writers take all at once.
+#[inline(always)]
+fn write_bytes<O: Write>(out: &mut O, bytes: &[u8]) -> usize
+    ensures bound { result ≤ length bytes.now }
+    ensures written { Appends (O.contents out.old) (O.contents out.new) (take result bytes.now) }
+{
+    match out.write(bytes) {
+        Ok(count) if count == bytes.len() => count,
+        Ok(0) => 0,
+        Ok(count) => count + write_front(out, &bytes[count..]),
+        Err(error) if error.kind() == ErrorKind::Interrupted => write_front(out, bytes),
+        Err(_) => 0,
+    }
 }
 
 impl<F: FileExt + OpenFile + Drop, O: Write + Drop> Station for RealStation<F, O> {
@@ -178,6 +194,7 @@ impl<F: FileExt + OpenFile + Drop, O: Write + Drop> Station for RealStation<F, O
         Err(Failed)
     }
 
+    #[inline(always)]
     fn speak(&mut self, bytes: &[u8]) -> Result<(), Failed>
         ensures spoken { OnOk result (spoke bytes.now (record { spoken = None; disk = None }) ≡ record { spoken = None; disk = None }) }
         ensures cause { HasCause (speech_faults self.old) (speech_faults self.new) result }
@@ -187,7 +204,7 @@ impl<F: FileExt + OpenFile + Drop, O: Write + Drop> Station for RealStation<F, O
         ensures part { OnErr result ((k : ℕ) × Appends (O.contents (writer_of self.old)) (O.contents (writer_of self.new)) (take k bytes.now)) }
         ensures count { speech_faults self.new ≡ counted (is_err result) (speech_faults self.old) }
     {
-        let count = write_front(&mut self.out, bytes);
+        let count = write_bytes(&mut self.out, bytes);
         if count == bytes.len() && self.out.flush().is_ok() {
             return Ok(());
         }

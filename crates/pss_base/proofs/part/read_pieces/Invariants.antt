@@ -2,7 +2,7 @@ use Rattle.std.proofs.Common.{◌≡◌, ◌-◌, IsTrue}
 use Rattle.std.specs.Io.KnownBytes.{prepend_known}
 use Rattle.pss_base.specs.Reading.{holds_line}
 use Rattle.pss_base.proofs.Taking.{Taken}
-use Rattle.pss_base.proofs.part.read_part.Given as goal
+use Rattle.pss_base.proofs.part.read_pieces.Given as goal
 
 abbrev pub invariant-pieces : goal.invariant-pieces
 invariant-pieces g l = record {

@@ -1,5 +1,5 @@
 -- What is seen of a value by the words of a get, and what comes of it.
-use Rattle.std.proofs.Common.{◌≡◌, ◌≤◌, ◌<◌, ℕ, Bool, true, List, [], ◌∷◌, ◌++◌, ◌+◌, pos, Option, Some, None, IfSome, length, drop, refl, sym, ap, ◌∙◌, subst, arith, inl, inr}
+use Rattle.std.proofs.Common.{◌≡◌, ◌≤◌, ◌<◌, ℕ, Bool, true, List, [], ◌∷◌, ◌++◌, ◌+◌, ℤ, Option, Some, None, IfSome, length, drop, refl, sym, ap, ◌∙◌, subst, arith, inl, inr}
 use Rattle.std.specs.Prelude.{Result, Ok, Err, ok_or, position}
 use Rattle.std.specs.Str.{bytes_eq}
 use Rattle.std.specs.List.{slice_get}
@@ -8,7 +8,7 @@ use Rattle.std.specs.FinMap.{get}
 use Rattle.std.proofs.Math.Seq.{drop-append_seam}
 use Rattle.std.proofs.lemmas.Grind.{common_steps}
 use Rattle.std.proofs.lemmas.Option.{slice_get_cases}
-use Rattle.std.proofs.lemmas.Fmt.{decimal_digit}
+use Rattle.std.specs.Fmt.{signed_decimal}
 use Rattle.pss_base.specs.declared.pid.Pid.{Pid}
 use Rattle.pss_base.specs.declared.owner.OwnerNo.{OwnerNo}
 use Rattle.pss_base.specs.declared.session.SessionNo.{SessionNo}
@@ -64,10 +64,10 @@ named_there S h word i is =
 pub typed_text : (S : Schema) (p : Pid) (i : ℕ) (v : PlainValue) (m : PlainMember) → member_at S (home_of p) i ≡ Some m → printed m.type v ≡ value_text S (Ask (Get p i)) v
 typed_text S p i v m at = sym (ap (λ (o : Option PlainMember). given o [] (λ m. printed m.type v)) at)
 
-pub digit_text : (S : Schema) (p : Pid) (i : ℕ) (v : PlainValue) (digit : ℕ) → digit < 10 → v ≡ Int (pos digit) → IsOfMember S p i v → (48 + digit) ∷ [] ≡ value_text S (Ask (Get p i)) v
-digit_text S p i v digit low is m =
-    let of : Of m.member.type (Int (pos digit)) = subst (Of m.member.type) is m.of in
-    sym (decimal_digit digit low) ∙ sym (number_prints m.member.type (pos digit) of) ∙ ap (printed m.member.type) (sym is) ∙ typed_text S p i v m.member m.there
+pub number_text : (S : Schema) (p : Pid) (i : ℕ) (v : PlainValue) (z : ℤ) → v ≡ Int z → IsOfMember S p i v → signed_decimal z ≡ value_text S (Ask (Get p i)) v
+number_text S p i v z is m =
+    let of : Of m.member.type (Int z) = subst (Of m.member.type) is m.of in
+    sym (number_prints m.member.type z of) ∙ ap (printed m.member.type) (sym is) ∙ typed_text S p i v m.member m.there
 
 -- ---- the object of an entry
 

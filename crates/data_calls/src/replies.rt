@@ -1,5 +1,5 @@
 // Replies to answers.
-ghost use Rattle.std.specs.Prelude.{◌≡◌, ◌<◌, ◌++◌, pos, IfOk, IfSome, OnOk};
+ghost use Rattle.std.specs.Prelude.{◌≡◌, ◌++◌, IfOk, IfSome, OnOk};
 ghost use Rattle.std.specs.Option.{option_map};
 ghost use Rattle.type_layout.specs.Members.{plain_member};
 ghost use Rattle.type_layout.specs.Types.{Int};
@@ -17,7 +17,7 @@ use pss_base::{Bytes, NoMemory, Pid};
 use pss_catalog::{home_at, key_at};
 use pss_machine::{Answer, Op, Reply};
 use type_layout::{HomeNo, KeyNo, Member, Value};
-use value_text::{append_value, print_value};
+use value_text::{append_number, append_value, print_value};
 
 // The member of an object with this number.
 #[inline(always)]
@@ -109,21 +109,18 @@ fn append_typed(
     }
 }
 
-// The digit that a value is. None: it is no number of one digit.
+// The number that a value is. None: it is none.
 #[inline(always)]
-fn digit_of(value: &Value) -> Option<u8>
-    ensures { IfSome result (λ digit. (digit < 10) × (plain_value value.now ≡ Int (pos digit))) }
+fn number_of(value: &Value) -> Option<i128>
+    ensures { IfSome result (λ number. plain_value value.now ≡ Int number) }
 {
     match value {
-        Value::Int(number) => match *number {
-            0..=9 => Some(*number as u8),
-            _ => None,
-        },
+        Value::Int(number) => Some(*number),
         _ => None,
     }
 }
 
-/// Adds the text of a member's value to a line. A number of one digit, as flags and small counts are, is that digit by each type.
+/// Adds the text of a member's value to a line. A number has one text by each type.
 #[inline(always)]
 pub fn append_text(
     line: &mut Bytes,
@@ -135,8 +132,8 @@ pub fn append_text(
     requires { IsOfMember parts.now.schema pid member (plain_value value.now) }
     ensures { OnOk result (line.new ≡ line.old ++ text_in parts.now.schema (Ask (Get pid member)) (plain_value value.now)) }
 {
-    match digit_of(value) {
-        Some(digit) => line.push(b'0' + digit),
+    match number_of(value) {
+        Some(number) => append_number(line, number),
         None => append_typed(line, parts, pid, member, value),
     }
 }

@@ -1,5 +1,5 @@
 // The records of a journal, one after another.
-ghost use Rattle.std.specs.Prelude.{ℕ, ◌≡◌, ◌+◌, ◌-◌, ◌<◌, ◌≤◌, ◌++◌, [], ◌∷◌, length, Err, IfOk, IfSome, IsNone, OnErr, OnOk, Some};
+ghost use Rattle.std.specs.Prelude.{ℕ, ◌≡◌, ◌≢◌, ◌+◌, ◌-◌, ◌<◌, ◌≤◌, ◌++◌, [], ◌∷◌, length, Err, IfOk, IfSome, IsNone, OnErr, OnOk, Some};
 ghost use Rattle.std.specs.Option.{unwrap_or};
 ghost use Rattle.pss_base.specs.Causes.{HasCause, HasCauseIf};
 ghost use Rattle.pss_disk.specs.Octets.{octets_in};
@@ -117,7 +117,7 @@ fn body_at<W: Station>(
     }
 }
 
-// Adds the body of the record at a gate, and answers the gate behind it.
+// Adds a body behind a gate, and answers the gate behind its record.
 fn add_body(bodies: &mut Bodies, body: Bytes, gate: u32) -> Result<Option<u32>, ReplayFault>
     requires fits { Fits gate (length body) }
     ensures next { IfOk result (λ next. next ≡ Some (behind gate (length body))) }
@@ -128,6 +128,31 @@ fn add_body(bodies: &mut Bodies, body: Bytes, gate: u32) -> Result<Option<u32>, 
     match bodies.push(body) {
         Ok(()) => Ok(Some(next)),
         Err(_) => Err(ReplayFault::NoMemory),
+    }
+}
+
+// Reads and adds the body of the record at a gate, and answers the gate behind it.
+fn take_body<W: Station>(
+    alloc: Global,
+    w: &mut W,
+    window: &mut Window,
+    gate: u32,
+    len: u32,
+    bodies: &mut Bodies,
+) -> Result<Option<u32>, ReplayFault>
+    requires fits { Fits gate len }
+    requires piece { IsPiece (W.content w.old) window.old }
+    ensures next { IfOk result (λ next. next ≡ Some (behind gate len)) }
+    ensures added { OnOk result (IfSome (W.content w.old) (λ c. bodies.new ≡ bodies.old ++ octets_in (record { at = gate + 13; count = len }) c ∷ [])) }
+    ensures sound { (at : ℕ) → result ≢ Err (Damaged at) }
+    ensures piece { OnOk result (IsPiece (W.content w.new) window.new) }
+    ensures reads { OnlyReads W.now W.content W.history W.speak_faults w.old w.new }
+    ensures cause { HasCauseIf (W.disk_faults w.old) (W.disk_faults w.new) (is_disk_fault result) }
+{
+    match body_at(alloc, w, window, gate as u64 + BODY as u64, len) {
+        Ok(body) => add_body(bodies, body, gate),
+        Err(StoreStop::DiskFault) => Err(ReplayFault::DiskFault),
+        Err(StoreStop::NoMemory) => Err(ReplayFault::NoMemory),
     }
 }
 
@@ -161,11 +186,7 @@ fn record_at<W: Station>(
     if header.is_wrong(gate) {
         return Err(ReplayFault::Damaged(gate as u64));
     }
-    match body_at(alloc, w, window, gate as u64 + BODY as u64, header.len) {
-        Ok(body) => add_body(bodies, body, gate),
-        Err(StoreStop::DiskFault) => Err(ReplayFault::DiskFault),
-        Err(StoreStop::NoMemory) => Err(ReplayFault::NoMemory),
-    }
+    take_body(alloc, w, window, gate, header.len, bodies)
 }
 
 // Adds the bodies of all records, and answers the gate that ends the journal.

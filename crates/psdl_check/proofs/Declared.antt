@@ -9,7 +9,7 @@ use Rattle.psdl_directory.specs.Lookup.{at}
 use Rattle.psdl_directory.specs.Parts.{factories}
 use Rattle.psdl_lineage.specs.Descent.{Listed, ancestry, listed_factory}
 use Rattle.psdl_lineage.specs.Graph.{graph_of}
-use Rattle.psdl_lineage.specs.Sources.{contributors_in}
+use Rattle.psdl_lineage.specs.Sources.{sources_in}
 use Rattle.psdl_lineage.proofs.Inherited.{inherited}
 use Rattle.psdl_members.specs.declared.list_kind.ListKind.TheVariants as kinds
 use Rattle.psdl_members.specs.inner.Listing.{own_lists}
@@ -57,9 +57,9 @@ flat_same f g same (n ∷ ns) = ap (λ l. l ++ flat_map f ns) (same n) ∙ ap (�
 
 -- those that a home has, by the bodies that have some
 pub held_are : (all : List Declaration) (lists : List (List DeclaredFactory)) (graph : List (List ℕ)) (own : List Bool) (home : ℕ) (bodies : List ℕ) (held : List DeclaredFactory) → AreDeclared all lists own → graph ≡ graph_of all
-    → bodies ≡ contributors_in graph own home → held ≡ flat_map (λ n. get_or lists n []) bodies → held ≡ map declared_as (flat_map (λ a. map listed_factory (factories (at all a).what)) (ancestry all home))
+    → bodies ≡ sources_in graph own home → held ≡ flat_map (λ n. get_or lists n []) bodies → held ≡ map declared_as (flat_map (λ a. map listed_factory (factories (at all a).what)) (ancestry all home))
 held_are all lists graph own home bodies held are g b h =
     let each : ℕ → List DeclaredFactory = λ n. get_or lists n [] in
-    h ∙ ap (flat_map each) (b ∙ ap (λ k. contributors_in k own home) g) ∙ sym (inherited each all own home are.flagged)
+    h ∙ ap (flat_map each) (b ∙ ap (λ k. sources_in k own home) g) ∙ sym (inherited each all own home are.flagged)
     ∙ flat_same each (λ n. map declared_as (map listed_factory (factories (at all n).what))) (λ n. are.each n ∙ ap (map declared_as) (factories_in (at all n).what)) (ancestry all home)
     ∙ map_flat (λ n. map listed_factory (factories (at all n).what)) (ancestry all home)

@@ -31,7 +31,7 @@ use Rattle.psdl_rules.specs.Faults.MemberClash.{member_clash}
 use Rattle.psdl_rules.specs.Faults.KeyMember.{key_members}
 use Rattle.psdl_rules.specs.Faults.KeyType.{key_types}
 use Rattle.psdl_rules.specs.Faults.FactoryMember.{factory_members}
-use Rattle.psdl_rules.specs.Words.{has_whole_header}
+use Rattle.psdl_rules.specs.Words.{has_settled_header}
 use Rattle.psdl_members.specs.Clashes.{has_clash}
 use Rattle.psdl_lineage.specs.Descent.{members}
 use Rattle.psdl_standings.specs.Naming.{of_names, of_strings, of_use}
@@ -117,15 +117,15 @@ module _ (all : List Declaration) (done : List Standing) (n : ℕ) (path : Path)
   header_means (IsConcreteHome home) e = three_mean (IsConcreteHome home) e
 
 -- where no name has a fault, each name of the header means something
-whole_header : (all : List Declaration) (n : ℕ) → of_names all (standings all) n (at all n) ≡ [] → has_whole_header all n ≡ true
+settled_header : (all : List Declaration) (n : ℕ) → of_names all (standings all) n (at all n) ≡ [] → has_settled_header all n ≡ true
 unfolding meaning means
-whole_header all n e = header_means all (standings all) n (at all n).path (at all n).what e
+settled_header all n e = header_means all (standings all) n (at all n).path (at all n).what e
 
--- what is asked of a whole header holds without it
-of_whole : (whole : Bool) (kind : CheckKind) (place : Place) (x y : Bool) → whole ≡ true → fault_if (x && whole && y) kind place ≡ [] → fault_if (x && y) kind place ≡ []
-of_whole true kind place true y w e = e
-of_whole true kind place false y w e = e
-of_whole false kind place x y w e = absurd (cc)
+-- what is asked of a settled header holds without it
+of_settled : (settled : Bool) (kind : CheckKind) (place : Place) (x y : Bool) → settled ≡ true → fault_if (x && settled && y) kind place ≡ [] → fault_if (x && y) kind place ≡ []
+of_settled true kind place true y w e = e
+of_settled true kind place false y w e = e
+of_settled false kind place x y w e = absurd (cc)
 
 -- ---- all conditions at one declaration
 
@@ -211,7 +211,7 @@ faultless_at all e n lt =
     let kin = both_empty _ _ provisions.0 in
     let typed = both_empty _ _ kin.0 in
     let names : of_names all done n (at all n) ≡ [] = names_alike_at all done n (at all n) ∙ at_one all (wrong_names all done) texts.0 n lt in
-    let whole = whole_header all n names in
+    let settled = settled_header all n names in
     let listed = both_empty _ _ (at_one all (listed_wrong all done) clashes.1 n lt) in
     let keyed = both_empty _ _ listed.0 in
     let d : Declaration = at all n in
@@ -223,10 +223,10 @@ faultless_at all e n lt =
       no_values = values_alike_at all done n (at all n) ∙ at_one all (wrong_values all done) values.1 n lt;
       no_cycle = flat_map-append (of_itself all n) (above d.what) (in_struct n d.what) ∙ ap (λ xs. xs ++ flat_map (of_itself all n) (in_struct n d.what)) (at_one all (cycle all) cycles.0 n lt) ∙ at_one all (of_selves all) cycles.1 n lt;
       no_incomplete = at_one all (incomplete all) circles.0 n lt;
-      no_long_type = of_whole (has_whole_header all n) Limit d.place (is_storage_type d.what && not (is_forward d.what)) _ whole (at_one all (long_type all done) long.0 n lt);
+      no_long_type = of_settled (has_settled_header all n) Limit d.place (is_storage_type d.what && not (is_forward d.what)) _ settled (at_one all (long_type all done) long.0 n lt);
       no_deep_type = at_one all (deep_type all done) long.1 n lt;
       no_many_homes = at_one all (many_homes all) many.1 n lt;
-      no_clash = of_whole (has_whole_header all n) MemberClash d.place (not (is_forward d.what)) _ whole (at_one all (member_clash all) clashes.0 n lt);
+      no_clash = of_settled (has_settled_header all n) MemberClash d.place (not (is_forward d.what)) _ settled (at_one all (member_clash all) clashes.0 n lt);
       no_key_members = keyed.0;
       no_key_types = keyed.1;
       no_factory_members = listed.1;

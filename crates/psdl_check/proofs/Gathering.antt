@@ -12,7 +12,7 @@ use Rattle.psdl_directory.specs.Lookup.{at}
 use Rattle.psdl_directory.specs.Parts.{keys}
 use Rattle.psdl_lineage.specs.Descent.{Listed, same_listed, without_known, without_repeats, ancestry, listed_key, home_keys}
 use Rattle.psdl_lineage.specs.Graph.{graph_of}
-use Rattle.psdl_lineage.specs.Sources.{is_own, contributors_in}
+use Rattle.psdl_lineage.specs.Sources.{is_own, sources_in}
 use Rattle.psdl_lineage.proofs.Inherited.{inherited}
 use Rattle.psdl_lineage.proofs.Listing.{map_more, take_more}
 use Rattle.psdl_lineage.proofs.Repeats.{turned}
@@ -165,11 +165,11 @@ module _ {Z : Type 0} (all : List Declaration) (ids : KeyIds) (rows : List (Vec 
       (λ lt. are.views n lt ∙ keys_in (at all n).what)
 
   -- the keys of a home
-  pub home_keys_are : (own : List Bool) (graph : List (List ℕ)) (home : ℕ) (bodies : List ℕ) (views : List Listed) → ((n : ℕ) → is_own own n ≡ false → row_in rows n ≡ []) → graph ≡ graph_of all → bodies ≡ contributors_in graph own home
+  pub home_keys_are : (own : List Bool) (graph : List (List ℕ)) (home : ℕ) (bodies : List ℕ) (views : List Listed) → ((n : ℕ) → is_own own n ≡ false → row_in rows n ≡ []) → graph ≡ graph_of all → bodies ≡ sources_in graph own home
       → views ≡ without_repeats same_listed (flat_map (λ n. own_views (row_in rows n)) bodies) → views ≡ home_keys all home
   home_keys_are own graph home bodies views flagged g b is =
       let each : ℕ → List Listed = λ n. own_views (row_in rows n) in
-      is ∙ ap (λ l. without_repeats same_listed (flat_map each l)) (b ∙ ap (λ k. contributors_in k own home) g)
+      is ∙ ap (λ l. without_repeats same_listed (flat_map each l)) (b ∙ ap (λ k. sources_in k own home) g)
       ∙ ap (without_repeats same_listed) (sym (inherited each all own home (λ n off. ap own_views (flagged n off))) ∙ flat_same each (λ n. map listed_key (keys (at all n).what)) row_is (ancestry all home))
 
 some_there : {A : Type 0} (xs : List A) → nat_lt 0 (length xs) ≡ false → xs ≡ []

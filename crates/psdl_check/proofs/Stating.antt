@@ -16,7 +16,7 @@ use Rattle.psdl_directory.specs.Lookup.{at}
 use Rattle.psdl_directory.specs.Parts.{states, state_names}
 use Rattle.psdl_lineage.specs.Descent.{StateMember, members_in, members, ancestry}
 use Rattle.psdl_lineage.specs.Graph.{graph_of}
-use Rattle.psdl_lineage.specs.Sources.{contributors_in}
+use Rattle.psdl_lineage.specs.Sources.{sources_in}
 use Rattle.psdl_lineage.proofs.Inherited.{inherited}
 use Rattle.psdl_lineage.proofs.Listing.{take_more}
 use Rattle.psdl_rules.specs.Layouts.{member_type, layout_member, layout}
@@ -103,11 +103,11 @@ module _ (all : List Declaration) (homes : ℕ → List HomeNo) where
   nothing_from (x ∷ xs) f e = absurd (omega (arith, e))
 
   -- by the bodies that have states
-  pub layout_is : (own : List Bool) (graph : List (List ℕ)) (n : ℕ) (bodies : List ℕ) (ms : List StateMember) (os : List (Option PlainType)) → AreStated all own → graph ≡ graph_of all → bodies ≡ contributors_in graph own n
+  pub layout_is : (own : List Bool) (graph : List (List ℕ)) (n : ℕ) (bodies : List ℕ) (ms : List StateMember) (os : List (Option PlainType)) → AreStated all own → graph ≡ graph_of all → bodies ≡ sources_in graph own n
       → ms ≡ members all n → os ≡ flat_map (own_types all homes) bodies → all_there (laid ms os) ≡ layout all (standings all) homes n
   layout_is own graph n bodies ms os stated g b is of =
       let types : os ≡ map (member_type all (standings all) homes) ms =
-      of ∙ ap (flat_map (own_types all homes)) (b ∙ ap (λ k. contributors_in k own n) g)
+      of ∙ ap (flat_map (own_types all homes)) (b ∙ ap (λ k. sources_in k own n) g)
       ∙ sym (inherited (own_types all homes) all own n (λ m off. nothing_from (state_types (at all m).what) (body_type all (standings all) homes m) (stated m off)))
       ∙ sym (of_bodies (ancestry all n)) ∙ ap (map (member_type all (standings all) homes)) (sym is) in
       ap (λ l. all_there (laid ms l)) types ∙ ap all_there (laid_as ms ∙ ap (map (layout_member all (standings all) homes)) is)

@@ -3,7 +3,7 @@ use Rattle.std.proofs.Common.{◌≡◌, ℕ, zero, suc, List, [], ◌∷◌, Bo
 use Rattle.psdl_lineage.specs.declared.walk.Walk.{Walk}
 use Rattle.psdl_lineage.specs.inner.Walking.{one_if, is_marked, count, IsWalk}
 use Rattle.psdl_lineage.specs.inner.Walks.{IsIdle}
-use Rattle.psdl_lineage.specs.inner.Contributing.{AreJoined}
+use Rattle.psdl_lineage.specs.inner.KeptSources.{AreJoined}
 
 abbrev cleared : List Bool → List Bool
 cleared marks = map (λ _. false) marks

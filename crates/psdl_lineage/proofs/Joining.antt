@@ -4,7 +4,7 @@ use Rattle.std.proofs.Math.ListN.{set}
 use Rattle.std.proofs.lemmas.Bool.{eqb-true, eq-eqb, cases_Bool, or_right}
 use Rattle.psdl_lineage.specs.Descent.{has}
 use Rattle.psdl_lineage.specs.inner.Walking.{is_marked}
-use Rattle.psdl_lineage.specs.inner.Contributing.{AreJoined}
+use Rattle.psdl_lineage.specs.inner.KeptSources.{AreJoined}
 use Rattle.psdl_lineage.proofs.Listing.{take_more}
 use Rattle.psdl_lineage.proofs.Counting.{marked_here, marked_other}
 use Rattle.psdl_lineage.proofs.Repeats.{once, fresh, fresh_old, fresh_new, once-append, once_absorbs, has-append, or_false}

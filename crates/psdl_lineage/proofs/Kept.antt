@@ -13,8 +13,8 @@ use Rattle.psdl_lineage.proofs.Upwards.{lines_within}
 use Rattle.std.proofs.lemmas.List.Elements.{filter-append}
 use Rattle.psdl_lineage.specs.Descent.{has}
 use Rattle.psdl_lineage.specs.Graph.{parents_in, ancestry_in, IsGraph}
-use Rattle.psdl_lineage.specs.Sources.{is_own, contributors_in}
-use Rattle.psdl_lineage.specs.inner.Contributing.{list_at, lists_of, counted, AreKept, NamesKept}
+use Rattle.psdl_lineage.specs.Sources.{is_own, sources_in}
+use Rattle.psdl_lineage.specs.inner.KeptSources.{list_at, lists_of, counted, AreKept, NamesKept}
 use Rattle.psdl_lineage.proofs.Repeats.{once, fresh, fresh_old, fresh_new, once_absorbs, has_later, has_kept}
 use Rattle.psdl_lineage.proofs.Low.{AreLow, joined_of}
 
@@ -103,9 +103,9 @@ still_low graph own lists n r are off m p here named =
 
 -- ---- what is joined from lists that are kept
 
-pub contributors_joined : (graph : List (List ℕ)) (own : List Bool) (lists : List (Option (List ℕ))) (n : ℕ) → AreKept graph own lists → is_some (list_at lists n) ≡ false → n < length graph → NamesKept graph lists n
-    → contributors_in graph own n ≡ once (flat_map (contributors_in graph own) (parents_in graph n) ++ filter (is_own own) (n ∷ []))
-contributors_joined graph own lists n are off lt named =
+pub sources_joined : (graph : List (List ℕ)) (own : List Bool) (lists : List (Option (List ℕ))) (n : ℕ) → AreKept graph own lists → is_some (list_at lists n) ≡ false → n < length graph → NamesKept graph lists n
+    → sources_in graph own n ≡ once (flat_map (sources_in graph own) (parents_in graph n) ++ filter (is_own own) (n ∷ []))
+sources_joined graph own lists n are off lt named =
     let test : ℕ → Bool = is_own own in
     let all : List ℕ = flat_map (ancestry_in graph) (parents_in graph n) in
     let rank : ℕ → ℕ = with_rank are.rank n (length graph) in
@@ -146,8 +146,8 @@ ancestry_below graph n m inside lt h =
           (lines_within (length graph) graph (n ∷ []) all n (λ q p there named off. has_range 0 (length graph) p (omega arith) (omega (arith, inside q p named))) (has_range 0 (length graph) n (omega arith) (omega arith)) m h),
     )
 
-pub contributors_below : (graph : List (List ℕ)) (own : List Bool) (n : ℕ) → IsGraph graph → n < length graph → (m : ℕ) → has (contributors_in graph own n) m ≡ true → m < length graph
-contributors_below graph own n inside lt m h = ancestry_below graph n m inside lt (has_kept (is_own own) (ancestry_in graph n) m h)
+pub sources_below : (graph : List (List ℕ)) (own : List Bool) (n : ℕ) → IsGraph graph → n < length graph → (m : ℕ) → has (sources_in graph own n) m ≡ true → m < length graph
+sources_below graph own n inside lt m h = ancestry_below graph n m inside lt (has_kept (is_own own) (ancestry_in graph n) m h)
 
 -- ---- parent by parent
 
@@ -171,14 +171,14 @@ named_more lists ps i list lt e so_far p h =
     (cases_Bool (has (take i ps) p))
 
 pub all_joined : (graph : List (List ℕ)) (own : List Bool) (lists : List (Option (List ℕ))) (n i : ℕ) (joined : List ℕ) → AreKept graph own lists → is_some (list_at lists n) ≡ false → n < length graph
-    → length (parents_in graph n) ≤ i → joined ≡ once (flat_map (contributors_in graph own) (take i (parents_in graph n)))
+    → length (parents_in graph n) ≤ i → joined ≡ once (flat_map (sources_in graph own) (take i (parents_in graph n)))
     → ((p : ℕ) → has (take i (parents_in graph n)) p ≡ true → is_some (list_at lists p) ≡ true)
-    → contributors_in graph own n ≡ once (joined ++ filter (is_own own) (n ∷ []))
+    → sources_in graph own n ≡ once (joined ++ filter (is_own own) (n ∷ []))
 all_joined graph own lists n i joined are off lt past e named =
     let ps : List ℕ = parents_in graph n in
     let all : take i ps ≡ ps = take_all i ps past in
-    let each : ℕ → List ℕ = contributors_in graph own in
-    contributors_joined graph own lists n are off lt (λ p h. named p (ap (λ l. has l p) all ∙ h))
+    let each : ℕ → List ℕ = sources_in graph own in
+    sources_joined graph own lists n are off lt (λ p h. named p (ap (λ l. has l p) all ∙ h))
     ∙ sym (ap (λ l. once (l ++ filter (is_own own) (n ∷ []))) (e ∙ ap (λ l. once (flat_map each l)) all) ∙ once_absorbs [] (flat_map each ps) (filter (is_own own) (n ∷ [])))
 
 pub without_own : (own : List Bool) (n : ℕ) (joined result : List ℕ) → is_own own n ≡ false → once joined ≡ joined → result ≡ once (joined ++ filter (is_own own) (n ∷ [])) → joined ≡ result
@@ -215,7 +215,7 @@ stays : (lists : List (Option (List ℕ))) (n m : ℕ) (o : Option (List ℕ)) �
 stays lists n m o off on = ap (λ x. is_some x) (list_other lists n m o (another lists n m off on)) ∙ on
 
 pub kept_more : (graph : List (List ℕ)) (own : List Bool) (lists : List (Option (List ℕ))) (n : ℕ) (list : List ℕ) → (are : AreKept graph own lists) → is_some (list_at lists n) ≡ false → n < length graph
-    → list ≡ contributors_in graph own n → NamesKept graph lists n → AreKept graph own (set lists n (Some list))
+    → list ≡ sources_in graph own n → NamesKept graph lists n → AreKept graph own (set lists n (Some list))
 kept_more graph own lists n list are off lt e named =
     let all : List (Option (List ℕ)) = set lists n (Some list) in
     let inside : n < length lists = omega (arith, lt, are.sized) in
@@ -232,7 +232,7 @@ kept_more graph own lists n list are off lt e named =
           let same : m ≡ n = eqb-true m n t in
           let some : Some list ≡ Some xs = sym (ap (λ k. list_at all k) same ∙ list_here lists n (Some list) inside) ∙ h in
           let equal : xs ≡ list = cc in
-          equal ∙ e ∙ ap (λ k. contributors_in graph own k) (sym same))
+          equal ∙ e ∙ ap (λ k. sources_in graph own k) (sym same))
           (λ f. are.list m xs (sym (list_other lists n m (Some list) f) ∙ h))
           (cases_Bool (m == n));
       low = λ m p on there.
@@ -254,7 +254,7 @@ kept_more graph own lists n list are off lt e named =
 
 -- what is kept of the next, where all that it names is kept
 pub one_more : {Z : Type 0} (graph : List (List ℕ)) (own : List Bool) (lists : List (Option (List ℕ))) (n : ℕ) (found : Option (Vec ℕ Z)) (kept : Vec ℕ Z) → AreKept graph own lists → is_some (list_at lists n) ≡ false → n < length graph
-    → IfSome found (λ v. v.items ≡ contributors_in graph own n) → OnSome found (NamesKept graph lists n) → found ≡ Some kept → AreKept graph own (set lists n (Some kept.items))
+    → IfSome found (λ v. v.items ≡ sources_in graph own n) → OnSome found (NamesKept graph lists n) → found ≡ Some kept → AreKept graph own (set lists n (Some kept.items))
 one_more graph own lists n None kept are off lt list named same = absurd (cc (same))
 one_more {Z} graph own lists n (Some w) kept are off lt list named same =
     let equal : w ≡ kept = cc in

@@ -6,7 +6,7 @@ use Rattle.std.proofs.lemmas.Grind.{common_steps}
 use Rattle.std.proofs.lemmas.List.{get_or_past}
 use Rattle.psdl_lineage.specs.Descent.{has}
 use Rattle.psdl_lineage.specs.Graph.{lines_in, ancestry_in, conforms_in, IsGraph}
-use Rattle.psdl_lineage.specs.Sources.{is_own, contributors_in}
+use Rattle.psdl_lineage.specs.Sources.{is_own, sources_in}
 use Rattle.psdl_lineage.proofs.Kept.{ancestry_below}
 use Rattle.psdl_lineage.proofs.Repeats.{once, or_false}
 
@@ -27,7 +27,7 @@ pub to_past : (graph : List (List ℕ)) (n m : ℕ) → IsGraph graph → n < le
 to_past graph n m inside lt past =
     ⊎_elim (λ t. absurd (omega (arith, ancestry_below graph n m inside lt t, past))) (λ f. sym f) (cases_Bool (conforms_in graph n m))
 
-pub source_past : (graph : List (List ℕ)) (own : List Bool) (n : ℕ) → length graph ≤ n → filter (is_own own) (n ∷ []) ≡ contributors_in graph own n
+pub source_past : (graph : List (List ℕ)) (own : List Bool) (n : ℕ) → length graph ≤ n → filter (is_own own) (n ∷ []) ≡ sources_in graph own n
 source_past graph own n past = ap (λ l. filter (is_own own) l) (sym (past_alone graph n past))
 
 pub ruleset by_past = (common_steps, from_past, to_past, source_past)

@@ -12,5 +12,5 @@ abbrev pub is_own : List Bool → ℕ → Bool
 is_own own n = get_or own n false
 
 -- those of what a definition descends from that have something of their own
-abbrev pub contributors_in : List (List ℕ) → List Bool → ℕ → List ℕ
-contributors_in graph own n = filter (is_own own) (ancestry_in graph n)
+abbrev pub sources_in : List (List ℕ) → List Bool → ℕ → List ℕ
+sources_in graph own n = filter (is_own own) (ancestry_in graph n)

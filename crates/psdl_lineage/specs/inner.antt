@@ -5,8 +5,8 @@ pub mod Walking
 pub mod Walks
 pub mod Lines
 pub mod Marking
-pub mod Contributing
-pub mod Contributed
+pub mod KeptSources
+pub mod SourceTables
 pub mod Inherited
 pub mod Families
 pub mod Providing

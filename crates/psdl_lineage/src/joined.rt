@@ -2,7 +2,7 @@
 ghost use Rattle.std.specs.Prelude.{◌≡◌, ◌<◌, ◌++◌, ◌∷◌, ◌==◌, ℕ, [], true, length, filter, IfOk, OnOk};
 ghost use Rattle.psdl_lineage.specs.Descent.{has, without_repeats};
 ghost use Rattle.psdl_lineage.specs.Sources.{is_own};
-ghost use Rattle.psdl_lineage.specs.inner.Contributing.{AreJoined};
+ghost use Rattle.psdl_lineage.specs.inner.KeptSources.{AreJoined};
 
 use crate::marks::Marks;
 use pss_base::NoMemory;

@@ -3,7 +3,6 @@
 
 mod ancestry;
 mod conformity;
-mod contributors;
 mod descendants;
 mod families;
 mod graph;
@@ -15,6 +14,7 @@ mod marks;
 mod parents;
 mod providers;
 mod sorts;
+mod source_lists;
 mod sources;
 mod walk;
 

@@ -2,11 +2,11 @@
 ghost use Rattle.std.specs.Prelude.{◌≡◌, ◌∷◌, [], filter, IfOk};
 ghost use Rattle.psdl_lineage.specs.Sources.{is_own};
 
-use crate::contributors::Contributors;
 use crate::graph::Graph;
 use crate::joined;
 use crate::lineage::Lineage;
 use crate::marks::Marks;
+use crate::source_lists::SourceLists;
 use psdl_directory::DeclarationNo;
 use pss_base::NoMemory;
 use std::alloc::Global;
@@ -18,7 +18,7 @@ pub struct Sources<'l> {
     graph: &'l Graph,
     own: Vec<bool>,
     marks: Marks,
-    lists: Contributors,
+    lists: SourceLists,
 }
 
 impl<'l> Model for Sources<'l> {
@@ -47,7 +47,7 @@ impl<'l> Sources<'l> {
     ghost use Rattle.std.specs.Prelude.{◌≡◌, IfOk};
     ghost use Rattle.psdl_lineage.specs.Graph.{graph_of};
     ghost use Rattle.psdl_lineage.specs.Lineages.{text_of};
-    ghost use Rattle.psdl_lineage.specs.Sources.{contributors_in};
+    ghost use Rattle.psdl_lineage.specs.Sources.{sources_in};
 
     /// By which declarations have something of their own, in order.
     pub fn new(alloc: Global, lineage: &'l Lineage, own: Vec<bool>) -> Result<Sources<'l>, NoMemory>
@@ -56,7 +56,7 @@ impl<'l> Sources<'l> {
     {
         let graph = lineage.graph();
         let mut marks = Marks::new(alloc, graph.len())?;
-        let lists = Contributors::new(alloc, graph, &mut marks, &own)?;
+        let lists = SourceLists::new(alloc, graph, &mut marks, &own)?;
         Ok(Sources {
             graph,
             own,
@@ -69,7 +69,7 @@ impl<'l> Sources<'l> {
     #[tactic(auto, using(crate::proofs::Past::by_past))]
     pub fn of(&mut self, alloc: Global, number: DeclarationNo) -> Result<Vec<usize>, NoMemory>
         ensures same { self.new ≡ self.old }
-        ensures sources { IfOk result (λ v. v.items ≡ contributors_in self.old.graph self.old.own number) }
+        ensures sources { IfOk result (λ v. v.items ≡ sources_in self.old.graph self.old.own number) }
     {
         let index = number.index();
         if index >= self.graph.len() {

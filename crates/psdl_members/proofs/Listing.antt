@@ -13,7 +13,7 @@ use Rattle.psdl_directory.specs.Parts.{abstract_key, abstract_factory, concrete_
 use Rattle.psdl_directory.specs.Lookup.{at, nothing, lower}
 use Rattle.psdl_lineage.specs.Descent.{ancestry, Listed, same_list, same_listed, without_repeats, listed_key, listed_factory}
 use Rattle.psdl_lineage.specs.Graph.{graph_of, ancestry_in}
-use Rattle.psdl_lineage.specs.Sources.{is_own, contributors_in}
+use Rattle.psdl_lineage.specs.Sources.{is_own, sources_in}
 use Rattle.psdl_lineage.proofs.Inherited.{inherited}
 use Rattle.psdl_lineage.proofs.Texts.{ancestry_is}
 use Rattle.psdl_members.specs.declared.entry.Entry.{Entry}
@@ -129,9 +129,9 @@ home_clash kinds.Factory all n =
 
 -- from those sources alone that have some
 pub clash_by_sources : (kind : ListKind) (all : List Declaration) (r : Rows) (graph : List (List ℕ)) (own : List Bool) (n : ℕ) (sources : List ℕ) → ClashAlike kind all r → graph ≡ graph_of all → ((m : ℕ) → is_own own m ≡ false → row_of r m ≡ [])
-    → sources ≡ contributors_in graph own n → some_clash entries_clash (flat_map (row_of r) sources) ≡ not (are_distinct lists_clash (home_lists kind all n))
+    → sources ≡ sources_in graph own n → some_clash entries_clash (flat_map (row_of r) sources) ≡ not (are_distinct lists_clash (home_lists kind all n))
 clash_by_sources kind all r graph own n sources alike g none e =
-    ap (λ (l : List ℕ). some_clash entries_clash (flat_map (row_of r) l)) (e ∙ ap (λ k. contributors_in k own n) g)
+    ap (λ (l : List ℕ). some_clash entries_clash (flat_map (row_of r) l)) (e ∙ ap (λ k. sources_in k own n) g)
     ∙ ap (λ (l : List Entry). some_clash entries_clash l) (sym (inherited (row_of r) all own n none))
     ∙ alike (ancestry all n)
     ∙ home_clash kind all n

@@ -13,7 +13,7 @@ use Rattle.psdl_directory.specs.Spelled.{number_of, Keeps}
 use Rattle.psdl_directory.proofs.Indexed.{same_number}
 use Rattle.psdl_lineage.specs.Descent.{StateMember, members, members_in, has}
 use Rattle.psdl_lineage.specs.Graph.{graph_of}
-use Rattle.psdl_lineage.specs.Sources.{is_own, contributors_in}
+use Rattle.psdl_lineage.specs.Sources.{is_own, sources_in}
 use Rattle.psdl_lineage.proofs.Inherited.{inherited}
 use Rattle.psdl_lineage.proofs.Listing.{map_more}
 use Rattle.psdl_members.specs.declared.member.Member.{Member}
@@ -93,14 +93,14 @@ none_own all own are n off = none (own_members all n) (are n off)
     none [] e = refl
     none (x ∷ xs) e = absurd (omega (arith, e))
 
-pub members_by : (all : List Declaration) (graph : List (List ℕ)) (own : List Bool) (n : ℕ) (sources : List ℕ) → graph ≡ graph_of all → AreOwners all own → sources ≡ contributors_in graph own n
+pub members_by : (all : List Declaration) (graph : List (List ℕ)) (own : List Bool) (n : ℕ) (sources : List ℕ) → graph ≡ graph_of all → AreOwners all own → sources ≡ sources_in graph own n
     → flat_map (own_members all) sources ≡ members all n
 members_by all graph own n sources g are e =
-    ap (λ l. flat_map (own_members all) l) (e ∙ ap (λ k. contributors_in k own n) g)
+    ap (λ l. flat_map (own_members all) l) (e ∙ ap (λ k. sources_in k own n) g)
     ∙ sym (inherited (own_members all) all own n (none_own all own are))
 
 pub clash_by : (all : List Declaration) (s : Spellings) (numbers starts : List ℕ) (graph : List (List ℕ)) (own : List Bool) (n : ℕ) (sources : List ℕ) → AreNumbered all s numbers starts → graph ≡ graph_of all → AreOwners all own
-    → sources ≡ contributors_in graph own n → not (are_distinct (λ a b. a == b) (flat_map (λ m. piece_of starts m numbers) sources)) ≡ not (are_distinct members_clash (members all n))
+    → sources ≡ sources_in graph own n → not (are_distinct (λ a b. a == b) (flat_map (λ m. piece_of starts m numbers) sources)) ≡ not (are_distinct members_clash (members all n))
 clash_by all s numbers starts graph own n sources are g owns e =
     ap not (distinct_alike s (flat_map (λ m. piece_of starts m numbers) sources) (flat_map (own_members all) sources) (all_numbers all s numbers starts sources are)
     ∙ ap (λ l. are_distinct members_clash l) (members_by all graph own n sources g owns e))

@@ -17,7 +17,7 @@ use Rattle.psdl_directory.specs.Parts.{parents, bases, implemented, managed, pro
 use Rattle.psdl_lineage.specs.Descent.{type_of_home, conforms, provider}
 use Rattle.psdl_standings.specs.Selves.{of_itself}
 use Rattle.psdl_rules.specs.Words as words
-use Rattle.psdl_rules.specs.Words.{type_of_named, of_types, has_whole_header}
+use Rattle.psdl_rules.specs.Words.{type_of_named, of_types, has_settled_header}
 use Rattle.psdl_rules.specs.Faults.Incomplete.{is_defined_by, of_forward}
 use Rattle.psdl_rules.specs.Faults.HomeType.{differs_from_base, is_other_kind, has_wrong_type, home_type}
 use Rattle.psdl_rules.specs.Faults.NotImplemented.{of_implemented}
@@ -127,11 +127,11 @@ are_there all n (p ∷ ps) (suc i) d lt = are_there all n ps i d (omega (arith, 
 pub provided_there : (all : List Declaration) (n : ℕ) → AreThere (length all) (header all n).provided
 provided_there all n = are_there all n (provided (at all n).what)
 
--- ---- whole headers
+-- ---- settled headers
 
-pub whole_is : (all : List Declaration) (n : ℕ)
-    → (are_meant (header all n).bases && (are_meant (header all n).implemented && are_meant (option_to_list (header all n).managed))) ≡ has_whole_header all n
-whole_is all n =
+pub settled_is : (all : List Declaration) (n : ℕ)
+    → (are_meant (header all n).bases && (are_meant (header all n).implemented && are_meant (option_to_list (header all n).managed))) ≡ has_settled_header all n
+settled_is all n =
     let what = (at all n).what in
     let test : Use → Bool = λ u. is_some u.meant in
     let f : Name → Use = used all (n + 1) n in

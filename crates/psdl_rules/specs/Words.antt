@@ -25,8 +25,8 @@ abbrev pub above : What → List Name
 above what = parents what ++ option_to_list (managed what)
 
 -- all of them mean something: only then it is known what the declaration has
-abbrev pub has_whole_header : List Declaration → ℕ → Bool
-has_whole_header all n = list_all (λ name. is_some (named all n name)) (above (at all n).what)
+abbrev pub has_settled_header : List Declaration → ℕ → Bool
+has_settled_header all n = list_all (λ name. is_some (named all n name)) (above (at all n).what)
 
 -- the type of the home that a name in the body of another means
 abbrev pub type_of_named : List Declaration → ℕ → Name → Option ℕ

@@ -14,10 +14,10 @@ mod member_types;
 mod operations;
 mod redefined_inside;
 mod scopes;
+mod settled;
 mod sorts;
 mod taken_names;
 mod text;
-mod whole;
 
 pub use faults::{comes_before, fault_text, first_fault};
 pub use text::Text;

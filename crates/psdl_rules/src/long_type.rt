@@ -14,9 +14,9 @@ ghost use Rattle.psdl_standings.specs.Standings.{standings as standings_of};
 ghost use Rattle.psdl_standings.specs.Texts.{text_of as told_of, types_in};
 
 use crate::member_types::{member_sources, types_of_members};
+use crate::settled::is_settled;
 use crate::sorts::is_concrete_type;
 use crate::text::Text;
-use crate::whole::is_whole;
 use psdl_directory::{CheckKind, DeclarationNo, Least, What};
 use psdl_lineage::{Sources, is_storage_type};
 use psdl_standings::{Extent, Standings, StateEntry};
@@ -78,8 +78,8 @@ fn long_type_at(
     if !is_type {
         return Ok(());
     }
-    let is_whole = is_whole(text, number);
-    if !is_whole {
+    let is_settled = is_settled(text, number);
+    if !is_settled {
         return Ok(());
     }
     let kept = types_of_members(alloc, standings, sources, number)?;

@@ -7,8 +7,8 @@ use Rattle.type_layout.specs.Schemas.{given}
 use Rattle.type_layout.specs.Types.{PlainType, Char}
 use Rattle.psdl_directory.specs.Declarations.{Path, What, IsAlias, IsStruct, Declaration}
 use Rattle.psdl_directory.specs.Lookup.{at}
-use Rattle.psdl_standings.specs.declared.told.Told.{Told}
-use Rattle.psdl_standings.specs.declared.told.Told.TheVariants as tellings
+use Rattle.psdl_standings.specs.declared.numbered_standing.NumberedStanding.{NumberedStanding}
+use Rattle.psdl_standings.specs.declared.numbered_standing.NumberedStanding.TheVariants as tellings
 use Rattle.psdl_standings.specs.Depths.{is_deep}
 use Rattle.psdl_standings.specs.Nesting.{nesting, spec_nesting, nesting_of}
 use Rattle.psdl_standings.specs.Standings.{Standing}
@@ -81,17 +81,17 @@ level_there types levels n x = by (nat_lt n (length levels)) refl
         let past : length levels ≤ n = ltb-false n (length levels) lt in
         get_or_past levels n 1 past ∙ sym (ap (λ (t : PlainType). cut (nesting t)) (get_or_past types n Char (omega (arith, past, x.many))))
 
-pub level_told : (types : List PlainType) (levels : List ℕ) (told : Told) → IsLevelled types levels → level_of levels (type_told told) ≡ depth (stand types told)
+pub level_told : (types : List PlainType) (levels : List ℕ) (told : NumberedStanding) → IsLevelled types levels → level_of levels (type_told told) ≡ depth (stand types told)
 level_told types levels tellings.Nothing x = refl
 level_told types levels (tellings.OfNumber type value) x = refl
 level_told types levels (tellings.OfType type) x = level_there types levels type.index x
 
-pub levels_more : (types : List PlainType) (told : List Told) (i : ℕ) (one : Told) (nested more : List ℕ) (level : ℕ) → i < length told → one ≡ get_or told i one → nested ≡ map depth (map (stand types) (take i told)) → level ≡ depth (stand types one) → more ≡ nested ++ level ∷ []
+pub levels_more : (types : List PlainType) (told : List NumberedStanding) (i : ℕ) (one : NumberedStanding) (nested more : List ℕ) (level : ℕ) → i < length told → one ≡ get_or told i one → nested ≡ map depth (map (stand types) (take i told)) → level ≡ depth (stand types one) → more ≡ nested ++ level ∷ []
     → more ≡ map depth (map (stand types) (take (i + 1) told))
 levels_more types told i one nested more level lt at so_far is pushed =
     pushed
     ∙ ap (λ (l : List ℕ). l ++ level ∷ []) so_far
     ∙ ap (λ (k : ℕ). map depth (map (stand types) (take i told)) ++ k ∷ []) is
-    ∙ sym (ap (λ (l : List Told). map depth (map (stand types) l)) (take_one told i one lt at)
+    ∙ sym (ap (λ (l : List NumberedStanding). map depth (map (stand types) l)) (take_one told i one lt at)
     ∙ ap (λ (l : List Standing). map depth l) (map-append (stand types) (take i told) (one ∷ []))
     ∙ map-append depth (map (stand types) (take i told)) (stand types one ∷ []))

@@ -21,8 +21,8 @@ use Rattle.psdl_directory.proofs.Noting.{noting-append}
 use Rattle.psdl_standings.specs.declared.body_faults.BodyFaults.{BodyFaults}
 use Rattle.psdl_standings.specs.declared.need.Need.{Need}
 use Rattle.psdl_standings.specs.declared.spot.Spot.{Spot}
-use Rattle.psdl_standings.specs.declared.told.Told.{Told}
-use Rattle.psdl_standings.specs.declared.told.Told.TheVariants as tellings
+use Rattle.psdl_standings.specs.declared.numbered_standing.NumberedStanding.{NumberedStanding}
+use Rattle.psdl_standings.specs.declared.numbered_standing.NumberedStanding.TheVariants as tellings
 use Rattle.psdl_standings.specs.declared.walk.Walk.{Walk}
 use Rattle.psdl_standings.specs.Naming.{of_use, of_texts}
 use Rattle.psdl_standings.specs.Ranges.{of_bound}
@@ -42,19 +42,19 @@ both_true false b e = cc
 
 -- ---- types that are added
 
-stands_on : (old new : List PlainType) → Extends old new → (t : Told) → is_there (length old) t ≡ true → stand new t ≡ stand old t
+stands_on : (old new : List PlainType) → Extends old new → (t : NumberedStanding) → is_there (length old) t ≡ true → stand new t ≡ stand old t
 stands_on old new x tellings.Nothing e = refl
 stands_on old new x (tellings.OfType type) e = ap (λ (t : PlainType). StandsForType t) (x type.index (ltb-true type.index (length old) e)).1
 stands_on old new x (tellings.OfNumber type value) e = ap (λ (t : PlainType). StandsForNumber t value) (x type.index (ltb-true type.index (length old) e)).1
 
-stand_on : (old new : List PlainType) → Extends old new → (told : List Told) → list_all (is_there (length old)) told ≡ true → map (stand new) told ≡ map (stand old) told
+stand_on : (old new : List PlainType) → Extends old new → (told : List NumberedStanding) → list_all (is_there (length old)) told ≡ true → map (stand new) told ≡ map (stand old) told
 stand_on old new x [] e = refl
 stand_on old new x (t ∷ ts) e =
     let both = both_true (is_there (length old) t) (list_all (is_there (length old)) ts) e in
     rw (stands_on old new x t both.0, stand_on old new x ts both.1) refl
 
 pub done_same : (a b : Walk) → Goes a b → done_in b ≡ done_in a
-done_same a b g = ap (λ (ts : List Told). map (stand b.types) ts) g.told ∙ stand_on a.types b.types g.types a.told.items a.there
+done_same a b g = ap (λ (ts : List NumberedStanding). map (stand b.types) ts) g.told ∙ stand_on a.types b.types g.types a.told.items a.there
 
 pub extends_trans : (a b c : List PlainType) → Extends a b → Extends b c → Extends a c
 extends_trans a b c x y n lt =
@@ -100,12 +100,12 @@ names_same a b spot g = same (text_in b) (text_in a) (done_in b) (done_in a) g.t
     same all others done told p q = rw (p, q) refl
 
 -- what is told stays in the table
-there_on : (old new : List PlainType) → Extends old new → (t : Told) → is_there (length old) t ≡ true → is_there (length new) t ≡ true
+there_on : (old new : List PlainType) → Extends old new → (t : NumberedStanding) → is_there (length old) t ≡ true → is_there (length new) t ≡ true
 there_on old new x tellings.Nothing e = refl
 there_on old new x (tellings.OfType type) e = lt-ltb type.index (length new) (x type.index (ltb-true type.index (length old) e)).0
 there_on old new x (tellings.OfNumber type value) e = lt-ltb type.index (length new) (x type.index (ltb-true type.index (length old) e)).0
 
-pub all_there_on : (old new : List PlainType) → Extends old new → (told : List Told) → AreThere (length old) told → AreThere (length new) told
+pub all_there_on : (old new : List PlainType) → Extends old new → (told : List NumberedStanding) → AreThere (length old) told → AreThere (length new) told
 all_there_on old new x [] e = refl
 all_there_on old new x (t ∷ ts) e =
     let both = both_true (is_there (length old) t) (list_all (is_there (length old)) ts) e in
@@ -132,7 +132,7 @@ use_found w spot need name = by (meaning as_is (text_in w) spot.limit (path_in w
 
 -- ---- results
 
-pub there_after : {E : Type 0} (old new : List PlainType) (type : PlainType) (told : List Told) (r : Result ℕ E) → OnOk r (new ≡ old ++ type ∷ []) → OnErr r (new ≡ old) → AreThere (length old) told → AreThere (length new) told
+pub there_after : {E : Type 0} (old new : List PlainType) (type : PlainType) (told : List NumberedStanding) (r : Result ℕ E) → OnOk r (new ≡ old ++ type ∷ []) → OnErr r (new ≡ old) → AreThere (length old) told → AreThere (length new) told
 there_after old new type told (Ok n) ok err h = all_there_on old new (one_more old new type ok) told h
 there_after old new type told (Err e) ok err h = rw err h
 

@@ -19,8 +19,8 @@ use Rattle.psdl_directory.specs.Noting.{noting}
 use Rattle.psdl_directory.proofs.Noting.{noting-append}
 use Rattle.psdl_standings.specs.declared.body_faults.BodyFaults.{BodyFaults}
 use Rattle.psdl_standings.specs.declared.need.Need.TheVariants as needs
-use Rattle.psdl_standings.specs.declared.told.Told.{Told}
-use Rattle.psdl_standings.specs.declared.told.Told.TheVariants as tellings
+use Rattle.psdl_standings.specs.declared.numbered_standing.NumberedStanding.{NumberedStanding}
+use Rattle.psdl_standings.specs.declared.numbered_standing.NumberedStanding.TheVariants as tellings
 use Rattle.psdl_standings.specs.Expressions.{operands, named_by, text_of}
 use Rattle.psdl_standings.specs.Naming.{of_use, of_texts}
 use Rattle.psdl_standings.specs.Ranges.{of_bound}
@@ -34,20 +34,20 @@ use Rattle.psdl_standings.proofs.Operands.{append_none}
 
 -- ---- what is told
 
-abbrev pub done_by : List PlainType → List Told → List Standing
+abbrev pub done_by : List PlainType → List NumberedStanding → List Standing
 done_by types told = map (stand types) told
 
-value_stands : (types : List PlainType) (t : Told) → number_of (stand types t) ≡ value_told t
+value_stands : (types : List PlainType) (t : NumberedStanding) → number_of (stand types t) ≡ value_told t
 value_stands types tellings.Nothing = refl
 value_stands types (tellings.OfType type) = refl
 value_stands types (tellings.OfNumber type value) = refl
 
-number_stands : (types : List PlainType) (t : Told) → is_number (stand types t) ≡ is_number_told t
+number_stands : (types : List PlainType) (t : NumberedStanding) → is_number (stand types t) ≡ is_number_told t
 number_stands types tellings.Nothing = refl
 number_stands types (tellings.OfType type) = refl
 number_stands types (tellings.OfNumber type value) = refl
 
-pub stands_at : (types : List PlainType) (told : List Told) (n : ℕ) → standing (done_by types told) n ≡ stand types (get_or told n tellings.Nothing)
+pub stands_at : (types : List PlainType) (told : List NumberedStanding) (n : ℕ) → standing (done_by types told) n ≡ stand types (get_or told n tellings.Nothing)
 stands_at types told n = get_or-map (stand types) told n tellings.Nothing
 
 module _ (types : List PlainType) (s : Scene) where

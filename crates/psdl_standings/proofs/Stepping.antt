@@ -16,7 +16,7 @@ use Rattle.psdl_directory.specs.Noting.{noting}
 use Rattle.psdl_directory.proofs.Noting.{noting-append}
 use Rattle.psdl_standings.specs.declared.body_faults.BodyFaults.{BodyFaults}
 use Rattle.psdl_standings.specs.declared.state_entry.StateEntry.{StateEntry}
-use Rattle.psdl_standings.specs.declared.told.Told.{Told}
+use Rattle.psdl_standings.specs.declared.numbered_standing.NumberedStanding.{NumberedStanding}
 use Rattle.psdl_standings.specs.declared.walk.Walk.{Walk}
 use Rattle.psdl_standings.specs.Naming.{of_use, of_names, of_strings}
 use Rattle.psdl_standings.specs.Ranges.{of_values}
@@ -143,7 +143,7 @@ all_noted all n f g lt x is =
 
 -- ---- what is told
 
-pub told_more : (y : Walk) (all : List Declaration) (n : ℕ) (told : Told) → n < length all → done_in y ≡ standings_after all [] (take n all) → stand y.types told ≡ standing_of all (standings_after all [] (take n all)) n (at all n).path (at all n).what
+pub told_more : (y : Walk) (all : List Declaration) (n : ℕ) (told : NumberedStanding) → n < length all → done_in y ≡ standings_after all [] (take n all) → stand y.types told ≡ standing_of all (standings_after all [] (take n all)) n (at all n).path (at all n).what
     → map (stand y.types) (y.told.items ++ told ∷ []) ≡ standings_after all [] (take (n + 1) all)
 told_more y all n told lt so_far is =
     map-append (stand y.types) y.told.items (told ∷ []) ∙ ap (λ (ss : List Standing). ss ++ stand y.types told ∷ []) so_far ∙ ap (λ (s : Standing). standings_after all [] (take n all) ++ s ∷ []) is ∙ sym (one_behind all n lt)
@@ -225,7 +225,7 @@ alias_on all n lt = ap (λ (ss : List Standing). alias_type all ss n (at all n).
 
 -- ---- the whole step
 
-pub record HasStepped (w x y z : Walk) (n : ℕ) (last item : Option ℕ) (told : Told) (states more : List (Vec StateEntry Global)) (kept : Vec StateEntry Global) : Type 0 where
+pub record HasStepped (w x y z : Walk) (n : ℕ) (last item : Option ℕ) (told : NumberedStanding) (states more : List (Vec StateEntry Global)) (kept : Vec StateEntry Global) : Type 0 where
   pub within_text : n < length (text_in w)
   pub before : IsWalked w states n
   pub typed : Adds w x (record { limit = n; number = n; own = None }) (type_uses n (at (text_in w) n).what) (type_bounds n (at (text_in w) n).what) (alias_type (text_in w) (done_in w) n (at (text_in w) n).path (at (text_in w) n).what) item
@@ -237,7 +237,7 @@ pub record HasStepped (w x y z : Walk) (n : ℕ) (last item : Option ℕ) (told 
   pub pushed : z.told.items ≡ y.told.items ++ told ∷ []
   pub stored : more ≡ states ++ kept ∷ []
 
-module _ (w x y z : Walk) (n : ℕ) (last item : Option ℕ) (told : Told) (states more : List (Vec StateEntry Global)) (kept : Vec StateEntry Global) (s : HasStepped w x y z n last item told states more kept) where
+module _ (w x y z : Walk) (n : ℕ) (last item : Option ℕ) (told : NumberedStanding) (states more : List (Vec StateEntry Global)) (kept : Vec StateEntry Global) (s : HasStepped w x y z n last item told states more kept) where
   abbrev all : List Declaration
   all = text_in w
 
@@ -258,7 +258,7 @@ module _ (w x y z : Walk) (n : ℕ) (last item : Option ℕ) (told : Told) (stat
 
   done_there : done_in z ≡ standings_after all [] (take (n + 1) all)
   done_there =
-      ap (λ (types : List PlainType). map (stand types) z.told.items) s.types ∙ ap (λ (ts : List Told). map (stand y.types) ts) s.pushed ∙ told_more y all n told s.within_text done_here told_here
+      ap (λ (types : List PlainType). map (stand types) z.told.items) s.types ∙ ap (λ (ts : List NumberedStanding). map (stand y.types) ts) s.pushed ∙ told_more y all n told s.within_text done_here told_here
 
   noted_there : AreNoted all z.faults (n + 1)
   noted_there =

@@ -22,8 +22,8 @@ use Rattle.psdl_directory.specs.Declarations.{What, IsModule, IsConstant, IsAlia
 use Rattle.psdl_directory.specs.Lookup.{at, origin}
 use Rattle.psdl_standings.specs.declared.spot.Spot.{Spot}
 use Rattle.psdl_standings.specs.declared.state_entry.StateEntry.{StateEntry}
-use Rattle.psdl_standings.specs.declared.told.Told.{Told}
-use Rattle.psdl_standings.specs.declared.told.Told.TheVariants as tellings
+use Rattle.psdl_standings.specs.declared.numbered_standing.NumberedStanding.{NumberedStanding}
+use Rattle.psdl_standings.specs.declared.numbered_standing.NumberedStanding.TheVariants as tellings
 use Rattle.psdl_standings.specs.declared.walk.Walk.{Walk}
 use Rattle.psdl_standings.specs.Standings.{Nothing, arrays_by, struct_by, as_type, standing_of}
 use Rattle.psdl_standings.specs.States.{state_types}
@@ -35,21 +35,21 @@ use Rattle.psdl_standings.specs.inner.Tellings.{stand, is_there}
 use Rattle.psdl_standings.specs.inner.TypeTables.{entry_type}
 use Rattle.psdl_standings.specs.inner.Walked.{text_in, done_in, names_in, noted_in, AddsType, Adds}
 
-pub tells_of : (a b : Walk) (spot : Spot) (us : List Use) (bs : List Bound) (type : Option PlainType) (number : Option ℕ) (told : Told) → Adds a b spot us bs type number → ((types : List PlainType) → stand types told ≡ as_type (entry_type types number))
+pub tells_of : (a b : Walk) (spot : Spot) (us : List Use) (bs : List Bound) (type : Option PlainType) (number : Option ℕ) (told : NumberedStanding) → Adds a b spot us bs type number → ((types : List PlainType) → stand types told ≡ as_type (entry_type types number))
     → ((count : ℕ) → IfSome number (λ n. n < count) → is_there count told ≡ true) → Tells a b spot us bs (as_type type) told
 tells_of a b spot us bs type number told x is there = record { goes = x.goes; noted = x.noted; there = there (length b.types) x.there; is = is b.types ∙ ap as_type x.is }
 
-pub told_alias : (a b : Walk) (n before : ℕ) (spec : TypeSpec) (dimensions : List Expression) (item : Option ℕ) (told : Told) → entry_type a.types item ≡ alias_type (text_in a) (done_in a) n (at (text_in a) n).path (IsAlias before spec dimensions)
+pub told_alias : (a b : Walk) (n before : ℕ) (spec : TypeSpec) (dimensions : List Expression) (item : Option ℕ) (told : NumberedStanding) → entry_type a.types item ≡ alias_type (text_in a) (done_in a) n (at (text_in a) n).path (IsAlias before spec dimensions)
     → Tells a b (within n None) (in_expressions (n + 1) dimensions) (bounds_of (n + 1) most_elements dimensions) (as_type (option_and_then (arrays_by (names_in a (within n None)) dimensions) (entry_type a.types item))) told → IsTold a b n (IsAlias before spec dimensions) told
 told_alias a b n before spec dimensions item told is x =
     record { goes = x.goes; noted = x.noted; there = x.there; is = x.is ∙ ap (λ (t : Option PlainType). as_type (option_and_then (arrays_by (names_in a (within n None)) dimensions) t)) is }
 
 -- a type that was added, of which nothing is noted
-pub told_added : (a b : Walk) (n : ℕ) (what : What) (type : PlainType) (number : Option ℕ) (told : Told) → AddsType a b (Some type) number → own_noted a n what ≡ a.faults → ((types : List PlainType) → stand types told ≡ as_type (entry_type types number))
+pub told_added : (a b : Walk) (n : ℕ) (what : What) (type : PlainType) (number : Option ℕ) (told : NumberedStanding) → AddsType a b (Some type) number → own_noted a n what ≡ a.faults → ((types : List PlainType) → stand types told ≡ as_type (entry_type types number))
     → ((count : ℕ) → IfSome number (λ n. n < count) → is_there count told ≡ true) → as_type (Some type) ≡ standing_of (text_in a) (done_in a) n (at (text_in a) n).path what → IsTold a b n what told
 told_added a b n what type number told x none is there e = record { goes = x.goes; noted = x.same ∙ sym none; there = there (length b.types) x.there; is = is b.types ∙ ap as_type x.is ∙ e }
 
-pub told_of_struct : (a b : Walk) (n : ℕ) (own : Option ℕ) (s : StructTree) (number : Option ℕ) (told : Told) → own ≡ origin (text_in a) n
+pub told_of_struct : (a b : Walk) (n : ℕ) (own : Option ℕ) (s : StructTree) (number : Option ℕ) (told : NumberedStanding) → own ≡ origin (text_in a) n
     → Adds a b (within n own) (flat_map (in_field (n + 1)) (all_fields s)) (flat_map (field_bounds (n + 1)) (all_fields s)) (struct_by (names_in a (within n own)) s) number → ((types : List PlainType) → stand types told ≡ as_type (entry_type types number))
     → ((count : ℕ) → IfSome number (λ n. n < count) → is_there count told ≡ true) → IsTold a b n (IsStruct s) told
 told_of_struct a b n own s number told e x is there =
@@ -65,10 +65,10 @@ pub no_states : (a b : Walk) (n : ℕ) (what : What) (kept : List StateEntry) �
 no_states a b n what kept none is = record { below = rw is refl; are = λ homes. rw (is, none) refl }
 
 -- a declaration is what it was matched to be
-pub as_matched : (a b : Walk) (n : ℕ) (what found : What) (told : Told) → what ≡ found → IsTold a b n found told → IsTold a b n what told
+pub as_matched : (a b : Walk) (n : ℕ) (what found : What) (told : NumberedStanding) → what ≡ found → IsTold a b n found told → IsTold a b n what told
 as_matched a b n what found told e x = rw e x
 
-pub alias_matched : (a b : Walk) (n : ℕ) (what : What) (before : ℕ) (spec : TypeSpec) (dimensions : List Expression) (item : Option ℕ) (told : Told) → what ≡ IsAlias before spec dimensions
+pub alias_matched : (a b : Walk) (n : ℕ) (what : What) (before : ℕ) (spec : TypeSpec) (dimensions : List Expression) (item : Option ℕ) (told : NumberedStanding) → what ≡ IsAlias before spec dimensions
     → entry_type a.types item ≡ alias_type (text_in a) (done_in a) n (at (text_in a) n).path what
     → Tells a b (within n None) (in_expressions (n + 1) dimensions) (bounds_of (n + 1) most_elements dimensions) (as_type (option_and_then (arrays_by (names_in a (within n None)) dimensions) (entry_type a.types item))) told → IsTold a b n what told
 alias_matched a b n what before spec dimensions item told e is x =

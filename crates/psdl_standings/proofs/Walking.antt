@@ -9,7 +9,7 @@ use Rattle.psdl_directory.specs.Headers.{Header, header_of, header, headers}
 use Rattle.psdl_directory.specs.Lookup.{at}
 use Rattle.psdl_standings.specs.declared.spot.Spot.{Spot}
 use Rattle.psdl_standings.specs.declared.state_entry.StateEntry.{StateEntry}
-use Rattle.psdl_standings.specs.declared.told.Told.{Told}
+use Rattle.psdl_standings.specs.declared.numbered_standing.NumberedStanding.{NumberedStanding}
 use Rattle.psdl_standings.specs.declared.walk.Walk.{Walk}
 use Rattle.psdl_standings.specs.Standings.{Standing, sight, spec_by}
 use Rattle.psdl_standings.specs.Uses.{in_spec, spec_bounds}
@@ -43,10 +43,10 @@ item_later w x n what item g e = e ∙ sym (moved (text_in x) (text_in w) (done_
 pub number_later : (w x : Walk) (n : ℕ) → Goes w x → n < length (text_in w) → n < length (text_in x)
 number_later w x n g lt = rw g.text lt
 
-pub there_pushed : (count : ℕ) (told : List Told) (one : Told) → AreThere count told → is_there count one ≡ true → AreThere count (told ++ one ∷ [])
+pub there_pushed : (count : ℕ) (told : List NumberedStanding) (one : NumberedStanding) → AreThere count told → is_there count one ≡ true → AreThere count (told ++ one ∷ [])
 there_pushed count told one h t = list_all-append (is_there count) told (one ∷ []) ∙ rw (h, t) refl
 
-pub stepped_by : (w x y z : Walk) (n : ℕ) (last item : Option ℕ) (told : Told) (states more : List (Vec StateEntry Global)) (kept : Vec StateEntry Global) (what : What) → what ≡ (at (text_in w) n).what → n < length (text_in w) → IsWalked w states n
+pub stepped_by : (w x y z : Walk) (n : ℕ) (last item : Option ℕ) (told : NumberedStanding) (states more : List (Vec StateEntry Global)) (kept : Vec StateEntry Global) (what : What) → what ≡ (at (text_in w) n).what → n < length (text_in w) → IsWalked w states n
     → Adds w x (record { limit = n; number = n; own = None }) (type_uses n what) (type_bounds n what) (alias_type (text_in w) (done_in w) n (at (text_in w) n).path what) item → IsTold x y n what told → AreStatesThere x y n what kept.items → text_in z ≡ text_in y → z.types ≡ y.types
     → z.faults ≡ y.faults → z.told.items ≡ y.told.items ++ told ∷ [] → more ≡ states ++ kept ∷ [] → HasStepped w x y z n last item told states more kept
 stepped_by w x y z n last item told states more kept what is lt before typed is_told has_states text types faults pushed stored =
@@ -115,7 +115,7 @@ pub none_walked : (w : Walk) → w.told.items ≡ [] → w.faults.names ≡ None
 none_walked w told names strings values selves =
     record {
       kept = (refl, λ n d lt. absurd (omega (arith, lt)));
-      told = ap (λ (ts : List Told). map (stand w.types) ts) told;
+      told = ap (λ (ts : List NumberedStanding). map (stand w.types) ts) told;
       names = names;
       strings = strings;
       values = values;

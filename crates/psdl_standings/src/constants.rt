@@ -1,18 +1,18 @@
 // Constants in the walk of bodies.
 
+use crate::alone::text_alone;
 use crate::assess::assess;
 use crate::assessment::Assessment;
 use crate::bound::note_value;
 use crate::const_range::note_long;
 use crate::need::Need;
+use crate::numbered_standing::{NumberedStanding, TypeNo, numbered_standing_at};
 use crate::places::expression_place;
 use crate::range::Range;
 use crate::sight::Sight;
 use crate::spot::Spot;
-use crate::told::{Told, TypeNo, told_at};
 use crate::types::{Class, Node};
 use crate::walk::Walk;
-use crate::whole::whole_text;
 use psdl_directory::{CheckFault, CheckKind};
 use psdl_tree::{Constant, ConstantType, Expression, Name};
 use pss_base::NoMemory;
@@ -36,7 +36,7 @@ impl<'b, 'a> Walk<'b, 'a> {
         ensures { IfOk result (Adds self.old self.new spot (of.use_of spot.limit needs.OfConstantType (name_view name.now) ∷ []) [] (type_of (names_in self.old spot (name_view name.now)))) }
     {
         match self.meaning(spot, Need::OfConstantType, name)? {
-            Some(meant) => Ok(told_at(&self.told, meant.index()).type_number()),
+            Some(meant) => Ok(numbered_standing_at(&self.told, meant.index()).type_number()),
             None => Ok(None),
         }
     }
@@ -106,7 +106,7 @@ impl<'b, 'a> Walk<'b, 'a> {
         ensures goes { Goes self.old self.new }
         ensures noted { OnOk result (self.new.faults ≡ text_noted self.old spot bound (expression_view value.now)) }
     {
-        match whole_text(value) {
+        match text_alone(value) {
             Some(text) => note_long(&mut self.faults.values, bound, text),
             None => {
                 self.faults.strings.note(CheckFault {
@@ -120,7 +120,12 @@ impl<'b, 'a> Walk<'b, 'a> {
     }
 
     // What a constant of that type stands for.
-    fn valued(&mut self, spot: Spot, number: usize, value: &Expression) -> Result<Told, NoMemory>
+    fn valued(
+        &mut self,
+        spot: Spot,
+        number: usize,
+        value: &Expression,
+    ) -> Result<NumberedStanding, NoMemory>
         requires { number < length self.old.types }
         ensures goes { Goes self.old self.new }
         ensures noted { OnOk result (self.new.faults ≡ value_noted self.old spot (type_at self.old.types number) (expression_view value.now)) }
@@ -130,21 +135,25 @@ impl<'b, 'a> Walk<'b, 'a> {
         match self.types.class(number) {
             Class::Number(range) => {
                 let within = self.number(spot, range, value)?;
-                Ok(Told::OfNumber(TypeNo { index: number }, within))
+                Ok(NumberedStanding::OfNumber(TypeNo { index: number }, within))
             }
             Class::Text(bound) => {
                 self.text(spot, bound, value)?;
-                Ok(Told::Nothing)
+                Ok(NumberedStanding::Nothing)
             }
             Class::Other => {
                 self.assessed(spot, None, value)?;
-                Ok(Told::Nothing)
+                Ok(NumberedStanding::Nothing)
             }
         }
     }
 
     /// What a constant stands for.
-    pub(crate) fn constant(&mut self, spot: Spot, constant: &Constant) -> Result<Told, NoMemory>
+    pub(crate) fn constant(
+        &mut self,
+        spot: Spot,
+        constant: &Constant,
+    ) -> Result<NumberedStanding, NoMemory>
         ensures goes { OnOk result (Goes self.old self.new) }
         ensures noted { OnOk result (self.new.faults ≡ constant_noted self.old spot (constant_view constant.now)) }
         ensures there { IfOk result (λ t. is_there (length self.new.types) t ≡ true) }
@@ -157,7 +166,7 @@ impl<'b, 'a> Walk<'b, 'a> {
             }
             None => {
                 self.assessed(spot, None, &constant.value)?;
-                Ok(Told::Nothing)
+                Ok(NumberedStanding::Nothing)
             }
         }
     }

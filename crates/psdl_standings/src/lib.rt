@@ -1,6 +1,7 @@
 //! What the declarations of a PSDL text stand for: types, by number, and values of constants.
 #![tactic(auto)]
 
+mod alone;
 mod assess;
 mod assessment;
 mod bodies;
@@ -16,6 +17,7 @@ mod levels;
 mod need;
 mod nesting;
 mod new_types;
+mod numbered_standing;
 mod operator;
 mod places;
 mod range;
@@ -27,12 +29,10 @@ mod state_entry;
 mod structs;
 mod telling;
 mod text_length;
-mod told;
 mod type_extents;
 mod types;
 mod unknown;
 mod walk;
-mod whole;
 mod wrong_case;
 mod wrong_kind;
 

@@ -16,7 +16,7 @@ ghost use Rattle.psdl_standings.specs.inner.Measured.{cut, IsLevelled};
 ghost use Rattle.psdl_standings.specs.inner.Tellings.{stand};
 
 use crate::levels::TOO_DEEP;
-use crate::told::Told;
+use crate::numbered_standing::NumberedStanding;
 use crate::walk::index_of;
 use psdl_directory::{DeclarationNo, Directory, Spelling, What};
 use psdl_tree::{Declarators, Field, Name, PlainType, Struct, TypeSpec};
@@ -291,7 +291,7 @@ pub(crate) fn deep_of(
 }
 
 // How deep what is told of a declaration nests, by how deep types do.
-fn told_level(told: Told, levels: &[usize]) -> usize
+fn told_level(told: NumberedStanding, levels: &[usize]) -> usize
     ensures { (types : List Laid) → IsLevelled types levels.now → result ≡ depth (stand types told) }
 {
     match told.type_number() {
@@ -303,7 +303,7 @@ fn told_level(told: Told, levels: &[usize]) -> usize
 /// How deep what is told of declarations nests.
 pub(crate) fn told_levels(
     alloc: Global,
-    told: &[Told],
+    told: &[NumberedStanding],
     levels: &[usize],
 ) -> Result<Vec<usize>, NoMemory>
     ensures { IfOk result (λ v. (types : List Laid) → IsLevelled types levels.now → v.items ≡ map depth (map (stand types) told.now)) }

@@ -8,7 +8,7 @@ ghost use Rattle.psdl_standings.specs.inner.Walks.{with_name};
 ghost use Rattle.psdl_standings.specs.inner.Sights.{scene_of, unknown_by, value_meant, meant_faults, value_at, is_own, own_faults};
 
 use crate::body_faults::BodyFaults;
-use crate::told::{Told, told_at};
+use crate::numbered_standing::{NumberedStanding, numbered_standing_at};
 use crate::unknown::note_unknown;
 use crate::wrong_case::note_wrong_case;
 use psdl_directory::{CheckKind, DeclarationNo, Directory, Least, Use, resolve};
@@ -20,7 +20,7 @@ use std::alloc::Global;
 #[derive(Clone, Copy)]
 pub(crate) struct Sight<'b, 'a> {
     pub directory: &'b Directory<'a>,
-    pub told: &'b [Told],
+    pub told: &'b [NumberedStanding],
     pub limit: usize,
     pub number: usize,
     pub own: Option<usize>,
@@ -54,13 +54,13 @@ pub(crate) fn note_own(selves: &mut Least, own: Option<usize>, used: &Use)
 }
 
 // The value of the constant that a resolved name stands for. Where it stands for none, this is noted.
-fn value_used(told: &[Told], names: &mut Least, used: &Use) -> Option<i128>
+fn value_used(told: &[NumberedStanding], names: &mut Least, used: &Use) -> Option<i128>
     ensures value { result ≡ value_meant told.now used.now.meant }
     ensures noted { names.new ≡ noting names.old (meant_faults told.now used.now) }
 {
     match used.meant {
         Some(meant) => {
-            let told = told_at(told, meant.index());
+            let told = numbered_standing_at(told, meant.index());
             names.note_if(!told.is_number(), CheckKind::WrongKind, used.place);
             told.value()
         }

@@ -9,9 +9,9 @@ ghost use Rattle.psdl_standings.specs.inner.TypeTables.{entry_type};
 
 use crate::body_faults::BodyFaults;
 use crate::need::Need;
+use crate::numbered_standing::{NumberedStanding, TypeNo};
 use crate::spot::Spot;
 use crate::state_entry::StateEntry;
-use crate::told::{Told, TypeNo};
 use crate::types::{Node, Types};
 use crate::walk::{Walk, index_of};
 use psdl_directory::{DeclarationNo, Directory, Header, Least, Use, What};
@@ -21,13 +21,13 @@ use psdl_tree::{
 use pss_base::NoMemory;
 use std::alloc::Global;
 
-fn told_type(number: Option<usize>) -> Told
+fn told_type(number: Option<usize>) -> NumberedStanding
     ensures is { (types : List PlainType) → stand types result ≡ as_type (entry_type types number) }
     ensures there { (count : ℕ) → IfSome number (λ n. n < count) → is_there count result ≡ true }
 {
     match number {
-        Some(index) => Told::OfType(TypeNo { index }),
-        None => Told::Nothing,
+        Some(index) => NumberedStanding::OfType(TypeNo { index }),
+        None => NumberedStanding::Nothing,
     }
 }
 
@@ -230,7 +230,7 @@ impl<'b, 'a> Walk<'b, 'a> {
         number: usize,
         item: Option<usize>,
         dimensions: &[Expression],
-    ) -> Result<Told, NoMemory>
+    ) -> Result<NumberedStanding, NoMemory>
         requires number { number < length (text_in self.old) }
         requires there { IfSome item (λ n. n < length self.old.types) }
         ensures { IfOk result (Tells self.old self.new (within number None) (of.in_expressions (number + 1) (map expression_view dimensions.now)) (of.bounds_of (number + 1) of.most_elements (map expression_view dimensions.now)) (as_type (option_and_then (arrays_by (names_in self.old (within number None)) (map expression_view dimensions.now)) (entry_type self.old.types item)))) }
@@ -253,7 +253,11 @@ impl<'b, 'a> Walk<'b, 'a> {
         index_of(self.directory.origin(DeclarationNo::new(number)))
     }
 
-    fn told_struct(&mut self, number: usize, structure: &'a Struct) -> Result<Told, NoMemory>
+    fn told_struct(
+        &mut self,
+        number: usize,
+        structure: &'a Struct,
+    ) -> Result<NumberedStanding, NoMemory>
         requires { number < length (text_in self.old) }
         ensures { IfOk result (IsTold self.old self.new number (whats.IsStruct (struct_view structure.now))) }
     {
@@ -271,7 +275,7 @@ impl<'b, 'a> Walk<'b, 'a> {
         &mut self,
         number: usize,
         enumerators: &'a Identifiers,
-    ) -> Result<Told, NoMemory>
+    ) -> Result<NumberedStanding, NoMemory>
         ensures { IfOk result (IsTold self.old self.new number (whats.IsEnumeration (identifiers_view enumerators.now))) }
     {
         let added = self.add(Node::Enumeration(enumerators))?;
@@ -279,7 +283,11 @@ impl<'b, 'a> Walk<'b, 'a> {
     }
 
     // In the type and the expression of a constant its own name does not stand.
-    fn told_constant(&mut self, number: usize, constant: &Constant) -> Result<Told, NoMemory>
+    fn told_constant(
+        &mut self,
+        number: usize,
+        constant: &Constant,
+    ) -> Result<NumberedStanding, NoMemory>
         ensures { IfOk result (IsTold self.old self.new number (whats.IsConstant (constant_view constant.now))) }
     {
         let spot = Spot {
@@ -323,7 +331,7 @@ impl<'b, 'a> Walk<'b, 'a> {
         header: &Header,
         item: Option<usize>,
         kept: &mut Vec<StateEntry>,
-    ) -> Result<Told, NoMemory>
+    ) -> Result<NumberedStanding, NoMemory>
         requires number { number < length (text_in self.old) }
         requires header { header.now ≡ header_of (text_in self.old) number (what_view what) }
         requires item { entry_type self.old.types item ≡ alias_type (text_in self.old) (done_in self.old) number (at (text_in self.old) number).path (what_view what) }
@@ -351,13 +359,13 @@ impl<'b, 'a> Walk<'b, 'a> {
             }
             _ => {
                 self.store(number, what, header, kept)?;
-                Ok(Told::Nothing)
+                Ok(NumberedStanding::Nothing)
             }
         }
     }
 
     // Keeps what is told of the next declaration.
-    fn keep(&mut self, told: Told) -> Result<(), NoMemory>
+    fn keep(&mut self, told: NumberedStanding) -> Result<(), NoMemory>
         requires { is_there (length self.old.types) told ≡ true }
         ensures text { text_in self.new ≡ text_in self.old }
         ensures types { self.new.types ≡ self.old.types }

@@ -5,9 +5,9 @@ ghost use Rattle.psdl_directory.specs.Declarations.{all_identifiers};
 
 use crate::copied::copied;
 use crate::enumeration_length::enumeration_length;
+use crate::numbered_standing::NumberedStanding;
 use crate::range::Range;
 use crate::text_length::TextLength;
-use crate::told::Told;
 use psdl_tree::{Identifier, Identifiers};
 use pss_base::NoMemory;
 use std::alloc::Global;
@@ -240,11 +240,11 @@ impl<'a> Types<'a> {
     }
 
     /// It stands for an integer, octet or string type.
-    pub(crate) fn may_be_constant(&self, told: Told) -> bool
+    pub(crate) fn may_be_constant(&self, told: NumberedStanding) -> bool
         ensures { result ≡ may_be_constant (stand self.now told) }
     {
         match told {
-            Told::OfType(number) => self.is_constant_type(number.index),
+            NumberedStanding::OfType(number) => self.is_constant_type(number.index),
             _ => false,
         }
     }

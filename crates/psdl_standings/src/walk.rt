@@ -6,9 +6,9 @@ ghost use Rattle.std.specs.Prelude.{◌≡◌, length};
 use crate::body_faults::BodyFaults;
 use crate::bound::bound_of;
 use crate::need::Need;
+use crate::numbered_standing::{NumberedStanding, numbered_standing_at};
 use crate::sight::{Sight, note_meaningless, note_own};
 use crate::spot::Spot;
-use crate::told::{Told, told_at};
 use crate::types::{Node, Types};
 use psdl_directory::{CheckKind, DeclarationNo, Directory, Use, resolve};
 use psdl_tree::{Expression, Name, PlainType as PlainSpec, TypeSpec};
@@ -36,7 +36,7 @@ pub(crate) fn index_of(number: Option<DeclarationNo>) -> Option<usize>
 pub(crate) struct Walk<'b, 'a> {
     pub alloc: Global,
     pub directory: &'b Directory<'a>,
-    pub told: Vec<Told>,
+    pub told: Vec<NumberedStanding>,
     pub types: Types<'a>,
     pub faults: BodyFaults,
     ghost there: { AreThere (length types) told.items },
@@ -149,7 +149,7 @@ impl<'b, 'a> Walk<'b, 'a> {
         ensures { IfOk result (Adds self.old self.new spot (of.use_of spot.limit needs.OfType (name_view name.now) ∷ []) [] (type_of (names_in self.old spot (name_view name.now)))) }
     {
         match self.meaning(spot, Need::OfType, name)? {
-            Some(meant) => Ok(told_at(&self.told, meant.index()).type_number()),
+            Some(meant) => Ok(numbered_standing_at(&self.told, meant.index()).type_number()),
             None => Ok(None),
         }
     }

@@ -1,7 +1,7 @@
 // C4: names that mean another kind than their place needs.
 use crate::need::Need;
+use crate::numbered_standing::numbered_standing_at;
 use crate::sorts::{is_storage_type, is_type};
-use crate::told::told_at;
 use crate::walk::Walk;
 use psdl_directory::{DeclarationNo, What};
 
@@ -17,7 +17,7 @@ impl<'b, 'a> Walk<'b, 'a> {
         ensures { result ≡ of.meets need (at (text_in self.now) meant).what (standing (done_in self.now) meant) }
     {
         let what = self.directory.what(meant);
-        let told = told_at(&self.told, meant.index());
+        let told = numbered_standing_at(&self.told, meant.index());
         match need {
             Need::OfType => is_type(what),
             Need::OfConstantType => self.types.may_be_constant(told),

@@ -13,7 +13,7 @@ use Rattle.psdl_standings.specs.Standings.{Standing}
 use Rattle.psdl_lineage.specs.Descent.{members, concrete_homes}
 use Rattle.psdl_rules.specs.Layouts.{layout}
 use Rattle.psdl_standings.specs.Nesting.{nesting_of}
-use Rattle.psdl_rules.specs.Words.{has_whole_header}
+use Rattle.psdl_rules.specs.Words.{has_settled_header}
 
 abbrev pub most_members : ℕ
 most_members = 255
@@ -29,7 +29,7 @@ has_long_default all done n = given (layout all done (λ _. []) n) false (λ ms.
 abbrev pub long_type : List Declaration → List Standing → ℕ → Declaration → List CheckFault
 long_type all done n d =
     fault_if
-    (is_storage_type d.what && not (is_forward d.what) && has_whole_header all n && (nat_lt most_members (length (members all n)) || (is_concrete_type d.what && has_long_default all done n)))
+    (is_storage_type d.what && not (is_forward d.what) && has_settled_header all n && (nat_lt most_members (length (members all n)) || (is_concrete_type d.what && has_long_default all done n)))
     Limit
     d.place
 

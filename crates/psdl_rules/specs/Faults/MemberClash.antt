@@ -4,9 +4,9 @@ use Rattle.psdl_directory.specs.declared.fault.CheckFault.{CheckFault}
 use Rattle.psdl_directory.specs.Declarations.{Declaration}
 use Rattle.psdl_directory.specs.Fault.{fault_if}
 use Rattle.psdl_directory.specs.Parts.{is_forward}
-use Rattle.psdl_rules.specs.Words.{has_whole_header}
+use Rattle.psdl_rules.specs.Words.{has_settled_header}
 use Rattle.psdl_directory.specs.declared.fault.CheckKind.TheVariants.{MemberClash}
 use Rattle.psdl_members.specs.Clashes.{has_clash}
 
 abbrev pub member_clash : List Declaration → ℕ → Declaration → List CheckFault
-member_clash all n d = fault_if (not (is_forward d.what) && has_whole_header all n && has_clash all n d.what) MemberClash d.place
+member_clash all n d = fault_if (not (is_forward d.what) && has_settled_header all n && has_clash all n d.what) MemberClash d.place

@@ -7,8 +7,8 @@ ghost use Rattle.psdl_members.specs.Texts.{inherited_in};
 ghost use Rattle.psdl_rules.specs.Faults.MemberClash as conditions;
 ghost use Rattle.psdl_rules.specs.Texts.{judged};
 
+use crate::settled::is_settled;
 use crate::text::Text;
-use crate::whole::is_whole;
 use psdl_directory::{CheckKind, DeclarationNo, Least};
 use psdl_members::Inherited;
 use pss_base::NoMemory;
@@ -30,8 +30,8 @@ fn member_clash_at(
     if !least.comes_first(CheckKind::MemberClash, place) {
         return Ok(());
     }
-    let is_whole = is_whole(text, number);
-    if !is_whole {
+    let is_settled = is_settled(text, number);
+    if !is_settled {
         return Ok(());
     }
     let clash = inherited.has_clash(alloc, number, text.what(number))?;

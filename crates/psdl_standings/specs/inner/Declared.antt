@@ -15,7 +15,7 @@ use Rattle.psdl_standings.specs.declared.body_faults.BodyFaults.{BodyFaults}
 use Rattle.psdl_standings.specs.declared.need.Need.TheVariants as needs
 use Rattle.psdl_standings.specs.declared.spot.Spot.{Spot}
 use Rattle.psdl_standings.specs.declared.state_entry.StateEntry.{StateEntry}
-use Rattle.psdl_standings.specs.declared.told.Told.{Told}
+use Rattle.psdl_standings.specs.declared.numbered_standing.NumberedStanding.{NumberedStanding}
 use Rattle.psdl_standings.specs.declared.walk.Walk.{Walk}
 use Rattle.psdl_standings.specs.Naming.{of_use, of_names, of_texts, of_strings_in, of_strings}
 use Rattle.psdl_standings.specs.Ranges.{of_bound, of_values_in, of_values}
@@ -101,14 +101,14 @@ within n own = record { limit = n + 1; number = n; own = own }
 -- ---- one declaration
 
 -- these names and bounds were walked, and this is what is told
-pub record Tells (old new : Walk) (spot : Spot) (us : List Use) (bs : List Bound) (standing : Standing) (told : Told) : Type 0 where
+pub record Tells (old new : Walk) (spot : Spot) (us : List Use) (bs : List Bound) (standing : Standing) (told : NumberedStanding) : Type 0 where
   pub goes : Goes old new
   pub noted : new.faults ≡ noted_in old spot us bs
   pub there : is_there (length new.types) told ≡ true
   pub is : stand new.types told ≡ standing
 
 -- a declaration was walked but for the type of its typedef, and this is what is told of it
-pub record IsTold (old new : Walk) (n : ℕ) (what : What) (told : Told) : Type 0 where
+pub record IsTold (old new : Walk) (n : ℕ) (what : What) (told : NumberedStanding) : Type 0 where
   pub goes : Goes old new
   pub noted : new.faults ≡ own_noted old n what
   pub there : is_there (length new.types) told ≡ true

@@ -11,8 +11,8 @@ use Rattle.psdl_directory.specs.Declarations.{Path, Declaration}
 use Rattle.psdl_directory.specs.Directories.{all_of}
 use Rattle.psdl_directory.specs.Fault.{fault, fault_if}
 use Rattle.psdl_directory.specs.Lookup.{as_is, lower, at, meaning, place_of}
-use Rattle.psdl_standings.specs.declared.told.Told.{Told}
-use Rattle.psdl_standings.specs.declared.told.Told.TheVariants.{Nothing}
+use Rattle.psdl_standings.specs.declared.numbered_standing.NumberedStanding.{NumberedStanding}
+use Rattle.psdl_standings.specs.declared.numbered_standing.NumberedStanding.TheVariants.{Nothing}
 use Rattle.psdl_standings.specs.declared.sight.Sight.{Sight}
 use Rattle.psdl_standings.specs.Uses.{Use}
 use Rattle.psdl_standings.specs.inner.Tellings.{value_told, is_number_told}
@@ -20,7 +20,7 @@ use Rattle.psdl_standings.specs.inner.Tellings.{value_told, is_number_told}
 -- a scope, where the first so many declarations stand, with what is told of them
 pub record Scene : Type 0 where
   pub all : List Declaration
-  pub told : List Told
+  pub told : List NumberedStanding
   pub limit : ℕ
   pub path : Path
   pub own : Option ℕ
@@ -40,14 +40,14 @@ abbrev pub means_alike : Scene → Name → Bool
 means_alike s name = is_some (meaning lower s.all s.limit s.path name)
 
 -- the value of the constant that a name stands for, by what it means
-abbrev pub value_meant : List Told → Option ℕ → Option ℤ
+abbrev pub value_meant : List NumberedStanding → Option ℕ → Option ℤ
 value_meant told meant = given meant None (λ n. value_told (get_or told n Nothing))
 
 abbrev pub value_at : Scene → Name → Option ℤ
 value_at s name = value_meant s.told (meant_at s name)
 
 -- it stands for none
-abbrev pub meant_faults : List Told → UseNode → List CheckFault
+abbrev pub meant_faults : List NumberedStanding → UseNode → List CheckFault
 meant_faults told u = given u.meant (fault (unknown_by u.wrong_case) u.place ∷ []) (λ n. fault_if (not (is_number_told (get_or told n Nothing))) WrongKind u.place)
 
 -- it stands for none

@@ -1,6 +1,6 @@
 use Rattle.std.proofs.Common.{◌≡◌, ◌++◌, ◌==◌, take, length}
 use Rattle.psdl_lineage.specs.Descent.{without_repeats}
-use Rattle.psdl_lineage.specs.inner.Contributing.{AreJoined}
+use Rattle.psdl_lineage.specs.inner.KeptSources.{AreJoined}
 use Rattle.psdl_lineage.proofs.joined.join.Given as goal
 
 abbrev pub invariant-loop-number : goal.invariant-loop-number

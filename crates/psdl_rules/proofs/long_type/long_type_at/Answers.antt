@@ -13,7 +13,7 @@ use Rattle.psdl_standings.specs.Standings.{standings}
 use Rattle.psdl_standings.specs.Texts.{text_of, types_in}
 use Rattle.psdl_rules.specs.Faults.Limit.{most_members, has_long_default}
 use Rattle.psdl_rules.specs.Texts.{judged}
-use Rattle.psdl_rules.specs.Words.{has_whole_header}
+use Rattle.psdl_rules.specs.Words.{has_settled_header}
 use Rattle.psdl_rules.specs.inner.Typed.{default_types, are_long}
 use Rattle.psdl_rules.proofs.Recording.{long_is, all_true}
 use Rattle.psdl_rules.proofs.long_type.long_type_at.Goals as goal
@@ -28,7 +28,7 @@ returns-clause-noted c =
     let kept = c.in_ok-kept.kept.items in
     let concrete = is_concrete_type d.what in
     let is : is_storage_type d.what ≡ true = cc (c.is_storage_type-is_type.ensures, ap is_storage_type c.what.ensures, c.if-not-is_type.false) in
-    let whole : (not (is_forward d.what) && has_whole_header all n) ≡ true = cc (c.is_whole-is_whole.ensures, c.if-not-is_whole.false) in
+    let settled : (not (is_forward d.what) && has_settled_header all n) ≡ true = cc (c.is_settled-is_settled.ensures, c.if-not-is_settled.false) in
     let long = nat_lt most_members (length (members all n)) || (concrete && has_long_default all (standings all) n) in
     let holds : c.is_long-holds.result ≡ long =
     c.is_long-holds.ensures
@@ -37,5 +37,5 @@ returns-clause-noted c =
     ∙ long_is told types n concrete kept c.in_ok-kept.ensures.types
     ∙ ap (λ (ds : List Declaration). nat_lt most_members (length (members ds n)) || (concrete && has_long_default ds (standings ds) n)) c.requires.told in
     c.note_if.ensures
-    ∙ ap (λ (b : Bool). noting c.args.least.now (fault_if b Limit c.place-place.result)) (holds ∙ all_true (is_storage_type d.what) (not (is_forward d.what)) (has_whole_header all n) long is whole)
-    ∙ ap (λ (p : Place). noting c.args.least.now (fault_if (is_storage_type d.what && not (is_forward d.what) && has_whole_header all n && long) Limit p)) c.place-place.ensures
+    ∙ ap (λ (b : Bool). noting c.args.least.now (fault_if b Limit c.place-place.result)) (holds ∙ all_true (is_storage_type d.what) (not (is_forward d.what)) (has_settled_header all n) long is settled)
+    ∙ ap (λ (p : Place). noting c.args.least.now (fault_if (is_storage_type d.what && not (is_forward d.what) && has_settled_header all n && long) Limit p)) c.place-place.ensures

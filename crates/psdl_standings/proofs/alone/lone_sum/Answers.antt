@@ -1,0 +1,6 @@
+use Rattle.std.proofs.Common.{sym, ◌∙◌}
+use Rattle.psdl_standings.proofs.Alone.{shift_not_alone}
+use Rattle.psdl_standings.proofs.alone.lone_sum.Goals as goal
+
+pub returns : goal.returns
+returns c = shift_not_alone c.args.shift.now (sym c.is_empty.ensures ∙ c.if-is_empty.false)

@@ -1,6 +1,0 @@
-use Rattle.std.proofs.Common.{sym, ◌∙◌}
-use Rattle.psdl_standings.proofs.Alone.{product_not_alone}
-use Rattle.psdl_standings.proofs.whole.lone_unary.Goals as goal
-
-pub returns : goal.returns
-returns c = product_not_alone c.args.product.now (sym c.is_empty.ensures ∙ c.if-is_empty.false)

@@ -34,3 +34,9 @@ pub mod FewHomes
 pub mod FewMembers
 pub mod FaultlessTexts
 pub mod Meanings
+pub mod Fronts
+pub mod FirstDeclarators
+pub mod ComposedTypes
+pub mod StandingTypes
+pub mod MemberTypes
+pub mod SmallLayouts

@@ -20,6 +20,7 @@ pub mod NextHomes
 pub mod NumbersIn
 pub mod Referring
 pub mod Rising
+pub mod SmallTypes
 pub mod Stated
 pub mod Texts
 pub mod TypedMembers

@@ -39,6 +39,7 @@ fn schema_of<'t, 'd>(
     headers: &'t [Header],
 ) -> Result<Verdict, NoMemory>
     requires headers { headers.now ≡ of.headers (text_of lineage.now) }
+    requires turn { AreInTurn (text_of lineage.now) }
     requires one { told.text_of standings.now ≡ text_of lineage.now }
     requires sound { least (faults (text_of lineage.now)) ≡ None }
     ensures { IfOk result (λ v. IsVerdict (text_of lineage.now) v) }
@@ -61,6 +62,7 @@ fn judge_text<'t, 'd>(
     headers: &'t [Header],
 ) -> Result<Verdict, NoMemory>
     requires headers { headers.now ≡ of.headers (text_of lineage.now) }
+    requires turn { AreInTurn (text_of lineage.now) }
     requires one { told.text_of standings.now ≡ text_of lineage.now }
     ensures { IfOk result (λ v. IsVerdict (text_of lineage.now) v) }
 {

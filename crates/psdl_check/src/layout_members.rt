@@ -3,10 +3,12 @@ ghost use Rattle.std.specs.Prelude.{◌≡◌, ◌+◌, ◌++◌, ◌∷◌, [],
 ghost use Rattle.std.specs.List.{flat_map};
 ghost use Rattle.type_layout.specs.ShapeText.{member_line};
 ghost use Rattle.type_layout.specs.Views.{plain_type};
+ghost use Rattle.psdl_standings.specs.SmallTypes.{IsSmall};
 ghost use Rattle.psdl_standings.specs.TextLengths.{cut, text_length};
 ghost use Rattle.psdl_check.specs.inner.LineLengths.{line_length};
 ghost use Rattle.psdl_check.specs.inner.Lists.{homes_in};
 ghost use Rattle.psdl_check.specs.inner.MemberLines.{members_behind};
+ghost use Rattle.psdl_check.specs.inner.SmallTypes.{HasSmallTypes};
 ghost use Rattle.psdl_check.specs.inner.TypedMembers.{type_by, typed_view, typed_views, typed_names, IsTyped, AreTyped};
 
 use crate::line_lengths::{member_line_length, reference_length};
@@ -84,7 +86,8 @@ fn built_type(
     referents: &Referents,
     member_type: MemberType,
 ) -> Result<Ty, NoMemory>
-    requires { IsTyped (length types.now) member_type }
+    requires typed { IsTyped (length types.now) member_type }
+    requires small { IsSmall (type_by types.now (homes_in referents.now) member_type) }
     ensures { IfOk result (λ t. plain_type t ≡ type_by types.now (homes_in referents.now) member_type) }
 {
     match member_type {
@@ -102,7 +105,8 @@ fn add_member(
     list: &mut Members,
     member: &TypedMember<'_>,
 ) -> Result<(), NoMemory>
-    requires { IsTyped (length types.now) member.now.member_type }
+    requires typed { IsTyped (length types.now) member.now.member_type }
+    requires small { IsSmall (type_by types.now (homes_in referents.now) member.now.member_type) }
     ensures { OnOk result (list.new ≡ list.old ++ typed_view types.now (homes_in referents.now) member.now ∷ []) }
 {
     let ty = built_type(alloc, types, referents, member.member_type)?;
@@ -122,7 +126,8 @@ pub(crate) fn member_list(
     referents: &Referents,
     members: &[TypedMember<'_>],
 ) -> Result<Members, NoMemory>
-    requires { AreTyped (length types.now) members.now }
+    requires typed { AreTyped (length types.now) members.now }
+    requires small { HasSmallTypes (typed_views types.now (homes_in referents.now) members.now) }
     ensures { IfOk result (λ list. list ≡ typed_views types.now (homes_in referents.now) members.now) }
 {
     let mut list = Members::new(alloc);

@@ -1,4 +1,5 @@
 // The text that a schema is made of.
+ghost use Rattle.std.proofs.Props.{props};
 ghost use Rattle.std.specs.Prelude.{◌≡◌};
 ghost use Rattle.psdl_directory.specs.Headers as of;
 ghost use Rattle.psdl_lineage.specs.Lineages.{text_of};
@@ -6,6 +7,7 @@ ghost use Rattle.psdl_lineage.specs.Graph.{graph_of};
 ghost use Rattle.psdl_check.specs.inner.FewMembers.{HasFewMembers};
 ghost use Rattle.psdl_check.specs.inner.HomeNos.{home_nos};
 ghost use Rattle.psdl_check.specs.inner.Rising.{IsRising};
+ghost use Rattle.psdl_check.specs.inner.SmallTypes.{AreSmallLayouts, small_prop};
 
 use crate::home_numbers::home_numbers;
 use psdl_directory::{DeclarationNo, Directory, Header, Use};
@@ -25,6 +27,7 @@ pub(crate) struct Text<'t, 'd> {
     ghost headed: { headers.now ≡ of.headers (text_of lineage.now) },
     ghost rising: { IsRising (graph_of (text_of lineage.now)) },
     ghost few: { HasFewMembers (text_of lineage.now) },
+    ghost small: { AreSmallLayouts (text_of lineage.now) } by { Prim.hlevel (small_prop, props) },
     ghost numbered: { numbers.items ≡ home_nos (text_of lineage.now) },
 }
 
@@ -37,6 +40,7 @@ impl<'t, 'd> Text<'t, 'd> {
     ghost use Rattle.psdl_check.specs.inner.FewMembers.{HasFewMembers};
     ghost use Rattle.psdl_check.specs.inner.HomeNos.{HasFewHomes};
     ghost use Rattle.psdl_check.specs.inner.Rising.{IsRising};
+    ghost use Rattle.psdl_check.specs.inner.SmallTypes.{AreSmallLayouts};
     ghost use Rattle.psdl_lineage.specs.Lineages.{text_of};
     ghost use Rattle.psdl_standings.specs.Texts as told;
     ghost use Rattle.psdl_check.specs.Schemas.{home_no};
@@ -53,6 +57,7 @@ impl<'t, 'd> Text<'t, 'd> {
         requires rising { IsRising (graph_of (text_of lineage.now)) }
         requires few { HasFewHomes (text_of lineage.now) }
         requires members { HasFewMembers (text_of lineage.now) }
+        requires small { AreSmallLayouts (text_of lineage.now) }
         ensures text { IfOk result (λ t. text_in t ≡ text_of lineage.now) }
         ensures told { IfOk result (λ t. told_in t ≡ told.text_of standings.now) }
     {

@@ -34,7 +34,7 @@ use Rattle.psdl_sound.proofs.Expressions.{expressions_at, AreSmallAt}
 use Rattle.psdl_sound.proofs.Among.{Among, among_front, among_behind, among_flat, among_from, among_image, among_map, each_of_all}
 use Rattle.psdl_sound.proofs.BaseLines.{IsConcrete}
 use Rattle.psdl_check.proofs.FaultlessTexts.{both_empty, does_not_hold, no_fault_at}
-use Rattle.psdl_sound.proofs.FirstDeclarators.{IsFineBound, size_told}
+use Rattle.psdl_sound.proofs.ToldSizes.{IsFineBound, size_told}
 use Rattle.psdl_sound.proofs.CompleteStandings.{type_use, grounded}
 use Rattle.psdl_sound.proofs.KeyTypes.{IsLaid, concrete_whole}
 use Rattle.psdl_sound.proofs.MemberLists.{ancestor_declared}

@@ -28,8 +28,10 @@ use Rattle.psdl_sound.proofs.Expressions.{expressions_at, AreSmallAt}
 use Rattle.psdl_sound.proofs.Among.{Among, among_front, among_behind, among_image, each_of_all}
 use Rattle.psdl_sound.proofs.Bases.{means_first}
 use Rattle.psdl_check.proofs.FaultlessTexts.{does_not_hold, none_given, no_fault_at}
-use Rattle.psdl_sound.proofs.Fronts.{front, front_same, size_same}
-use Rattle.psdl_sound.proofs.FirstDeclarators.{IsFirst, first_declarator, first_of_all, alias_is, type_as, no_number_type, no_number_of, IsGrounded, sight_same, IsFineBound, size_told}
+use Rattle.psdl_check.proofs.FirstDeclarators.{IsFirst, first_declarator, alias_is}
+use Rattle.psdl_check.proofs.Fronts.{front, front_same, sight_same, size_same}
+use Rattle.psdl_check.proofs.StandingTypes.{no_number_of}
+use Rattle.psdl_sound.proofs.ToldSizes.{type_as, no_number_type, IsGrounded, IsFineBound, size_told}
 use Rattle.psdl_sound.proofs.Parents.{none_among}
 use Rattle.psdl_sound.proofs.PresentTypes.{spec_there, arrays_there, struct_there, then_some}
 use Rattle.psdl_sound.proofs.ToldValues.{use_told, value_told}
@@ -205,7 +207,7 @@ module _ (tree : Definitions) (all : List Declaration) (whole : all ≡ all_decl
         let what : What = IsAlias before spec dimensions in
         let o : Option PlainType = option_and_then (arrays_by (front_sight (i + 1)) dimensions) (spec_by (front_sight (i - before)) spec) in
         let here : standing (standings all) i ≡ as_type o = standing_here what is in
-        let first = first_declarator all (subst (λ (l : List Declaration). AreInTurn l) (sym whole) (are_in_turn tree)) (ap (λ (l : List Declaration). before_of (at l 0).what) whole ∙ first_of_all tree) before i spec inside
+        let first = first_declarator all (subst (λ (l : List Declaration). AreInTurn l) (sym whole) (are_in_turn tree)) before i spec inside
         (ap before_of is) (ap spec_of is) in
         let m : ℕ = first.0 in
         let f : IsFirst all i before m spec = first.1 in

@@ -8,8 +8,6 @@ mod ScopedSpellings
 mod ScopedNames
 mod DefaultRecords
 mod FineTypes
-mod Fronts
-mod ComposedTypes
 mod Enumerators
 mod FineStandings
 mod SoundLayouts
@@ -40,7 +38,7 @@ mod Values
 mod PresentTypes
 mod ToldValues
 mod Expressions
-mod FirstDeclarators
+mod ToldSizes
 mod CompleteStandings
 mod CompleteLayouts
 mod SoundCatalogs

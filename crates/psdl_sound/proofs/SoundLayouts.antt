@@ -1,32 +1,28 @@
 -- The types of the members of homes in the schema of a text without a fault are sound, and their references lead to homes.
-use Rattle.std.proofs.Common.{◌≡◌, ℕ, zero, suc, ◌+◌, ◌≤◌, List, [], ◌∷◌, ◌++◌, length, map, Option, Some, None, refl, sym, ap, subst, ◌∙◌, arith, length-append}
+use Rattle.std.proofs.Common.{◌≡◌, ℕ, zero, suc, ◌+◌, ◌≤◌, List, [], ◌∷◌, ◌++◌, length, Some, None, sym, ap, subst, ◌∙◌, arith, length-append}
 use Rattle.std.specs.Prelude.{codes}
 use Rattle.std.specs.List.{flat_map, slice_get}
 use Rattle.std.specs.Option.{option_map}
 use Rattle.std.proofs.lemmas.Option.{slice_get-map}
-use Rattle.psdl_tree.specs.Trees.{Definitions, StateType, PlainState, Reference}
+use Rattle.psdl_tree.specs.Trees.{Definitions}
 use Rattle.type_layout.specs.declared.schema.Home.{Home}
 use Rattle.type_layout.specs.declared.schema.Schema.{Schema}
 use Rattle.type_layout.specs.ShapeText.{type_text, member_line, home_line, key_line, home_lines, lines_from}
 use Rattle.type_layout.specs.Sound.{EachMember, IsSoundLayout, StaysWithin}
-use Rattle.type_layout.specs.Types.{PlainType, RefTo, PlainMember}
+use Rattle.type_layout.specs.Types.{PlainMember}
 use Rattle.psdl_directory.specs.Declarations.{Declaration, all_declarations}
-use Rattle.psdl_lineage.specs.Descent.{StateMember, members, concrete_homes}
+use Rattle.psdl_lineage.specs.Descent.{concrete_homes}
 use Rattle.psdl_check.specs.Faults.{first_fault}
 use Rattle.psdl_rules.specs.Faults.Limit.{most_shape}
-use Rattle.psdl_standings.specs.StateTypes.{state_type_by}
-use Rattle.psdl_rules.specs.Layouts.{member_type, layout_member}
-use Rattle.psdl_directory.specs.Lookup.{at, defined}
 use Rattle.psdl_check.specs.Schemas.{home_layout, home_of, referents, schema}
-use Rattle.psdl_standings.specs.Standings.{sight, standings}
+use Rattle.psdl_standings.specs.Standings.{standings}
 use Rattle.psdl_check.specs.TextNames.{AreNames}
-use Rattle.psdl_sound.proofs.ComposedTypes.{plain_fine}
-use Rattle.psdl_sound.proofs.FineTypes.{IsFine, reference_fine}
+use Rattle.psdl_check.proofs.MemberTypes.{layout_holds}
+use Rattle.psdl_sound.proofs.FineTypes.{IsFine, AreFine, fine_handed_on, reference_fine}
 use Rattle.psdl_sound.proofs.Homes.{IsHome, homes_of, homes_count}
-use Rattle.psdl_check.proofs.FewMembers.{each_there, each_layout}
 use Rattle.psdl_sound.proofs.HomeNumbers.{referents_rise, referents_stay}
 use Rattle.psdl_sound.proofs.ShapeTexts.{short_shape}
-use Rattle.psdl_sound.proofs.FineStandings.{IsFineAt, all_names, all_fine}
+use Rattle.psdl_sound.proofs.FineStandings.{no_value_fault, all_fine}
 
 -- ---- the text of a type is part of the shape
 
@@ -69,50 +65,14 @@ short_text all none k n home i m is =
       short_shape all none,
     )
 
--- ---- the types of members
-
-module _ (most : ℕ) (all : List Declaration) (enough : most ≡ length (concrete_homes all)) (fine : (m : ℕ) → IsFineAt most all m) where
-  abbrev state_type : StateMember → StateType → Option PlainType
-  state_type m state = state_type_by (sight all (standings all) (m.home + 1) (at all m.home).path) (λ name. option_map (referents all) (defined all m.home name)) state
-
-  state_fine : (m : StateMember) (state : StateType) (t : PlainType) → state_type m state ≡ Some t → IsFine most t
-  state_fine m (PlainState plain) t is = plain_fine most (sight all (standings all) (m.home + 1) (at all m.home).path) (all_names most all fine (m.home + 1) (at all m.home).path) plain t is
-  state_fine m (Reference name) t is = by (defined all m.home name) is
-    where
-      by : (o : Option ℕ) → option_map RefTo (option_map (referents all) o) ≡ Some t → IsFine most t
-      by None e = absurd (cc)
-      by (Some u) e =
-          let one : RefTo (referents all u) ≡ t = cc in
-          subst (λ (x : PlainType). IsFine most x) one (reference_fine most (referents all u) (referents_rise all u) (rw enough (referents_stay all u)))
-
-  member_fine : (s : StateMember) (p : PlainMember) → layout_member all (standings all) (referents all) s ≡ Some p → IsFine most p.type
-  member_fine s p is = by (member_type all (standings all) (referents all) s) (state_fine s s.state_type) is
-    where
-      by : (o : Option PlainType) → ((t : PlainType) → o ≡ Some t → IsFine most t) → option_map (λ t. record { name = s.name.name; type = t; readonly = s.readonly }) o ≡ Some p → IsFine most p.type
-      by None h e = absurd (cc)
-      by (Some t) h e =
-          let made : PlainMember = record { name = s.name.name; type = t; readonly = s.readonly } in
-          let one : made ≡ p = cc in
-          subst (λ (x : PlainMember). IsFine most x.type) one (h t refl)
-
-  each_fine : (sms : List StateMember) (ms : List PlainMember) → map (layout_member all (standings all) (referents all)) sms ≡ map (λ m. Some m) ms → EachMember ms (λ m. IsFine most m.type)
-  each_fine sms [] is i m at = absurd (cc)
-  each_fine [] (p ∷ ms) is i m at = absurd (cc)
-  each_fine (s ∷ sms) (p ∷ ms) is zero m at =
-      let same : p ≡ m = cc in
-      subst (λ (x : PlainMember). IsFine most x.type) same (member_fine s p (cc))
-  each_fine (s ∷ sms) (p ∷ ms) is (suc i) m at = each_fine sms ms (cc) i m at
-
-  layout_fine : (n : ℕ) → EachMember (home_layout all (standings all) n) (λ m. IsFine most m.type)
-  layout_fine n =
-      each_layout all n (λ ms. EachMember ms (λ m. IsFine most m.type)) (λ i m at. absurd (cc))
-      (λ t ms has. each_fine (members all t) ms (each_there (map (layout_member all (standings all) (referents all)) (members all t)) ms has.is_layout))
-
 -- ---- layouts and references
 
 module _ (tree : Definitions) (all : List Declaration) (whole : all ≡ all_declarations tree) (none : first_fault all ≡ None) (names : AreNames all) where
   members_fine : (n : ℕ) → EachMember (home_layout all (standings all) n) (λ m. IsFine (length (concrete_homes all)) m.type)
-  members_fine n = layout_fine (length (concrete_homes all)) all refl (all_fine (length (concrete_homes all)) tree all whole none names) n
+  members_fine n =
+      let most : ℕ = length (concrete_homes all) in
+      layout_holds (IsFine most) (AreFine most) (fine_handed_on most) all (no_value_fault all none) (all_fine most tree all whole none names)
+      (λ u. reference_fine most (referents all u) (referents_rise all u) (referents_stay all u)) n
 
   -- the type of each member of a home is sound
   pub sound_layouts : (k n : ℕ) → IsHome all k n → IsSoundLayout (home_layout all (standings all) n)

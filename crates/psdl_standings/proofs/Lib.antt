@@ -1,8 +1,8 @@
-pub mod Alone
 pub mod Beginning
 pub mod Below
 pub mod Assessing
 pub mod Operands
+pub mod Operators
 pub mod Ranging
 pub mod Linking
 pub mod Goings
@@ -10,6 +10,7 @@ pub mod Parted
 pub mod Own
 pub mod Lettering
 pub mod Numbered
+pub mod SmallTypes
 pub mod Arrayed
 pub mod Valued
 pub mod Bodied

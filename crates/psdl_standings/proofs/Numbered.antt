@@ -43,11 +43,11 @@ there done (x ∷ xs) n lt = there (with_node done x) xs n (omega (arith, lt, le
 
 -- ---- what a node makes of the types in front of it
 
-both_true : (a b : Bool) → IsTrue (a && b) → IsTrue a × IsTrue b
+pub both_true : (a b : Bool) → IsTrue (a && b) → IsTrue a × IsTrue b
 both_true true b h = (refl, h)
 both_true false b h = cc
 
-below : (a b : ℕ) → IsTrue (nat_lt a b) → a < b
+pub below : (a b : ℕ) → IsTrue (nat_lt a b) → a < b
 below a b h = grind arith
 
 fields_kept : (old new : List PlainType) (fs : List FieldNode) → IsTrue (list_all (λ f. nat_lt f.item (length old)) fs) → ((n : ℕ) → n < length old → type_at new n ≡ type_at old n)

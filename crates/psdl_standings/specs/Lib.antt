@@ -9,6 +9,7 @@ pub mod Nesting
 pub mod Depths
 pub mod Selves
 pub mod States
+pub mod SmallTypes
 pub mod Extents
 pub mod Turns
 pub mod TextLengths

@@ -1,5 +1,5 @@
 // Types by number, each made of types with lower numbers.
-ghost use Rattle.std.specs.Prelude.{◌≡◌, ◌++◌, ◌∷◌, [], map, IfOk, OnOk};
+ghost use Rattle.std.specs.Prelude.{◌≡◌, ◌<◌, ◌^◌, ◌++◌, ◌∷◌, [], map, IfOk, OnOk};
 ghost use Rattle.psdl_tree.specs.Views.{identifiers_view};
 ghost use Rattle.psdl_directory.specs.Declarations.{all_identifiers};
 
@@ -109,6 +109,7 @@ impl<'a> Types<'a> {
     ghost use Rattle.std.specs.List.{list_all};
     ghost use Rattle.type_layout.specs.Types.{Struct, fields_of};
     ghost use Rattle.type_layout.specs.Views.{plain_type, plain_fields};
+    ghost use Rattle.psdl_standings.specs.SmallTypes.{IsSmall, AreSmall};
     ghost use Rattle.psdl_standings.specs.Standings.{StandsForType};
     ghost use Rattle.psdl_standings.specs.Uses.{may_be_constant};
     ghost use Rattle.psdl_standings.specs.inner.Classes.{IsClass};
@@ -258,10 +259,11 @@ impl<'a> Types<'a> {
         &self.nodes[number]
     }
 
-    /// The type with that number. Want of memory comes also where a bound or a number of items takes more than 32 bits.
+    /// The type with that number.
     #[cycle(build)]
     pub fn build(&self, alloc: Global, number: usize) -> Result<Ty, NoMemory>
-        requires { number < length self.now }
+        requires number { number < length self.now }
+        requires small { IsSmall (type_at self.now number) }
         ensures { IfOk result (λ t. plain_type t ≡ type_at self.now number) }
     {
         match self.node(number) {
@@ -274,14 +276,14 @@ impl<'a> Types<'a> {
             Node::Char => Ok(Ty::Char),
             Node::Boolean => Ok(Ty::Boolean),
             Node::Octet => Ok(Ty::Octet),
-            Node::Text(bound) => Ok(Ty::Str(count_of(*bound)?)),
+            Node::Text(bound) => Ok(Ty::Str(count_of(*bound))),
             Node::Sequence(item, bound) => {
-                let most = count_of(*bound)?;
+                let most = count_of(*bound);
                 let item = self.build(alloc, *item)?;
                 Ok(Ty::Seq(Box::new(alloc, item)?, most))
             }
             Node::Array(item, size) => {
-                let count = count_of(*size)?;
+                let count = count_of(*size);
                 let item = self.build(alloc, *item)?;
                 Ok(Ty::Arr(Box::new(alloc, item)?, count))
             }
@@ -300,6 +302,7 @@ impl<'a> Types<'a> {
     ) -> Result<Fields, NoMemory>
         requires limit { limit ≤ length self.now }
         requires fields { IsTrue (list_all (λ f. nat_lt f.item limit) fields.now) }
+        requires small { AreSmall (fields_of (map (field_type self.now) fields.now)) }
         ensures { IfOk result (λ built. plain_fields built ≡ map (field_type self.now) fields.now) }
     {
         let mut built = Fields::new(alloc);
@@ -313,13 +316,11 @@ impl<'a> Types<'a> {
 }
 
 // A bound or a number of items, in the 32 bits that a schema has for it.
-fn count_of(number: u128) -> Result<u32, NoMemory>
-    ensures { IfOk result (λ count. count ≡ number) }
+fn count_of(number: u128) -> u32
+    requires { number < 2 ^ 32 }
+    ensures { result ≡ number }
 {
-    match u32::try_from(number) {
-        Ok(count) => Ok(count),
-        Err(_) => Err(NoMemory),
-    }
+    number as u32
 }
 
 fn add_name(names: &mut Names, identifier: &Identifier) -> Result<(), NoMemory>

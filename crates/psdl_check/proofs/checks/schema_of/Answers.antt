@@ -9,6 +9,7 @@ use Rattle.psdl_check.proofs.FewHomes.{few_homes}
 use Rattle.psdl_check.proofs.FewMembers.{few_members}
 use Rattle.psdl_check.proofs.InFront.{rising_of}
 use Rattle.psdl_check.proofs.Judging.{whole_is, too_long_is}
+use Rattle.psdl_check.proofs.SmallLayouts.{small_layouts}
 use Rattle.psdl_check.proofs.checks.schema_of.Goals as goal
 
 pub returns-in-Whole : goal.returns-in-Whole
@@ -37,3 +38,8 @@ pub new-requires-clause-members : goal.new-requires-clause-members
 new-requires-clause-members c n =
     let all = text_of c.args.lineage.now in
     few_members all (nothing_least (faults all) c.requires.sound) n
+
+pub new-requires-clause-small : goal.new-requires-clause-small
+new-requires-clause-small c n =
+    let all = text_of c.args.lineage.now in
+    small_layouts all c.requires.turn (nothing_least (faults all) c.requires.sound) n

@@ -1,13 +1,21 @@
-use Rattle.std.proofs.Common.{◌∙◌, List, ap, subst}
+use Rattle.std.proofs.Common.{◌∙◌, List, ap, subst, sym}
 use Rattle.psdl_directory.specs.Declarations.{Declaration}
-use Rattle.type_layout.specs.Types.{PlainType}
+use Rattle.type_layout.specs.Types.{PlainMember, PlainType}
 use Rattle.psdl_standings.specs.Texts.{types_in}
 use Rattle.psdl_check.specs.inner.Lists.{homes_in}
 use Rattle.psdl_check.specs.inner.Made.{AreFactories}
+use Rattle.psdl_check.specs.inner.SmallTypes.{HasSmallTypes}
 use Rattle.psdl_check.specs.inner.TypedMembers.{typed_names, typed_views}
 use Rattle.psdl_check.specs.inner.Texts.{text_in}
 use Rattle.psdl_check.proofs.Homing.{home_is}
 use Rattle.psdl_check.proofs.homes.home_record.Goals as goal
+
+pub member_list-requires-clause-small : goal.member_list-requires-clause-small
+member_list-requires-clause-small c =
+    let homes = homes_in c.args.laid.referents in
+    subst (λ (ms : List PlainMember). HasSmallTypes ms)
+    (sym (ap (λ (ts : List PlainType). typed_views ts homes c.deref-2.result.now) c.types.ensures ∙ ap (typed_views (types_in c.args.text.now.standings.now) homes) c.deref-2.ensures.value ∙ c.requires.laid.members))
+    (c.args.text.now.small c.args.home)
 
 pub returns-clause-home : goal.returns-clause-home
 returns-clause-home c numbered =

@@ -1,5 +1,5 @@
 use Rattle.std.proofs.Common.{sym, ◌∙◌}
-use Rattle.psdl_standings.proofs.Alone.{xor_not_alone}
+use Rattle.psdl_standings.proofs.Operators.{xor_not_alone}
 use Rattle.psdl_standings.proofs.alone.lone_and.Goals as goal
 
 pub returns : goal.returns

@@ -1,5 +1,5 @@
 use Rattle.std.proofs.Common.{sym, ◌∙◌}
-use Rattle.psdl_standings.proofs.Alone.{sum_not_alone}
+use Rattle.psdl_standings.proofs.Operators.{sum_not_alone}
 use Rattle.psdl_standings.proofs.alone.lone_product.Goals as goal
 
 pub returns : goal.returns

@@ -1,5 +1,5 @@
 use Rattle.std.proofs.Common.{sym, ◌∙◌}
-use Rattle.psdl_standings.proofs.Alone.{and_not_alone}
+use Rattle.psdl_standings.proofs.Operators.{and_not_alone}
 use Rattle.psdl_standings.proofs.alone.lone_shift.Goals as goal
 
 pub returns : goal.returns

@@ -1,5 +1,5 @@
 use Rattle.std.proofs.Common.{sym, ◌∙◌}
-use Rattle.psdl_standings.proofs.Alone.{shift_not_alone}
+use Rattle.psdl_standings.proofs.Operators.{shift_not_alone}
 use Rattle.psdl_standings.proofs.alone.lone_sum.Goals as goal
 
 pub returns : goal.returns

@@ -1,5 +1,5 @@
 use Rattle.std.proofs.Common.{sym, ◌∙◌}
-use Rattle.psdl_standings.proofs.Alone.{product_not_alone}
+use Rattle.psdl_standings.proofs.Operators.{product_not_alone}
 use Rattle.psdl_standings.proofs.alone.lone_unary.Goals as goal
 
 pub returns : goal.returns

@@ -1,5 +1,5 @@
 use Rattle.std.proofs.Common.{sym, ◌∙◌}
-use Rattle.psdl_standings.proofs.Alone.{expression_not_alone}
+use Rattle.psdl_standings.proofs.Operators.{expression_not_alone}
 use Rattle.psdl_standings.proofs.alone.lone_xor.Goals as goal
 
 pub returns : goal.returns

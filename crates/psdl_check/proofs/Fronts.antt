@@ -45,6 +45,19 @@ pub nothing_past : (all : List Declaration) (m : ℕ) → length all ≤ m → s
 unfolding standings
 nothing_past all m le = get_or_past (standings_after all [] all) m Nothing (omega (arith, le, as_many all [] all))
 
+-- ---- names
+
+-- names of a scope stand for the same in front as in the whole text
+pub sight_same : (all : List Declaration) (i limit : ℕ) (path : Path) → i < length all → limit ≤ i → sight all (front all i) limit path ≡ sight all (standings all) limit path
+sight_same all i limit path inside low = fun_ext each
+  where
+    each : (name : Name) → sight all (front all i) limit path name ≡ sight all (standings all) limit path name
+    each name = by (meaning as_is all limit path name) (meaning_less as_is all limit path name)
+      where
+        by : (o : Option ℕ) → ((m : ℕ) → o ≡ Some m → m < limit) → given o Nothing (λ n. standing (front all i) n) ≡ given o Nothing (λ n. standing (standings all) n)
+        by None h = refl
+        by (Some m) h = front_same all i m (omega (arith, h m refl, low)) inside
+
 -- ---- numbers
 
 module _ (all : List Declaration) (i limit : ℕ) (path : Path) (inside : i < length all) (low : limit ≤ i + 1) (none : number_of (standing (standings all) i) ≡ None) where

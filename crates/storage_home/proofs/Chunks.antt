@@ -14,13 +14,13 @@ use Rattle.storage_home.specs.Rows.{Chunks, number_at, chunk_at, cell_in, row_at
 use Rattle.storage_home.proofs.Places.{by_test, same_number}
 
 -- two serials of one chunk are one where they have one place
-one_place : (s q : ℕ) → s / 64 ≡ q / 64 → (s % 64 == q % 64) ≡ (s == q)
+pub one_place : (s q : ℕ) → s / 64 ≡ q / 64 → (s % 64 == q % 64) ≡ (s == q)
 one_place s q near =
     by_test (λ b. (s == q) ≡ b → (s % 64 == q % 64) ≡ b) (s == q) (λ _ same. eq-eqb (s % 64) (q % 64) (ap (λ k. k % 64) (same_number s q same)))
     (λ _ apart. by_test (λ b. (s % 64 == q % 64) ≡ b → b ≡ false) (s % 64 == q % 64) (λ _ e. (let place = same_number (s % 64) (q % 64) e in let same : s ≡ q = omega (arith, near, place) in sym (eq-eqb s q same) ∙ apart)) (λ _ _. refl) refl)
     refl
 
-far_apart : (s q : ℕ) → (s / 64 == q / 64) ≡ false → (s == q) ≡ false
+pub far_apart : (s q : ℕ) → (s / 64 == q / 64) ≡ false → (s == q) ≡ false
 far_apart s q far = by_test (λ b. (s == q) ≡ b → b ≡ false) (s == q) (λ _ same. sym (eq-eqb (s / 64) (q / 64) (ap (λ k. k / 64) (same_number s q same))) ∙ far) (λ _ _. refl) refl
 
 module _ (old new : Chunks) (s : ℕ) (row : Option Row) where

@@ -1,14 +1,13 @@
 -- The extents of all homes, where that of one home changes.
-use Rattle.std.proofs.Common.{ℕ, zero, suc, ◌-◌, ◌≡◌, ◌<◌, ◌≤◌, ◌==◌, List, length, Some, None, is_some, Bool, true, false, inl, inr, cond, set, get_or, refl, sym, ap, ◌∙◌, arith}
+use Rattle.std.proofs.Common.{ℕ, zero, suc, ◌-◌, ◌≡◌, ◌<◌, ◌≤◌, ◌==◌, List, length, Some, None, Bool, true, false, inl, inr, cond, set, get_or, refl, sym, ap, ◌∙◌, arith}
 use Rattle.std.specs.Prelude.{◌&&◌}
-use Rattle.std.specs.BTreeMap.{BTreeMap, is_at}
-use Rattle.std.specs.Cmp.{unsigned_ties}
-use Rattle.std.specs.Ordering.{nat_cmp}
+use Rattle.std.specs.BTreeMap.{BTreeMap}
 use Rattle.std.proofs.lemmas.Option.{slice_get_past}
 use Rattle.type_layout.specs.Schemas.{given, nth}
 use Rattle.pss_catalog.proofs.Forest.{Compared, compared}
-use Rattle.storage_home.specs.Extents.{flag_at, is_held_at, is_entered_at, is_entered_in, TurnsHeld, KeepsHeld, TurnsEntered, KeepsEntered}
-use Rattle.storage_home.proofs.Places.{by_test, same_number, part_kept, part_turned}
+use Rattle.storage_home.specs.declared.extents.Block.{Block}
+use Rattle.storage_home.specs.Extents.{is_entered_at, is_entered_in}
+use Rattle.storage_home.proofs.Places.{by_test, same_number}
 use Rattle.storage_home.proofs.Raising.{nth_set, nth_here}
 
 module _ {X : Type 0} (part : X → ℕ → Bool) (xs : List X) (home : ℕ) (pos : 0 < home) (there : home ≤ length xs) (d new : X) where
@@ -37,7 +36,7 @@ nth_past : {X : Type 0} (xs : List X) (home : ℕ) → length xs < home → nth 
 nth_past xs zero over = absurd (omega (arith, over))
 nth_past xs (suc h) over = slice_get_past xs h (omega (arith, over))
 
-module _ (extents : List (BTreeMap ℕ Bool)) where
+module _ (extents : List (BTreeMap ℕ Block)) where
   pub entered_some : (home s : ℕ) → is_entered_in extents home s ≡ true → 0 < home
   entered_some zero s has = cc
   entered_some (suc h) s has = omega arith
@@ -48,25 +47,4 @@ module _ (extents : List (BTreeMap ℕ Bool)) where
       by : Compared home (length extents) → home ≤ length extents
       by (inl less) = omega (arith, less)
       by (inr (inl is)) = omega (arith, is)
-      by (inr (inr more)) = let none = sym has ∙ ap (λ o. given o false (λ (e : BTreeMap ℕ Bool). is_entered_at s e.entries)) (nth_past extents home more) in cc
-
--- ---- one extent, in which a serial is entered with no object
-
-module _ (old mid : List (ℕ × Bool)) (serial : ℕ) (updates : (q : ℕ) → flag_at q mid ≡ cond (is_at (nat_cmp serial) q) (Some false) (flag_at q old)) where
-  flags : (q : ℕ) → flag_at q mid ≡ cond (serial == q) (Some false) (flag_at q old)
-  flags q = updates q ∙ ap (λ b. cond b (Some false) (flag_at q old)) (sym (unsigned_ties serial q))
-
-  pub entered_then : (new : List (ℕ × Bool)) → KeepsEntered mid new → TurnsEntered old new serial true
-  entered_then new keeps q = keeps q ∙ part_turned is_some (λ q. flag_at q old) (λ q. flag_at q mid) serial (Some false) flags q
-
-  -- its object is told again where it was there
-  pub held_again : (new : List (ℕ × Bool)) (is_held : Bool) → Some is_held ≡ flag_at serial old → TurnsHeld mid new serial is_held → KeepsHeld old new
-  held_again new is_held was turns q =
-      turns q
-      ∙ by_test (λ b. (serial == q) ≡ b → cond b is_held (is_held_at q mid) ≡ is_held_at q old) (serial == q)
-      (λ _ here. ap (λ o. given o false (λ b. b)) was ∙ ap (λ (s : ℕ). is_held_at s old) (same_number serial q here))
-      (λ _ apart. ap (λ o. given o false (λ b. b)) (flags q ∙ ap (λ b. cond b (Some false) (flag_at q old)) apart))
-      refl
-
-  pub held_still : None ≡ flag_at serial old → KeepsHeld old mid
-  held_still none = part_kept (λ o. given o false (λ b. b)) (λ q. flag_at q old) (λ q. flag_at q mid) serial (Some false) flags (ap (λ o. given o false (λ b. b)) none)
+      by (inr (inr more)) = let none = sym has ∙ ap (λ o. given o false (λ (e : BTreeMap ℕ Block). is_entered_at s e.entries)) (nth_past extents home more) in cc

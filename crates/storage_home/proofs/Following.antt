@@ -10,6 +10,7 @@ use Rattle.key_index.specs.Index.{Index}
 use Rattle.pss_catalog.specs.Catalog.{Object, Catalog, holds, IsUnique}
 use Rattle.pss_catalog.proofs.Forest.{same_place, other_place}
 use Rattle.storage_home.specs.Rows.{Chunks, object_at, TurnsObject}
+use Rattle.storage_home.specs.declared.extents.Block.{Block}
 use Rattle.storage_home.specs.Extents.{is_held_in, TurnsHeldIn}
 use Rattle.storage_home.specs.Keys.{found_at, lists, TurnsFound}
 use Rattle.storage_home.specs.Kept.{stored, IsHolder, is_object_of}
@@ -19,7 +20,7 @@ use Rattle.storage_home.proofs.Keeping.{same_or_not, gone, stays, was_there, com
 abbrev pub RowsAre : Schema → Catalog → Chunks → Type 0
 RowsAre S M rows = (serial : ℕ) → object_at serial rows ≡ option_map (stored S) (get M serial)
 
-abbrev pub ExtentsAre : Catalog → List (BTreeMap ℕ Bool) → Type 0
+abbrev pub ExtentsAre : Catalog → List (BTreeMap ℕ Block) → Type 0
 ExtentsAre M extents = (home serial : ℕ) → is_held_in extents home serial ≡ is_object_of home (get M serial)
 
 abbrev pub KeysAre : Schema → Catalog → List Index → Type 0
@@ -40,7 +41,7 @@ module _ (S : Schema) (M : Catalog) (s : ℕ) where
       by (inl same) = same_place t s (Some (stored S object)) (object_at t old) (sym same) ∙ ap (option_map (stored S)) (sym (come M s object t same))
       by (inr other) = other_place t s (Some (stored S object)) (object_at t old) (λ e. other (sym e)) ∙ are t ∙ ap (option_map (stored S)) (sym (others M s object t other))
 
-  pub extents_without : (object : Object) → get M s ≡ Some object → (old new : List (BTreeMap ℕ Bool)) → ExtentsAre M old → TurnsHeldIn old new object.home.0 s false → ExtentsAre (remove M s) new
+  pub extents_without : (object : Object) → get M s ≡ Some object → (old new : List (BTreeMap ℕ Block)) → ExtentsAre M old → TurnsHeldIn old new object.home.0 s false → ExtentsAre (remove M s) new
   extents_without object is old new are turns h t = turns h t ∙ by (same_or_not t s)
     where
       at_home : (b : Bool) → (object.home.0 == h) ≡ b → cond b false (is_held_in old h t) ≡ cond b false (is_object_of h (get M t))
@@ -59,7 +60,7 @@ module _ (S : Schema) (M : Catalog) (s : ℕ) where
           refl
           ∙ are h t ∙ ap (is_object_of h) (sym (stays M s t other))
 
-  pub extents_with : (object : Object) → get M s ≡ None → (old new : List (BTreeMap ℕ Bool)) → ExtentsAre M old → TurnsHeldIn old new object.home.0 s true → ExtentsAre (insert M s object) new
+  pub extents_with : (object : Object) → get M s ≡ None → (old new : List (BTreeMap ℕ Block)) → ExtentsAre M old → TurnsHeldIn old new object.home.0 s true → ExtentsAre (insert M s object) new
   extents_with object none old new are turns h t = turns h t ∙ by (same_or_not t s)
     where
       by : (t ≡ s) ⊎ (t ≡ s → ⊥) → cond ((object.home.0 == h) && (s == t)) true (is_held_in old h t) ≡ is_object_of h (get (insert M s object) t)

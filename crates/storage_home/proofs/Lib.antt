@@ -2,6 +2,7 @@ pub mod Rising
 pub mod Places
 pub mod Bits
 pub mod Chunks
+pub mod Marking
 pub mod Nexts
 pub mod Raising
 pub mod Holding

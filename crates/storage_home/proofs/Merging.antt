@@ -15,6 +15,7 @@ use Rattle.type_layout.proofs.Bases.{means}
 use Rattle.pss_catalog.specs.Catalog.{Object, Catalog, pid_of, pids_where}
 use Rattle.pss_catalog.proofs.Forest.{Compared, compared}
 use Rattle.pss_catalog.proofs.Listing.{tie}
+use Rattle.storage_home.specs.declared.extents.Block.{Block}
 use Rattle.storage_home.specs.Extents.{is_held_in}
 use Rattle.storage_home.specs.Kept.{IsKept, is_of, is_object_of}
 use Rattle.storage_home.specs.declared.parts.Parts.{Parts}
@@ -178,7 +179,7 @@ after_one from (q ∷ qs) p = after_one (q.serial + 1) qs p
 
 -- ---- a listing
 
-module _ (S : Schema) (M : Catalog) (home : HomeNo) (extents : List (BTreeMap ℕ Bool)) (heirs : List HomeNo) (listing : IsListing S M home extents heirs) where
+module _ (S : Schema) (M : Catalog) (home : HomeNo) (extents : List (BTreeMap ℕ Block)) (heirs : List HomeNo) (listing : IsListing S M home extents heirs) where
   -- the object behind a held serial
   object_held : (h : HomeNo) (s : ℕ) → is_held_in extents h.0 s ≡ true → (o : Object) × (get M s ≡ Some o) × (o.home ≡ h)
   object_held h s held = by (get M s) refl (sym (listing.extents_are h.0 s) ∙ held)

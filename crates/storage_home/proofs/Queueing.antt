@@ -7,6 +7,7 @@ use Rattle.std.specs.BTreeMap.{BTreeMap, is_at}
 use Rattle.type_layout.specs.declared.home.HomeNo.{HomeNo}
 use Rattle.pss_catalog.proofs.Forest.{Compared, compared}
 use Rattle.std.proofs.Math.Seq.{take-suc}
+use Rattle.storage_home.specs.declared.extents.Block.{Block}
 use Rattle.storage_home.specs.Extents.{is_held_in, IsNextIn}
 use Rattle.storage_home.specs.inner.Queues.{Listed, waiting_at, IsApart, IsQueue, enqueued}
 use Rattle.storage_home.proofs.Keeping.{same_or_not}
@@ -49,7 +50,7 @@ least P from most le holds = least_by P (most - from) from most (omega (arith, l
 
 -- ---- one home's next serial
 
-module _ (extents : List (BTreeMap ℕ Bool)) where
+module _ (extents : List (BTreeMap ℕ Block)) where
   -- there is one where one is held
   pub next_exists : (h from t : ℕ) → from ≤ t → is_held_in extents h t ≡ true → (u : ℕ) × IsNextIn extents h from (Some u) × (u ≤ t)
   next_exists h from t le held = let l = least (is_held_in extents h) from t le held in (l.number, (l.from_there, l.holds_there, l.none_before), l.at_most)
@@ -88,7 +89,7 @@ same_home h g e = λ i. record { 0 = e i }
 
 -- ---- one more home waits
 
-module _ (extents : List (BTreeMap ℕ Bool)) (apart : IsApart extents) (heirs : List HomeNo) (home : HomeNo) where
+module _ (extents : List (BTreeMap ℕ Block)) (apart : IsApart extents) (heirs : List HomeNo) (home : HomeNo) where
   -- the first homes wait, and then this one too
   pub one_waits :
       (before : List HomeNo) (old new : List (ℕ × HomeNo)) (next : Option ℕ) → ((h : HomeNo) → Listed heirs h ↔ (Listed before h ⊎ (h ≡ home))) → IsQueue extents before 0 old → IsNextIn extents home.0 0 next
@@ -117,7 +118,7 @@ module _ (extents : List (BTreeMap ℕ Bool)) (apart : IsApart extents) (heirs :
 
 -- ---- the first of those that wait goes, and waits again
 
-module _ (extents : List (BTreeMap ℕ Bool)) (apart : IsApart extents) (heirs : List HomeNo) (from : ℕ) (old mid new : List (ℕ × HomeNo)) (queue : IsQueue extents heirs from old) (s0 : ℕ) (h0 : HomeNo) (first : waiting_at s0 old ≡ Some h0)
+module _ (extents : List (BTreeMap ℕ Block)) (apart : IsApart extents) (heirs : List HomeNo) (from : ℕ) (old mid new : List (ℕ × HomeNo)) (queue : IsQueue extents heirs from old) (s0 : ℕ) (h0 : HomeNo) (first : waiting_at s0 old ≡ Some h0)
     (lowest : (q : ℕ) → IsSome (waiting_at q old) → s0 ≤ q) (taken : (q : ℕ) → waiting_at q mid ≡ cond (is_at (nat_cmp s0) q) None (waiting_at q old))
     (next : Option ℕ) (next_is : IsNextIn extents h0.0 (s0 + 1) next) (turned : (q : ℕ) → waiting_at q new ≡ enqueued next h0 q (waiting_at q mid)) where
   its : Listed heirs h0 × IsNextIn extents h0.0 from (Some s0)

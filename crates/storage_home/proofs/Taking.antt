@@ -1,6 +1,6 @@
 -- An object is taken out of what is kept, or put.
-use Rattle.std.proofs.Common.{ℕ, zero, suc, ◌+◌, ◌-◌, ◌≡◌, ◌<◌, ◌≤◌, ◌==◌, ◌⊎◌, List, [], ◌∷◌, length, Option, Some, None, Bool, true, false, inl, inr, cond, refl, sym, ap, subst, ◌∙◌, arith, IsSome, eq-eqb}
-use Rattle.std.specs.Prelude.{◌&&◌, ◌||◌, is_some, nat_le}
+use Rattle.std.proofs.Common.{ℕ, zero, suc, ◌+◌, ◌-◌, ◌/◌, ◌%◌, ◌≡◌, ◌<◌, ◌≤◌, ◌==◌, ◌⊎◌, List, [], ◌∷◌, length, Option, Some, None, Bool, true, false, inl, inr, cond, refl, sym, ap, subst, ◌∙◌, arith, IsSome, eq-eqb}
+use Rattle.std.specs.Prelude.{◌&&◌, ◌||◌, nat_le}
 use Rattle.std.specs.Option.{option_map}
 use Rattle.std.specs.List.{slice_get, list_all, list_any}
 use Rattle.std.specs.declared.vec.Vec.{Vec}
@@ -20,13 +20,16 @@ use Rattle.pss_catalog.specs.Catalog.{Object, Catalog, holds, weight, total, IsU
 use Rattle.storage_home.specs.declared.rows.Stored.{Stored}
 use Rattle.storage_home.specs.declared.parts.Parts.{Parts}
 use Rattle.storage_home.specs.Rows.{object_at, TurnsObject, KeepsObjects}
-use Rattle.storage_home.specs.Extents.{flag_at, is_held_in, is_entered_in, TurnsHeldIn, KeepsHeldIn}
+use Rattle.storage_home.specs.declared.extents.Block.{Block}
+use Rattle.storage_home.specs.Blocks.{block_at}
+use Rattle.storage_home.specs.Extents.{is_held_at, is_entered_at, is_held_in, is_entered_in, TurnsHeldIn, KeepsHeldIn}
 use Rattle.storage_home.specs.Counts.{bases_in, number_at, AreLower, AreRaised, comes}
 use Rattle.storage_home.specs.Keys.{found_at, is_key_reserved, lists, is_pair, TurnsFound, AreThere, MayPut, IsOnce, AreKeysReserved, KeepsFound}
 use Rattle.storage_home.specs.Kept.{most, IsSound, IsKept, stored, is_of, is_object_of}
 use Rattle.storage_home.specs.Applied.{AreKeysOf}
 use Rattle.storage_home.specs.inner.Steps.{MayPutObject}
 use Rattle.storage_home.proofs.Places.{by_test, same_number}
+use Rattle.storage_home.proofs.Marking.{held_enters}
 use Rattle.storage_home.proofs.Descending.{lower_bases, as_many_bases, comes_is}
 use Rattle.storage_home.proofs.Keeping.{was_there, come, others, same_or_not, passing_without, passing_with, number_without, number_with, sum_without, sum_with, fewer, fewer_pass}
 use Rattle.storage_home.proofs.Following.{rows_without, rows_with, extents_without, extents_with, keys_without, keys_with}
@@ -47,16 +50,12 @@ there_sound S object sound = by (home_at S object.home) refl sound.0
     by None is none = cc
     by (Some home) is some = (home, is)
 
-pub held_entered : (extents : List (BTreeMap ℕ Bool)) (h s : ℕ) → is_held_in extents h s ≡ true → is_entered_in extents h s ≡ true
+pub held_entered : (extents : List (BTreeMap ℕ Block)) (h s : ℕ) → is_held_in extents h s ≡ true → is_entered_in extents h s ≡ true
 held_entered extents h s held = by (nth extents h) held
   where
-    flagged : (o : Option Bool) → given o false (λ b. b) ≡ true → is_some o ≡ true
-    flagged None e = e
-    flagged (Some b) e = refl
-
-    by : (o : Option (BTreeMap ℕ Bool)) → given o false (λ e. given (flag_at s e.entries) false (λ b. b)) ≡ true → given o false (λ e. is_some (flag_at s e.entries)) ≡ true
+    by : (o : Option (BTreeMap ℕ Block)) → given o false (λ e. is_held_at s e.entries) ≡ true → given o false (λ e. is_entered_at s e.entries) ≡ true
     by None e = e
-    by (Some e) is = flagged (flag_at s e.entries) is
+    by (Some e) is = held_enters (block_at (s / 64) e.entries) (s % 64) is
 
 module _ (S : Schema) (M : Catalog) (homes : Parts) (kept : IsKept S M homes) where
   pub lower_kept : AreLower (bases_in homes.counts.items)

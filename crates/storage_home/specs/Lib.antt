@@ -1,6 +1,7 @@
 pub mod Changes
 pub mod Rows
 pub mod Cells
+pub mod Blocks
 pub mod Extents
 pub mod Counts
 pub mod Keys

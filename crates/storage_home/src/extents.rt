@@ -1,15 +1,29 @@
 // The serials of each storage home in their order.
-ghost use Rattle.std.specs.Prelude.{◌≡◌, ◌+◌, ◌<◌, ◌≤◌, true, false, length, OnOk, OnErr};
-ghost use Rattle.storage_home.specs.Extents.{first_held, is_entered_at, is_entered_in, IsNext, IsNextIn, TurnsHeld, KeepsHeld, TurnsEntered, KeepsEntered, TurnsHeldIn, KeepsHeldIn, TurnsEnteredIn, KeepsEnteredIn};
+ghost use Rattle.std.specs.Prelude.{◌≡◌, ◌+◌, ◌*◌, ◌<◌, ◌≤◌, ◌/◌, ◌||◌, ℕ, None, true, false, length, OnOk, OnErr};
+ghost use Rattle.storage_home.specs.Blocks.{block_at, enters_in, IsLeastIn, IsFirstHeld};
+ghost use Rattle.storage_home.specs.Extents.{is_entered_at, is_entered_in, IsNear, IsNext, IsNextIn, TurnsHeld, KeepsHeld, TurnsEntered, KeepsEntered, TurnsHeldIn, KeepsHeldIn, TurnsEnteredIn, KeepsEnteredIn};
 
+use crate::chunk::WIDTH;
+use crate::marks::{least_from, with_bit, with_mark};
 use pss_base::NoMemory;
 use std::collections::BTreeMap;
 use std::collections::btree_map::Range;
 use std::ops::Bound;
 use type_layout::HomeNo;
 
-/// The serials of a home's own objects and those that may come, and whether the object is there.
-pub type Extent = BTreeMap<u64, bool>;
+/// Which of 64 neighbouring serials are a home's: for each, from the lowest bit, whether its object may come, and whether it
+/// is there.
+#[derive(Clone, Copy)]
+pub struct Block {
+    pub entered: u64,
+    pub held: u64,
+}
+
+/// The serials of a home's own objects and those that may come: each 64 that have one, under their number.
+pub type Extent = BTreeMap<u64, Block>;
+
+/// The greatest number of a block.
+const LAST: u64 = u64::MAX / WIDTH;
 
 /// Enters a serial of a home, whose object may come. One that is there stays there.
 pub fn enter_in(extents: &mut [Extent], home: HomeNo, serial: u64) -> Result<(), NoMemory>
@@ -70,13 +84,28 @@ fn enter(extent: &mut Extent, serial: u64) -> Result<(), NoMemory>
     ensures ok { OnOk result (TurnsEntered extent.old.entries extent.new.entries serial true) }
     ensures err { OnErr result (extent.new.entries ≡ extent.old.entries) }
 {
-    match extent.insert(serial, false)? {
-        Some(is_held) => {
-            write(extent, serial, is_held);
+    match extent.get_mut(&(serial / WIDTH)) {
+        Some(block) => {
+            block.entered = with_bit(block.entered, serial % WIDTH);
             Ok(())
         }
-        None => Ok(()),
+        None => begin(extent, serial),
     }
+}
+
+// Enters the first serial of its block.
+fn begin(extent: &mut Extent, serial: u64) -> Result<(), NoMemory>
+    requires { block_at (serial / 64) extent.old.entries ≡ None }
+    ensures held { KeepsHeld extent.old.entries extent.new.entries }
+    ensures ok { OnOk result (TurnsEntered extent.old.entries extent.new.entries serial true) }
+    ensures err { OnErr result (extent.new.entries ≡ extent.old.entries) }
+{
+    let block = Block {
+        entered: with_bit(0, serial % WIDTH),
+        held: 0,
+    };
+    extent.insert(serial / WIDTH, block)?;
+    Ok(())
 }
 
 // The object of a serial that was entered is there from now on.
@@ -85,7 +114,7 @@ fn hold(extent: &mut Extent, serial: u64)
     ensures held { TurnsHeld extent.old.entries extent.new.entries serial true }
     ensures entered { KeepsEntered extent.old.entries extent.new.entries }
 {
-    write(extent, serial, true);
+    write(extent, serial, true, true);
 }
 
 fn release(extent: &mut Extent, serial: u64, stays: bool)
@@ -93,20 +122,38 @@ fn release(extent: &mut Extent, serial: u64, stays: bool)
     ensures held { TurnsHeld extent.old.entries extent.new.entries serial false }
     ensures entered { TurnsEntered extent.old.entries extent.new.entries serial stays }
 {
-    if stays {
-        write(extent, serial, false);
-    } else {
-        let _ = extent.remove(&serial);
+    write(extent, serial, stays, false);
+    end(extent, serial);
+}
+
+// Says of a serial that was entered whether it still is, and whether its object is there.
+fn write(extent: &mut Extent, serial: u64, enters: bool, holds: bool)
+    requires { is_entered_at serial extent.old.entries ≡ true }
+    ensures held { TurnsHeld extent.old.entries extent.new.entries serial holds }
+    ensures entered { TurnsEntered extent.old.entries extent.new.entries serial (enters || holds) }
+{
+    if let Some(block) = extent.get_mut(&(serial / WIDTH)) {
+        block.entered = with_mark(block.entered, serial % WIDTH, enters);
+        block.held = with_mark(block.held, serial % WIDTH, holds);
     }
 }
 
-fn write(extent: &mut Extent, serial: u64, holds: bool)
-    requires { is_entered_at serial extent.old.entries ≡ true }
-    ensures held { TurnsHeld extent.old.entries extent.new.entries serial holds }
+// Gives the block of a serial back where nothing is marked in it.
+fn end(extent: &mut Extent, serial: u64)
+    ensures held { KeepsHeld extent.old.entries extent.new.entries }
     ensures entered { KeepsEntered extent.old.entries extent.new.entries }
 {
-    if let Some(is_held) = extent.get_mut(&serial) {
-        *is_held = holds;
+    if is_done(extent, serial) {
+        let _ = extent.remove(&(serial / WIDTH));
+    }
+}
+
+fn is_done(extent: &Extent, serial: u64) -> bool
+    ensures { result ≡ true → (q : ℕ) → enters_in (block_at (serial / 64) extent.now.entries) q ≡ false }
+{
+    match extent.get(&(serial / WIDTH)) {
+        Some(block) => block.entered == 0 && block.held == 0,
+        None => false,
     }
 }
 
@@ -114,23 +161,60 @@ fn write(extent: &mut Extent, serial: u64, holds: bool)
 fn next(extent: &Extent, from: u64) -> Option<u64>
     ensures { IsNext extent.now.entries from result }
 {
-    first_in(extent.range(from..))
+    match next_near(extent, from) {
+        Some(serial) => Some(serial),
+        None => next_far(extent, from / WIDTH),
+    }
 }
 
 // The least serial above this one whose object is there.
 fn next_above(extent: &Extent, serial: u64) -> Option<u64>
     ensures { IsNext extent.now.entries (serial + 1) result }
 {
-    first_in(extent.range((Bound::Excluded(serial), Bound::Unbounded)))
+    match serial.checked_add(1) {
+        Some(from) => next(extent, from),
+        None => None,
+    }
 }
 
-fn first_in(range: Range<'_, u64, bool>) -> Option<u64>
-    ensures { result ≡ first_held range.entry }
+// The same among the serials of its block.
+fn next_near(extent: &Extent, from: u64) -> Option<u64>
+    ensures { IsNear extent.now.entries from result }
 {
-    for (serial, is_held) in range {
-        if *is_held {
-            return Some(*serial);
+    match extent.get(&(from / WIDTH)) {
+        Some(block) => least_in(from / WIDTH, block, from % WIDTH),
+        None => None,
+    }
+}
+
+// The least serial behind a block whose object is there.
+fn next_far(extent: &Extent, number: u64) -> Option<u64>
+    ensures { IsNext extent.now.entries (64 * (number + 1)) result }
+{
+    first_in(extent.range((Bound::Excluded(number), Bound::Unbounded)))
+}
+
+fn first_in(range: Range<'_, u64, Block>) -> Option<u64>
+    ensures { IsFirstHeld range.entry result }
+{
+    for (number, block) in range {
+        if let Some(serial) = least_in(*number, block, 0) {
+            return Some(serial);
         }
     }
     None
+}
+
+// The least serial of a block, from a place on, whose object is there.
+fn least_in(number: u64, block: &Block, from: u64) -> Option<u64>
+    requires { from < 64 }
+    ensures { IsLeastIn number block.now from result }
+{
+    if LAST < number {
+        return None;
+    }
+    match least_from(block.held, from) {
+        Some(place) => Some(number * WIDTH + place),
+        None => None,
+    }
 }

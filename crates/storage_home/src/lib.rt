@@ -14,6 +14,7 @@ mod homes;
 pub mod keys;
 mod listing;
 mod loading;
+mod marks;
 mod parts;
 mod reserving;
 mod rows;

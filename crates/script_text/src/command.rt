@@ -1,5 +1,6 @@
 // Lines as commands.
-ghost use Rattle.std.specs.Prelude.{◌≡◌, ◌≤◌, ◌∷◌, ◌++◌, length, false, IsTrue, IsSome, IfSome, MatchOption, Ok, Err, codes};
+ghost use Rattle.std.specs.Prelude.{◌≡◌, ◌≤◌, ◌∷◌, ◌++◌, length, take, false, IsTrue, IsSome, IfSome, MatchOption, Ok, Err, codes};
+ghost use Rattle.std.specs.Int.{to_le_bytes, w32};
 ghost use Rattle.pss_machine.specs.declared.command.Command.TheVariants as command;
 ghost use Rattle.pss_machine.specs.Run.{Says};
 ghost use Rattle.script_text.specs.Words.{begins_word, words, words_in};
@@ -371,18 +372,28 @@ fn get_words<'a>(tail: Tail<'a>) -> Option<GetWords<'a>>
     })
 }
 
+// The bytes of `get` and a space as one number, the first one lowest.
+const GET_AND_SPACE: u32 = 0x2074_6567;
+
+// The first four bytes as one number, so that they are compared at once.
+#[inline(always)]
+fn front_of(line: &[u8]) -> u32
+    requires { 4 ≤ length line.now }
+    ensures { to_le_bytes w32 result ≡ take 4 line.now }
+{
+    u32::from_le_bytes([line[0], line[1], line[2], line[3]])
+}
+
 // What stands behind `get`: a space, and more.
 #[inline(always)]
 fn behind_get(line: &[u8]) -> Option<&[u8]>
     ensures gets { IfSome result (λ behind. line.now ≡ codes "get" ++ behind.now) }
     ensures spaced { IfSome result (λ behind. begins_word behind.now ≡ false) }
 {
-    match line {
-        [b'g', b'e', b't', behind @ ..] => match behind_space(behind) {
-            Some(_) => Some(behind),
-            None => None,
-        },
-        _ => None,
+    if line.len() >= 4 && front_of(line) == GET_AND_SPACE {
+        Some(&line[3..])
+    } else {
+        None
     }
 }
 

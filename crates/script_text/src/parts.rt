@@ -14,11 +14,22 @@ use crate::tail::Tail;
 use crate::words::{Word, behind_space, word_in};
 use pss_base::{Pid, read_pid, read_short_pid};
 
+// Each byte of a name stands at its own place, and a full stop at every other place.
+static NAME_BYTES: [u8; 256] = *b"\
+    ................................\
+    ................0123456789......\
+    .ABCDEFGHIJKLMNOPQRSTUVWXYZ...._\
+    .abcdefghijklmnopqrstuvwxyz.....\
+    ................................\
+    ................................\
+    ................................\
+    ................................";
+
 #[inline(always)]
 fn is_name_byte(byte: u8) -> bool
     ensures { result ≡ spec.is_name_byte byte }
 {
-    byte.is_ascii_alphanumeric() || byte == b'_'
+    NAME_BYTES[byte as usize] != b'.'
 }
 
 #[inline(always)]

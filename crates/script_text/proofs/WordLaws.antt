@@ -1,7 +1,7 @@
 -- The first word of a text stands behind its blanks, up to the next blank.
 use Rattle.std.proofs.Common.{◌≡◌, ℕ, suc, ◌+◌, ◌-◌, ◌<◌, ◌≤◌, List, [], ◌∷◌, length, take, drop, Bool, true, false, not, refl, sym, ◌∙◌, ap, arith, length-drop}
 use Rattle.std.proofs.lemmas.Grind.{common_steps}
-use Rattle.std.specs.List.{prefix_len}
+use Rattle.std.specs.List.{list_any, prefix_len}
 use Rattle.pss_base.specs.Blanks.{is_blank, behind_blanks}
 use Rattle.script_text.specs.Words.{Word, begins_word, words_from}
 
@@ -86,3 +86,14 @@ none_found c text behind len is at none =
 pub one_found : (c : ℕ) (text behind : List ℕ) (len : ℕ) → text ≡ 32 ∷ behind → len ≡ prefix_len no_blank behind → (len ≡ 0 → ⊥) → words_from c text ≡ word_to (c + 1) behind len ∷ words_from (c + 1 + len) (drop len behind)
 one_found c text behind len is at some =
     ap (words_from c) is ∙ word_first (c + 1) behind (begins_by behind (omega (arith, at, some))) ∙ ap (λ n. word_to (c + 1) behind n ∷ words_from (c + 1 + n) (drop n behind)) (sym at)
+
+-- a text without a blank is a word
+pub whole_word : (xs : List ℕ) → list_any is_blank xs ≡ false → length xs ≡ prefix_len no_blank xs
+whole_word [] e = refl
+whole_word (x ∷ xs) e = by x xs (is_blank x) refl (whole_word xs) e
+  where
+    by : (x : ℕ) (xs : List ℕ) (b : Bool) → is_blank x ≡ b → (list_any is_blank xs ≡ false → length xs ≡ prefix_len no_blank xs) → list_any is_blank (x ∷ xs) ≡ false → length (x ∷ xs) ≡ prefix_len no_blank (x ∷ xs)
+    by x xs true is rest e = cc
+    by x xs false is rest e =
+        let next : length xs ≡ prefix_len no_blank xs = rest (rw is at e) in
+        rw is (omega (arith, next))

@@ -19,7 +19,7 @@ use crate::verb::{
     AloneVerb, EntryVerb, HomeVerb, KeyVerb, MemberVerb, SessionVerb, TransactionVerb, Verb,
     verb_of,
 };
-use crate::words::{Word, behind_space, finish, next_word, one_word};
+use crate::words::{Word, finish, last_word, next_word};
 use pss_base::Bytes;
 use pss_machine::{Command, Rest};
 use std::alloc::Global;
@@ -361,10 +361,7 @@ fn get_words<'a>(tail: Tail<'a>) -> Option<GetWords<'a>>
 {
     let s = one_name(tail)?;
     let found = one_entry(s.rest)?;
-    let member = one_word(found.word.rest)?;
-    if !member.rest.text.is_empty() {
-        return None;
-    }
+    let member = last_word(found.word.rest)?;
     Some(GetWords {
         s: s.text,
         entry: found.entry,

@@ -1,6 +1,6 @@
 // The words of a line.
 ghost use Rattle.std.specs.Prelude.{◌≡◌, ◌≤◌, [], ◌∷◌, IfSome, MatchOption, length, not};
-ghost use Rattle.std.specs.List.{prefix_len};
+ghost use Rattle.std.specs.List.{list_any, prefix_len};
 ghost use Rattle.pss_base.specs.Blanks as blanks;
 ghost use Rattle.script_text.specs.Words.{words_in, end_of};
 ghost use Rattle.script_text.specs.Meaning as meaning;
@@ -62,13 +62,25 @@ pub fn behind_space(text: &[u8]) -> Option<&[u8]>
     }
 }
 
-/// The first word, where one space stands in front of it. None: another blank does, or more, or no word follows.
+// Whether a blank stands in a text.
 #[inline(always)]
-pub fn one_word<'a>(tail: Tail<'a>) -> Option<Word<'a>>
-    ensures { IfSome result (λ word. words_in (seen tail.entry) ≡ seen_word word ∷ words_in (seen word.rest)) }
+fn has_blank(text: &[u8]) -> bool
+    ensures { result ≡ list_any blanks.is_blank text.now }
+{
+    text.iter().any(|byte| is_blank(*byte))
+}
+
+/// The last word, where one space stands in front of it and nothing behind it. None: another blank does, or more, or no word follows.
+#[inline(always)]
+pub fn last_word<'a>(tail: Tail<'a>) -> Option<Word<'a>>
+    ensures word { IfSome result (λ word. words_in (seen tail.entry) ≡ seen_word word ∷ words_in (seen word.rest)) }
+    ensures last { IfSome result (λ word. length word.rest.text.now ≡ 0) }
 {
     let behind = behind_space(tail.text)?;
-    let len = count_word(behind);
+    if has_blank(behind) {
+        return None;
+    }
+    let len = behind.len();
     if len == 0 {
         return None;
     }

@@ -103,6 +103,11 @@ def least(path, *words):
     return numbers
 
 
+def on_one_processor():
+    """Keeps this process, and those that it starts, on one processor: others may be slower, or share their pace with other work."""
+    os.sched_setaffinity(0, {min(os.sched_getaffinity(0))})
+
+
 def judge(ratios):
     """Tells ratios, each with its name and what it may be at most, or None where it is only told. Ends with 1 where one is above that."""
     ratios = list(ratios)

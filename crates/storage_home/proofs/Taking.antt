@@ -42,14 +42,6 @@ some_there xs (suc h) there = by (slice_get xs h) refl there
     by None is some = cc
     by (Some x) is some = let within = slice_get_within xs h x is in (omega arith, omega (arith, within))
 
--- the home of an object that is kept
-pub there_sound : (S : Schema) (object : Object) → IsSound S object → (home : Home) × (home_at S object.home ≡ Some home)
-there_sound S object sound = by (home_at S object.home) refl sound.0
-  where
-    by : (o : Option Home) → home_at S object.home ≡ o → IsSome o → (home : Home) × (home_at S object.home ≡ Some home)
-    by None is none = cc
-    by (Some home) is some = (home, is)
-
 pub held_entered : (extents : List (BTreeMap ℕ Block)) (h s : ℕ) → is_held_in extents h s ≡ true → is_entered_in extents h s ≡ true
 held_entered extents h s held = by (nth extents h) held
   where

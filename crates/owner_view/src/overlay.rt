@@ -35,6 +35,15 @@ impl Overlay {
         }
     }
 
+    /// Takes all changes away. It takes no memory, and may keep a little for the changes that come next.
+    pub fn clear(&mut self)
+        ensures changes { changes_in self.new ≡ map.empty }
+        ensures indexes { indexes_in self.new ≡ [] }
+    {
+        states::clear(&mut self.states, self.alloc);
+        self.indexes.clear();
+    }
+
     /// The serials of the states in their order, with those that are only reserved.
     pub fn in_order(&self) -> Result<Vec<u64>, NoMemory>
         ensures { IfOk result (λ serials. AreInOrder self.now.states.table.entries serials.items) }

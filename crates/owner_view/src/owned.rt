@@ -160,6 +160,17 @@ impl Owned {
             .put_reserved(serial, slot, &pairs.had, &pairs.has);
     }
 
+    /// Takes all that was changed away. It takes no memory, and may keep a little for what is changed next.
+    pub fn clear(&mut self)
+        ensures level { self.new.level ≡ self.old.level }
+        ensures changes { changed_by self.new ≡ map.empty }
+        ensures counted { IsCounted self.new }
+        ensures under { (S : PlainSchema) → IsUnder S self.new }
+    {
+        self.overlay.clear();
+        self.changed = 0;
+    }
+
     // Counts the object with a serial, unless it was changed before.
     fn count(&mut self, serial: u64)
         requires { self.old.changed < 4294967295 }

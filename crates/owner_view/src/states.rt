@@ -56,6 +56,21 @@ pub fn none(alloc: Global) -> States
     }
 }
 
+/// The most slots that an owner keeps the memory of.
+const MOST_KEPT: usize = 64;
+
+/// Takes all states away. The memory of a few slots stays for those that come next: a basic session puts one or two, again and
+/// again.
+pub fn clear(states: &mut States, alloc: Global)
+    ensures { states.new.table.entries ≡ [] }
+{
+    if states.table.capacity() <= MOST_KEPT {
+        states.table.clear();
+    } else {
+        *states = none(alloc);
+    }
+}
+
 /// What was made of the object with a serial.
 pub fn told_at(states: &States, serial: u64) -> Told<'_>
     ensures { told_state result ≡ state_at serial states.now.table.entries }

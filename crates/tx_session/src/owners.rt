@@ -213,7 +213,7 @@ impl Owners {
     {
         let parts = &mut self.parts;
         parts.locks.release_all(owner, steps);
-        table::clear(&mut parts.table, parts.alloc, owner);
+        table::clear(&mut parts.table, owner);
     }
 
     /// Takes an owner away that has no lock, as after `finish`. It takes no memory.

@@ -56,11 +56,11 @@ pub fn remove(table: &mut Table, owner: OwnerNo)
 }
 
 /// Takes all that an owner changed away. It takes no memory.
-pub fn clear(table: &mut Table, alloc: Global, owner: OwnerNo)
+pub fn clear(table: &mut Table, owner: OwnerNo)
     ensures { TurnsBy IsCleared table.old.entries table.new.entries owner.0 }
 {
     if let Some(owned) = table.get_mut(&owner.0) {
-        *owned = Owned::new(alloc, owned.level);
+        owned.clear();
     }
 }
 

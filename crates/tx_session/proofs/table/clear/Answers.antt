@@ -5,5 +5,5 @@ use Rattle.tx_session.proofs.table.clear.Goals as goal
 
 pub returns-in-Some : goal.returns-in-Some
 returns-in-Some c =
-    turned_by IsCleared c.args.table.now.entries _ c.args.owner.0 c.in-Some.owned.now c.new.result c.in-Some.ensures.value ((c.get_mut.follows.holds _).3 (subst IsSome c.in-Some.ensures.value (search rules))).0
-    (record { level_is = c.new.ensures.level; changes = c.new.ensures.changes; counted = c.new.ensures.counted; under = c.new.ensures.under })
+    turned_by IsCleared c.args.table.now.entries _ c.args.owner.0 c.in-Some.owned.now c.clear.new.self c.in-Some.ensures.value ((c.get_mut.follows.holds _).3 (subst IsSome c.in-Some.ensures.value (search rules))).0
+    (record { level_is = c.clear.ensures.level; changes = c.clear.ensures.changes; counted = c.clear.ensures.counted; under = c.clear.ensures.under })

@@ -13,3 +13,4 @@ pub mod Early
 pub mod Found
 pub mod HomeTypes
 pub mod Bodies
+pub mod Numbers

@@ -70,7 +70,6 @@ pub fn fault_text(kind: CheckKind) -> &'static [u8]
 
 /// Whether a kind has a lesser number than another. Kinds are declared in the order of their numbers: so of two faults at one
 /// place, the first is that with the lesser number.
-#[tactic(auto, unfolding(psdl_directory::specs::Fault::is_before))]
 pub fn comes_before(kind: CheckKind, other: CheckKind) -> bool
     ensures declared { result ≡ is_before kind other }
     ensures numbered { result ≡ nat_lt (of.number kind) (of.number other) }

@@ -1,5 +1,5 @@
 -- The kinds of faults go in the order of their numbers, since they are declared in it.
-use Rattle.std.proofs.Common.{◌≡◌, ◌∙◌, ℕ, suc, false, true, List, [], ◌∷◌, Bool, sym, ap, refl, nat_lt, arith, rules}
+use Rattle.std.proofs.Common.{◌≡◌, ◌∙◌, ℕ, suc, false, true, List, [], ◌∷◌, refl, nat_lt, arith, rules}
 use Rattle.std.proofs.lemmas.Bool.Decides.{nat_tests}
 use Rattle.std.specs.Ordering.{is_lt}
 use Rattle.std.specs.declared.cmp.Ordering.{Ordering}

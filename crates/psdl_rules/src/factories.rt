@@ -47,10 +47,11 @@ pub(crate) fn factories<'a>(alloc: Global, what: What<'a>) -> Result<Vec<&'a Fac
     ensures { IfOk result (λ v. map (λ f. factory_view f.now) v.items ≡ factories (what_view what.entry)) }
 {
     let mut found = Vec::new(alloc);
-    match what {
-        What::AbstractHome(Some(body)) => add_abstract_factories(&mut found, &body.members)?,
-        What::ConcreteHome(home) => add_concrete_factories(&mut found, &home.members)?,
-        _ => {}
-    }
+    let added = match what {
+        What::AbstractHome(Some(body)) => add_abstract_factories(&mut found, &body.members),
+        What::ConcreteHome(home) => add_concrete_factories(&mut found, &home.members),
+        _ => Ok(()),
+    };
+    added?;
     Ok(found)
 }

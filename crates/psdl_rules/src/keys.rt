@@ -46,10 +46,11 @@ pub(crate) fn keys<'a>(alloc: Global, what: What<'a>) -> Result<Vec<&'a Key>, No
     ensures { IfOk result (λ v. map (λ k. key_view k.now) v.items ≡ keys (what_view what.entry)) }
 {
     let mut found = Vec::new(alloc);
-    match what {
-        What::AbstractHome(Some(body)) => add_abstract_keys(&mut found, &body.members)?,
-        What::ConcreteHome(home) => add_concrete_keys(&mut found, &home.members)?,
-        _ => {}
-    }
+    let added = match what {
+        What::AbstractHome(Some(body)) => add_abstract_keys(&mut found, &body.members),
+        What::ConcreteHome(home) => add_concrete_keys(&mut found, &home.members),
+        _ => Ok(()),
+    };
+    added?;
     Ok(found)
 }

@@ -106,11 +106,12 @@ fn add_abstract_home_members<'a>(
     ensures { OnOk result (map (λ i. i.now) found.new.items ≡ map (λ i. i.now) found.old.items ++ flat_map parts.abstract_home_names (map views.abstract_home_member_view members.now)) }
 {
     for member in members {
-        match member {
-            AbstractHomeMember::Key(key) => found.push(&key.name)?,
-            AbstractHomeMember::Factory(factory) => found.push(&factory.name)?,
-            AbstractHomeMember::Operation(operation) => found.push(&operation.name)?,
-        }
+        let name = match member {
+            AbstractHomeMember::Key(key) => &key.name,
+            AbstractHomeMember::Factory(factory) => &factory.name,
+            AbstractHomeMember::Operation(operation) => &operation.name,
+        };
+        found.push(name)?;
     }
     Ok(())
 }
@@ -122,11 +123,12 @@ fn add_home_members<'a>(
     ensures { OnOk result (map (λ i. i.now) found.new.items ≡ map (λ i. i.now) found.old.items ++ flat_map parts.home_names (map views.home_member_view members.now)) }
 {
     for member in members {
-        match member {
-            HomeMember::Key(key) => found.push(&key.name)?,
-            HomeMember::PrimaryKey(key) => found.push(&key.name)?,
-            HomeMember::Factory(factory) => found.push(&factory.name)?,
-        }
+        let name = match member {
+            HomeMember::Key(key) => &key.name,
+            HomeMember::PrimaryKey(key) => &key.name,
+            HomeMember::Factory(factory) => &factory.name,
+        };
+        found.push(name)?;
     }
     Ok(())
 }
@@ -148,15 +150,16 @@ pub(crate) fn body_names<'a>(alloc: Global, what: What<'a>) -> Result<Vec<&'a Id
     ensures { IfOk result (λ v. map (λ i. i.now) v.items ≡ parts.body_names (what_view what.entry)) }
 {
     let mut found = Vec::new(alloc);
-    match what {
-        What::Struct(structure) => add_struct(&mut found, structure)?,
-        What::AbstractType(Some(body)) => add_type_members(&mut found, &body.members)?,
-        What::ConcreteType(Some(body)) => add_states(&mut found, &body.states)?,
-        What::AbstractHome(Some(body)) => add_abstract_home_members(&mut found, &body.members)?,
-        What::ConcreteHome(home) => add_home_members(&mut found, &home.members)?,
-        What::Catalog(provisions) => add_provisions(&mut found, provisions)?,
-        _ => {}
-    }
+    let added = match what {
+        What::Struct(structure) => add_struct(&mut found, structure),
+        What::AbstractType(Some(body)) => add_type_members(&mut found, &body.members),
+        What::ConcreteType(Some(body)) => add_states(&mut found, &body.states),
+        What::AbstractHome(Some(body)) => add_abstract_home_members(&mut found, &body.members),
+        What::ConcreteHome(home) => add_home_members(&mut found, &home.members),
+        What::Catalog(provisions) => add_provisions(&mut found, provisions),
+        _ => Ok(()),
+    };
+    added?;
     Ok(found)
 }
 

@@ -1,4 +1,4 @@
-use Rattle.std.proofs.Common.{◌≡◌, ◌∙◌, ap, sym}
+use Rattle.std.proofs.Common.{◌≡◌, ◌∙◌, ap}
 use Rattle.std.specs.Ordering.{is_lt, is_some_and}
 use Rattle.psdl_directory.specs.Fault.{is_before}
 use Rattle.psdl_directory.specs.contracts.fault.CheckKindOrd.TheImpl.Laws.{matches_partial_cmp-law}

@@ -1,5 +1,5 @@
 -- What a row says of the locks on its resource.
-use Rattle.std.proofs.Common.{ℕ, ◌≡◌, ◌==◌, ⊎_elim, List, [], ◌∷◌, Option, Some, None, Bool, true, false, refl, sym, ap, ◌∙◌, arith}
+use Rattle.std.proofs.Common.{ℕ, ◌≡◌, ◌==◌, ⊎_elim, List, [], ◌∷◌, length, Option, Some, None, Bool, true, false, refl, sym, ap, ◌∙◌, arith}
 use Rattle.std.specs.Prelude.{◌||◌, ◌&&◌, Contains}
 use Rattle.std.specs.List.{list_any}
 use Rattle.std.specs.Option.{option_map}
@@ -16,6 +16,7 @@ use Rattle.link_pool.specs.declared.names.Node.{Node}
 use Rattle.link_pool.specs.declared.names.Seat.{Seat}
 use Rattle.lock_table.specs.declared.links.Lock.{Lock}
 use Rattle.lock_table.specs.declared.links.Links.{Links}
+use Rattle.lock_table.specs.declared.places.Place.{Place}
 use Rattle.lock_table.specs.Standing.{lock_of}
 use Rattle.lock_table.specs.inner.Nodes.{held_in, same_mode, passes, is_own, any_in_row}
 use Rattle.lock_table.specs.inner.Links.{IsLinked, place_at, row_at}
@@ -113,6 +114,16 @@ module _ (links : Links) (linked : IsLinked links) (r : Resource) (row : Row) (a
           let o : f.lock.owner ≡ owner = ap (λ (n : ℕ). record { 0 = n }) (eqb-true f.lock.owner.0 owner.0 t.0) in
           (λ i. has (held_in links.pool) (sym o i) (record { resource = sym (has_row f.lock f.has_it) i; mode = sym (mode-true f.lock.mode mode t.1) i }))
           ∙ node_held links.pool f.has_it.node f.lock f.has_it.at
+
+-- a resource without a lock is not locked
+pub bare_held : (links : Links) → IsLinked links → (r : Resource) (place : Place) → place_at links r ≡ Some place → place.locks ≡ 0 → (owner : OwnerNo) (mode : Mode) → has (held_in links.pool) owner (record { resource = r; mode = mode }) ≡ false
+bare_held links linked r place at bare owner mode =
+    sym (own_in_row links linked r place.row (ap (option_map (λ place. place.row)) at) owner mode)
+    ∙ ap (list_any (λ node. passes (is_own owner mode) (item_in links.pool node))) (no_nodes (list_in links.pool.rows place.row) (sym (linked.counted r place at) ∙ bare))
+  where
+    no_nodes : (nodes : List Node) → length nodes ≡ 0 → nodes ≡ []
+    no_nodes [] e = refl
+    no_nodes (node ∷ nodes) e = absurd (omega (arith, e))
 
 -- a resource without a row is not locked
 pub none_held : (links : Links) → IsLinked links → (r : Resource) → place_at links r ≡ None → (owner : OwnerNo) (mode : Mode) → has (held_in links.pool) owner (record { resource = r; mode = mode }) ≡ false

@@ -1,6 +1,8 @@
 // What is held and who holds up whom, by walks of the rows of needs alone.
-ghost use Rattle.std.specs.Prelude.{◌≡◌, ◌∷◌, [], true};
+ghost use Rattle.std.specs.Prelude.{◌≡◌, ◌∷◌, [], Some, IsSome, true};
+ghost use Rattle.std.specs.FinMap as map;
 ghost use Rattle.std.specs.FinSet as set;
+ghost use Rattle.pss_machine.specs.declared.lock.Resource.{Resource};
 ghost use Rattle.lock_table.specs.Locks.{held_by, blocker};
 ghost use Rattle.lock_table.specs.inner.Nodes.{held_in};
 ghost use Rattle.lock_table.specs.inner.Links.{IsLinked, IsAlone, place_at};
@@ -24,9 +26,18 @@ pub fn is_held(links: &Links, owner: OwnerNo, resource: &Resource, mode: Mode) -
     ensures { result ≡ set.contains (held_by (held_in links.now.pool) owner) (record { resource = resource.now; mode = mode }) }
 {
     match place_of(links, resource) {
-        Some(place) => is_in_row(&links.pool, place.row, owner, mode),
+        Some(place) => is_held_at(links, place, owner, mode),
         None => false,
     }
+}
+
+/// Whether an owner has locked the resource with this place in a mode. Where no lock stands, no row is walked.
+pub fn is_held_at(links: &Links, place: Place, owner: OwnerNo, mode: Mode) -> bool
+    requires linked { IsLinked links.now }
+    requires row { IsSome (map.get links.now.pool.rows place.row) }
+    ensures { (resource : Resource) → place_at links.now resource ≡ Some place → result ≡ set.contains (held_by (held_in links.now.pool) owner) (record { resource = resource; mode = mode }) }
+{
+    place.locks > 0 && is_in_row(&links.pool, place.row, owner, mode)
 }
 
 /// The least other owner with a lock that clashes with one need.

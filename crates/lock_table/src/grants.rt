@@ -7,15 +7,15 @@ ghost use Rattle.std.specs.FinSet as set;
 ghost use Rattle.lock_table.specs.Locks.{held_by};
 ghost use Rattle.lock_table.specs.Standing.{lock_of, need_of};
 ghost use Rattle.lock_table.specs.inner.Nodes.{held_in, with_all, missing};
-ghost use Rattle.lock_table.specs.inner.Links.{IsLinked, IsReady, IsWhole, HaveRings, Grows, SameNodes, Recounts, LinksOne, EmptyRows, EmptyCols, resources, owners, place_at, row_at, col_at};
+ghost use Rattle.lock_table.specs.inner.Links.{IsLinked, IsReady, IsWhole, HaveRings, Grows, SameNodes, IsFound, Recounts, LinksOne, EmptyRows, EmptyCols, resources, owners, place_at, col_at};
 
-use crate::asks::{is_held, place_of};
+use crate::asks::{is_held, is_held_at, place_of};
 use crate::copies::{copy, lock_for};
 use crate::links::{Links, Lock};
-use crate::places::{self, Place};
+use crate::places::{self, Found, Place, find_at};
 use crate::rings::{drop_empty_column, drop_empty_place};
 use crate::tables;
-use link_pool::{Col, Row};
+use link_pool::Col;
 use pss_base::{NoMemory, OwnerNo};
 use pss_machine::{Need, Resource};
 use std::alloc::Global;
@@ -151,37 +151,29 @@ fn drop_empty_places(links: &mut Links, locks: &[Lock])
     }
 }
 
-// Counts one lock more on a resource that has a row, and answers the row.
-fn count_up(links: &mut Links, resource: &Resource) -> Row
-    requires { IsSome (place_at links.old resource.now) }
-    ensures row { row_at links.old resource.now ≡ Some result }
-    ensures recounts { Recounts links.old links.new resource.now (λ n. min (n + 1) (2 ^ 64 - 1)) }
+// Counts one lock more on the resource that was found.
+fn count_up(links: &mut Links, found: Found)
+    ensures { (resource : Resource) → IsFound links.old resource found → Recounts links.old links.new resource (λ n. min (n + 1) (2 ^ 64 - 1)) }
 {
-    match place_of(links, resource) {
-        Some(place) => {
-            let counted = Place {
-                row: place.row,
-                locks: place.locks.saturating_add(1),
-            };
-            places::write(&mut links.places, resource, counted);
-            place.row
-        }
-        None => unreachable!(),
-    }
+    let counted = Place {
+        row: found.place.row,
+        locks: found.place.locks.saturating_add(1),
+    };
+    places::write(&mut links.places, found.at, counted);
 }
 
-// Links a lock in its rings.
-fn insert(links: &mut Links, col: Col, lock: Lock)
+// Links a lock in its rings, whose resource was found.
+fn insert(links: &mut Links, col: Col, lock: Lock, found: Found)
     requires linked { IsLinked links.old }
-    requires place { IsSome (place_at links.old lock.resource) }
+    requires found { IsFound links.old lock.resource found }
     requires col { col_at links.old lock.owner ≡ Some col }
     requires room { 0 < links.old.pool.room }
     requires new { set.contains (held_by (held_in links.old.pool) lock.owner) (need_of lock) ≡ false }
     ensures linked { IsLinked links.new }
     ensures links { LinksOne links.old links.new lock }
 {
-    let row = count_up(links, &lock.resource);
-    let _ = links.pool.insert_reserved(row, col, lock);
+    count_up(links, found);
+    let _ = links.pool.insert_reserved(found.place.row, col, lock);
     links.pool.rings_hold();
     links.held += 1;
 }
@@ -195,8 +187,13 @@ fn link(links: &mut Links, col: Col, lock: Lock)
     ensures linked { IsLinked links.new }
     ensures links { LinksOne links.old links.new lock }
 {
-    if !is_held(links, lock.owner, &lock.resource, lock.mode) {
-        insert(links, col, lock);
+    match find_at(&links.places, &lock.resource) {
+        Some(found) => {
+            if !is_held_at(links, found.place, lock.owner, lock.mode) {
+                insert(links, col, lock, found);
+            }
+        }
+        None => unreachable!(),
     }
 }
 

@@ -1,5 +1,6 @@
 // Where the locks on each resource stand.
-ghost use Rattle.std.specs.Prelude.{◌≡◌, ◌<◌, [], Some, None, true, IfNone, IfSome, IsSome, OnOk, OnErr};
+ghost use Rattle.std.specs.Prelude.{◌≡◌, ◌<◌, [], Some, None, true, IfNone, IfSome, OnOk, OnErr};
+ghost use Rattle.std.specs.Option.{option_map};
 ghost use Rattle.indexmap.specs.IndexMap.{spare};
 ghost use Rattle.pss_machine.specs.Needs.{same_resource};
 ghost use Rattle.pss_machine.specs.declared.lock.Resource.{Resource};
@@ -17,6 +18,13 @@ use std::cell::Cell;
 pub struct Place {
     pub row: Row,
     pub locks: usize,
+}
+
+/// A place, and where in the table it stands.
+#[derive(Clone, Copy, Drop)]
+pub struct Found {
+    pub at: usize,
+    pub place: Place,
 }
 
 /// The place of each resource that is locked, by hash.
@@ -45,9 +53,20 @@ pub fn none(alloc: Global) -> Places
 pub fn find(places: &Places, resource: &Resource) -> Option<Place>
     ensures { result ≡ entry_at same_resource places.now.table.entries resource.now }
 {
+    match find_at(places, resource) {
+        Some(found) => Some(found.place),
+        None => None,
+    }
+}
+
+/// The place of a resource and where it stands, where it has one. What is written there needs no look-up more.
+pub fn find_at(places: &Places, resource: &Resource) -> Option<Found>
+    ensures place { option_map (λ found. found.place) result ≡ entry_at same_resource places.now.table.entries resource.now }
+    ensures at { IfSome result (λ found. key_at found.at places.now.table.entries ≡ Some resource.now) }
+{
     let at = index_of(places, resource)?;
     match places.table.get_index(at) {
-        Some((_, place)) => Some(*place),
+        Some((_, place)) => Some(Found { at, place: *place }),
         None => None,
     }
 }
@@ -72,13 +91,12 @@ pub fn put(places: &mut Places, resource: Resource, place: Place)
     }
 }
 
-/// Sets the place of a resource that has one.
-pub fn write(places: &mut Places, resource: &Resource, place: Place)
-    requires { IsSome (entry_at same_resource places.old.table.entries resource.now) }
-    ensures { Turns same_resource places.old.table.entries places.new.table.entries resource.now (Some place) }
+/// Sets the place of the resource that stands there.
+pub fn write(places: &mut Places, at: usize, place: Place)
+    ensures { (resource : Resource) → key_at at places.old.table.entries ≡ Some resource → Turns same_resource places.old.table.entries places.new.table.entries resource (Some place) }
 {
-    if let Some(at) = index_of(places, resource) {
-        write_at(&mut places.table, at, place);
+    if let Some(there) = places.table.get_index_mut(at) {
+        *there = place;
     }
 }
 
@@ -157,14 +175,5 @@ fn look_up(table: &Table<Resource, Place>, last: &Cell<usize>, resource: &Resour
             Some(at)
         }
         None => None,
-    }
-}
-
-// Writes a place where a resource stands.
-fn write_at(table: &mut Table<Resource, Place>, at: usize, place: Place)
-    ensures { (resource : Resource) → key_at at table.old.entries ≡ Some resource → Turns same_resource table.old.entries table.new.entries resource (Some place) }
-{
-    if let Some(there) = table.get_index_mut(at) {
-        *there = place;
     }
 }

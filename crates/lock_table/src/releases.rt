@@ -6,7 +6,6 @@ ghost use Rattle.lock_table.specs.Locks.{held_by, released};
 ghost use Rattle.lock_table.specs.inner.Nodes.{held_in};
 ghost use Rattle.lock_table.specs.inner.Links.{IsLinked, IsWhole, IsReleasing, SameNodes, Recounts, Unlinks, place_at, col_at};
 
-use crate::asks::place_of;
 use crate::links::{Links, Lock};
 use crate::places::{self, Place};
 use crate::rings::{drop_empty_row, remove_column};
@@ -22,14 +21,14 @@ fn count_down(links: &mut Links, resource: &Resource) -> Place
     ensures place { place_at links.new resource.now ≡ Some result }
     ensures recounts { Recounts links.old links.new resource.now (λ n. n - 1) }
 {
-    match place_of(links, resource) {
-        Some(place) => {
-            let counted = Place {
-                row: place.row,
-                locks: place.locks.saturating_sub(1),
+    match places::find_at(&links.places, resource) {
+        Some(found) => {
+            let left = Place {
+                row: found.place.row,
+                locks: found.place.locks.saturating_sub(1),
             };
-            places::write(&mut links.places, resource, counted);
-            counted
+            places::write(&mut links.places, found.at, left);
+            left
         }
         None => unreachable!(),
     }

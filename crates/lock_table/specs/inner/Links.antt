@@ -12,12 +12,13 @@ use Rattle.link_pool.specs.declared.names.Col.{Col}
 use Rattle.link_pool.specs.declared.names.Node.{Node}
 use Rattle.lock_table.specs.declared.links.Lock.{Lock}
 use Rattle.lock_table.specs.declared.places.Place.{Place}
+use Rattle.lock_table.specs.declared.places.Found.{Found}
 use Rattle.lock_table.specs.declared.links.Links.{Links}
 use Rattle.std.specs.FinSet as set
 use Rattle.lock_table.specs.Locks.{held_by}
 use Rattle.lock_table.specs.Standing.{need_of}
 use Rattle.lock_table.specs.inner.Nodes.{held_in, with_lock, without_lock}
-use Rattle.lock_table.specs.inner.Tables.{entry_at}
+use Rattle.lock_table.specs.inner.Tables.{entry_at, key_at}
 
 -- each key has a ring of its own, and each node stands in the ring of its key
 pub record IsKeyed {K R : Type 0} (IsRing : R → Type 0) (home : Node → Option R) (key_of : Node → Option K) (at : K → Option R) : Type 0 where
@@ -56,6 +57,11 @@ col_at links owner = entry_at same_owner links.columns.entries owner
 -- no other owner has a column
 abbrev pub IsAlone : Links → OwnerNo → Type 0
 IsAlone links owner = (n : OwnerNo) (col : Col) → col_at links n ≡ Some col → n ≡ owner
+
+-- a resource was found there, with this place
+pub record IsFound (links : Links) (r : Resource) (found : Found) : Type 0 where
+  pub at : key_at found.at links.places.table.entries ≡ Some r
+  pub place : place_at links r ≡ Some found.place
 
 -- what holds whenever a lock is linked or unlinked
 pub record IsLinked (links : Links) : Type 0 where

@@ -1,8 +1,0 @@
-use Rattle.lock_table.proofs.Turning.{written_there, none_there}
-use Rattle.lock_table.proofs.places.write_at.Goals as goal
-
-pub returns-in-Some : goal.returns-in-Some
-returns-in-Some c resource is = written_there c.args.table.now c.args.at resource c.in-Some.there.now c.args.place c.in-Some.ensures.unique is c.in-Some.ensures.value
-
-pub returns-in_default : goal.returns-in_default
-returns-in_default c resource is = absurd (none_there c.args.table.now.entries c.args.at resource is c.in_default.ensures.value)

@@ -22,11 +22,11 @@ use storage_home::Change;
 fn body_of(alloc: Global, changes: &[Change], next: u64) -> Result<Body, NoMemory>
     ensures { IfOk result (λ body. body ≡ body_for next changes.now) }
 {
-    let mut puts = Puts::new(alloc);
-    puts.reserve(changes.len())?;
+    let mut puts = Vec::with_capacity(alloc, changes.len())?;
     for change in changes {
         puts.push(copy_put(&change.put)?)?;
     }
+    let puts = Puts::from_vec(puts);
     Ok(Body { next, puts })
 }
 

@@ -25,7 +25,7 @@ use Rattle.pss_copies.specs.Settling.{AreOf}
 use Rattle.connector_parts.specs.declared.parts.Parts.{Parts}
 use Rattle.connector_parts.specs.Stands.{Stands, StayAs}
 use Rattle.commit_calls.specs.declared.ready.Ready.{Ready}
-use Rattle.commit_calls.specs.Ready.{pid_of, MayMakeReady, IsReady}
+use Rattle.commit_calls.specs.Ready.{pid_of, pids_in, MayMakeReady, IsReady}
 use Rattle.commit_calls.specs.Commits.{IsCalled}
 use Rattle.commit_calls.proofs.Pids.{pids_of_net}
 use Rattle.commit_calls.proofs.Outcomes.{Opened, opened_is, none_opened}
@@ -58,7 +58,7 @@ module _ (c : Parts) (n : OwnerNo) (S : Schema) (same : S ≡ c.schema) (m : May
       by true less = absurd (none_some (sym ((full_as (o ≡ None) h).1 (ltb-true c.limits.total (total c.schema (over m.kept.catalog (net m.kept.catalog m.owner))) less)) ∙ is))
 
   -- and its objects are these
-  pub ready_as : (d : Parts) (ready : Ready) → d.schema ≡ c.schema → (o : Option Commit) → o ≡ Some ready.commit → IfSome o (λ commit. (p : MayPrepare S c.accounts n c.limits.total) → IsPrepared S d.accounts p.by.kept n commit) → ready.pids.items ≡ map pid_of ready.commit.changes → IsReady d m.kept n ready
+  pub ready_as : (d : Parts) (ready : Ready) → d.schema ≡ c.schema → (o : Option Commit) → o ≡ Some ready.commit → IfSome o (λ commit. (p : MayPrepare S c.accounts n c.limits.total) → IsPrepared S d.accounts p.by.kept n commit) → pids_in ready.pids ≡ map pid_of ready.commit.changes → IsReady d m.kept n ready
   ready_as d ready stays o is h pids =
       let prepared = subst (λ (q : Option Commit). IfSome q (λ commit. (p : MayPrepare S c.accounts n c.limits.total) → IsPrepared S d.accounts p.by.kept n commit)) is h in
       let p = subst (λ T. (p : MayPrepare T c.accounts n c.limits.total) → IsPrepared T d.accounts p.by.kept n ready.commit) same prepared (may_prepare c n m) in

@@ -18,12 +18,12 @@ use Rattle.pss_copies.specs.Settling as copies
 use Rattle.connector_parts.specs.declared.parts.Parts.{Parts}
 use Rattle.connector_parts.proofs.Goings.{accounts_alike}
 use Rattle.commit_calls.specs.declared.ready.Ready.{Ready}
-use Rattle.commit_calls.specs.Ready.{IsReady}
+use Rattle.commit_calls.specs.Ready.{pids_in, IsReady}
 use Rattle.commit_calls.specs.Commits.{MayCommit, MayFlush}
 use Rattle.commit_calls.proofs.Outcomes.{acts_of}
 
 module _ (c : Parts) (k : Kept) (n : OwnerNo) (ready : Ready) (is : IsReady c k n ready) where
-  pub commit_settles : (may : MayCommit k n) → copies.MayCommit k n ready.pids.items
+  pub commit_settles : (may : MayCommit k n) → copies.MayCommit k n (pids_in ready.pids)
   commit_settles may =
       let acts = acts_of k n may.transaction in
       record {
@@ -32,7 +32,7 @@ module _ (c : Parts) (k : Kept) (n : OwnerNo) (ready : Ready) (is : IsReady c k 
         closed = may.closed;
       }
 
-  pub flush_settles : (s : SessionNo) → MayFlush k s n → copies.MayFlush k s n ready.pids.items
+  pub flush_settles : (s : SessionNo) → MayFlush k s n → copies.MayFlush k s n (pids_in ready.pids)
   flush_settles s may = record { settles = record { owner = is.owner; there = is.there; pids_are = is.pids; own = may.own }; session = may.session; there = may.there; kind = may.kind }
 
 -- accounts whose owner has gone are those of the transaction that has gone

@@ -1,5 +1,5 @@
 -- Commits that are made ready.
-use Rattle.std.specs.Prelude.{◌≡◌, Some}
+use Rattle.std.specs.Prelude.{◌≡◌, List, [], ◌∷◌, Some}
 use Rattle.std.specs.FinMap.{get}
 use Rattle.pss_base.specs.declared.pid.Pid.{Pid}
 use Rattle.pss_base.specs.declared.owner.OwnerNo.{OwnerNo}
@@ -10,11 +10,18 @@ use Rattle.owner_accounts.specs.Commits.{IsPrepared}
 use Rattle.pss_copies.specs.Settling.{AreOf}
 use Rattle.connector_parts.specs.declared.parts.Parts.{Parts}
 use Rattle.connector_parts.specs.Stands.{IsAt}
+use Rattle.commit_calls.specs.declared.objects.Pids.{Pids}
+use Rattle.commit_calls.specs.declared.objects.Pids.TheVariants.{One, Many}
 use Rattle.commit_calls.specs.declared.ready.Ready.{Ready}
 
 -- the object of a change
 abbrev pub pid_of : Change → Pid
 pid_of change = record { home = change.put.home; serial = change.put.serial }
+
+-- the objects
+abbrev pub pids_in : Pids → List Pid
+pids_in (One pid) = pid ∷ []
+pids_in (Many pids) = pids.items
 
 -- an owner that is there, of what the parts stand for
 pub record MayMakeReady (c : Parts) (n : OwnerNo) : Type 0 where
@@ -28,4 +35,4 @@ pub record IsReady (c : Parts) (k : Kept) (n : OwnerNo) (ready : Ready) : Type 0
   pub owner : Owner
   pub there : get k.owners n.0 ≡ Some owner
   pub commit : IsPrepared c.schema c.accounts k n ready.commit
-  pub pids : AreOf k.catalog (net k.catalog owner) ready.pids.items
+  pub pids : AreOf k.catalog (net k.catalog owner) (pids_in ready.pids)

@@ -53,7 +53,7 @@ fn apply<L: Ledger>(parts: &mut Parts, owner: OwnerNo, ready: Ready, steps: &mut
 {
     let Ready { commit, pids } = ready;
     parts.accounts.commit(commit);
-    parts.attended.commit(owner, &pids, steps);
+    parts.attended.commit(owner, pids.as_slice(), steps);
     parts.accounts.leave(owner, steps);
 }
 

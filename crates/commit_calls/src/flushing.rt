@@ -38,7 +38,7 @@ fn apply<L: Ledger>(
 {
     let Ready { commit, pids } = ready;
     parts.accounts.commit(commit);
-    parts.attended.flush(session, owner, &pids, steps);
+    parts.attended.flush(session, owner, pids.as_slice(), steps);
     parts.accounts.empty(owner, steps);
 }
 

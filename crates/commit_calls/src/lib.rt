@@ -7,6 +7,7 @@
 
 mod committing;
 mod flushing;
+mod objects;
 mod ready;
 mod storing;
 

@@ -1,34 +1,20 @@
 // Commits are made ready.
-ghost use Rattle.std.specs.Prelude.{◌≡◌, map, not, is_some, IfOk, IfSome, OnOk};
+ghost use Rattle.std.specs.Prelude.{◌≡◌, not, is_some, IfOk, IfSome, OnOk};
 ghost use Rattle.pss_machine.specs.Kept.{Kept};
 ghost use Rattle.pss_machine.specs.Deciding.{is_over_full};
 ghost use Rattle.connector_parts.specs.Stands.{Stands, IsAt, StayAs};
-ghost use Rattle.commit_calls.specs.Ready.{pid_of, MayMakeReady, IsReady};
+ghost use Rattle.commit_calls.specs.Ready.{MayMakeReady, IsReady};
 
+use crate::objects::{Pids, pids_of};
 use connector_parts::Parts;
 use owner_accounts::Commit;
-use pss_base::{NoMemory, OwnerNo, Pid};
-use std::alloc::Global;
-use storage_home::Change;
+use pss_base::{NoMemory, OwnerNo};
 
 /// A commit that cannot fail any more, and the objects that it changes.
 #[derive(Drop)]
 pub struct Ready {
     pub commit: Commit,
-    pub pids: Vec<Pid>,
-}
-
-fn pids_of(alloc: Global, changes: &[Change]) -> Result<Vec<Pid>, NoMemory>
-    ensures { IfOk result (λ pids. pids.items ≡ map pid_of changes.now) }
-{
-    let mut pids = Vec::with_capacity(alloc, changes.len())?;
-    for change in changes {
-        pids.push(Pid {
-            home: change.put.home,
-            serial: change.put.serial,
-        })?;
-    }
-    Ok(pids)
+    pub pids: Pids,
 }
 
 /// Makes ready what an owner changed. None exactly where the objects would weigh more together than they may.

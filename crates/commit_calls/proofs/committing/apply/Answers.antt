@@ -11,5 +11,5 @@ commit-requires g c = record { schema = c.args.parts.now.schema; kept = c.requir
 pub returns-clause-committed : goal.returns-clause-committed
 returns-clause-committed g c k stands ready may = record {
   accounts = gone_alike c.args.parts.now.schema c.leave.new.self k c.args.owner (c.leave.ensures c.args.parts.now.schema (settled k c.args.owner) (c.commit.ensures c.args.parts.now.schema k c.args.owner stands.accounts ready.commit));
-  attended = c.commit-2.ensures k (subst (λ (l : List Pid). MayCommit k c.args.owner l) (sym c.deref.ensures.value) (commit_settles c.args.parts.now k c.args.owner c.args.ready ready may)) stands.attended;
+  attended = c.commit-2.ensures k (subst (λ (l : List Pid). MayCommit k c.args.owner l) (sym c.as_slice.ensures) (commit_settles c.args.parts.now k c.args.owner c.args.ready ready may)) stands.attended;
 }

@@ -131,6 +131,6 @@ pub record Takes (old : Parts) (k : Kept) (d : Decision) (acting : Acting) (aske
   pub taken : IsTaken old.schema old.limits new k acting asked answer
   pub comes : d ≡ does (Steps acting.owner acting.session taken.step.step asked) (reply_to old.schema k (copies_of k acting.session) asked answer)
 
-abbrev pub IsGranted : Parts → Kept → Decision → Acting → Grant → Parts → Type 0
-IsGranted old k d acting (Taken asked answer) new = Takes old k d acting (plain_asked asked) (plain_answer answer) new
-IsGranted old k d acting (Refused reply) new = Follows old k d reply new
+abbrev pub IsGranted : Parts → Kept → Decision → Acting → Asked → Grant → Parts → Type 0
+IsGranted old k d acting asked (Taken answer) new = Takes old k d acting asked (plain_answer answer) new
+IsGranted old k d acting asked (Refused reply) new = Follows old k d reply new

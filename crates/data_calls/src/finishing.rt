@@ -1,5 +1,5 @@
 // Commands from what they ask to their replies.
-ghost use Rattle.std.specs.Prelude.{◌≡◌, Result, IfOk};
+ghost use Rattle.std.specs.Prelude.{◌≡◌, Result, Ok, IfOk};
 ghost use Rattle.pss_machine.specs.declared.reply.Reply.{Reply as PlainReply};
 ghost use Rattle.pss_machine.specs.Operations.{plain_answer};
 ghost use Rattle.pss_machine.specs.Asking.{Asked as PlainAsked};
@@ -8,7 +8,7 @@ ghost use Rattle.data_calls.specs.Asking.{Asks, AnyAsks, decision_on, Follows};
 ghost use Rattle.data_calls.specs.Finishing.{AnyTaken, AreSeated, IsFinished};
 
 use crate::acting::Acting;
-use crate::granting::{Grant, attempt};
+use crate::granting::{Grant, attempt, reply_of};
 use crate::leaving::leave;
 use crate::obtaining::{obtain_found, seat_named};
 use crate::replies::reply;
@@ -38,16 +38,51 @@ fn seat_all<L: Ledger>(
 fn finish<L: Ledger>(
     parts: &mut Parts,
     acting: Acting,
-    asked: Asked,
+    asked: &Asked,
     answer: Answer,
     steps: &mut Steps<L>,
 ) -> Result<Reply, NoMemory>
-    requires { AnyTaken parts.old acting (plain_asked asked) (plain_answer answer) }
-    ensures { IfOk result (λ reply. (m : AnyTaken parts.old acting (plain_asked asked) (plain_answer answer)) → IsFinished m reply parts.new) }
+    requires { AnyTaken parts.old acting (plain_asked asked.now) (plain_answer answer) }
+    ensures { IfOk result (λ reply. (m : AnyTaken parts.old acting (plain_asked asked.now) (plain_answer answer)) → IsFinished m reply parts.new) }
 {
-    match seat_all(parts, acting, &asked, &answer, steps) {
-        Ok(entry) => reply(parts, &asked, answer, entry),
+    match seat_all(parts, acting, asked, &answer, steps) {
+        Ok(entry) => reply(parts, asked, answer, entry),
         Err(memory) => Err(memory),
+    }
+}
+
+// The reply to a command by what it asks.
+fn perform<L: Ledger>(
+    parts: &mut Parts,
+    acting: Acting,
+    asked: &Asked,
+    steps: &mut Steps<L>,
+) -> Result<Reply, NoMemory>
+    requires { Asks parts.old acting (Ok (plain_asked asked.now)) }
+    ensures { IfOk result (λ reply. (a : Asks parts.old acting (Ok (plain_asked asked.now))) → Follows parts.old a.kept (decision_on a) reply parts.new) }
+{
+    match attempt(parts, acting, asked)? {
+        Grant::Taken(answer) => finish(parts, acting, asked, answer, steps),
+        Grant::Refused(reply) => Ok(reply),
+    }
+}
+
+// The reply to a command by what its words ask, if anything.
+fn reply_to<L: Ledger>(
+    parts: &mut Parts,
+    acting: Acting,
+    asked: &Result<Asked, AskFault>,
+    steps: &mut Steps<L>,
+) -> Result<Reply, NoMemory>
+    requires { AnyAsks parts.old acting asked.now }
+    ensures { IfOk result (λ reply. (told : Result PlainAsked PlainReply) (a : Asks parts.old acting told) → Tells plain_asked asked.now told → Follows parts.old a.kept (decision_on a) reply parts.new) }
+{
+    match asked {
+        Ok(asked) => perform(parts, acting, asked, steps),
+        Err(fault) => match fault {
+            AskFault::Memory => Err(NoMemory),
+            AskFault::Refused(refusal) => Ok(reply_of(*refusal)),
+        },
     }
 }
 
@@ -62,8 +97,8 @@ pub fn ask<L: Ledger>(
     requires { AnyAsks parts.old acting asked }
     ensures { IfOk result (λ reply. (told : Result PlainAsked PlainReply) (a : Asks parts.old acting told) → Tells plain_asked asked told → Follows parts.old a.kept (decision_on a) reply parts.new) }
 {
-    match attempt(parts, acting, asked)? {
-        Grant::Taken(asked, answer) => finish(parts, acting, asked, answer, steps),
-        Grant::Refused(reply) => Ok(reply),
-    }
+    let reply = reply_to(parts, acting, &asked, steps);
+    // Here and not at the end: so its many forms are not taken apart in the clause above.
+    drop(asked);
+    reply
 }

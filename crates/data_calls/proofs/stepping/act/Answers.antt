@@ -15,13 +15,13 @@ use Rattle.data_calls.proofs.Taking.{may_step, act_busy, act_takes, none_where, 
 use Rattle.data_calls.proofs.stepping.act.Goals as goal
 
 pub act-requires : goal.act-requires
-act-requires c = subst (λ (S : Schema). MayStep S c.args.parts.now.accounts c.args.acting.owner (plain_op c.args.asked.op)) (sym c.schema.ensures) (may_step c.requires.take)
+act-requires c = subst (λ (S : Schema). MayStep S c.args.parts.now.accounts c.args.acting.owner (plain_op c.args.asked.now.op)) (sym c.schema.ensures) (may_step c.requires.take)
 
 pub returns-in_ok-name_of-in-Busy : goal.returns-in_ok-name_of-in-Busy
 returns-in_ok-name_of-in-Busy c m =
     let a = c.args.parts.now.accounts in
     let n = c.args.acting.owner in
-    let op = plain_op c.args.asked.op in
+    let op = plain_op c.args.asked.now.op in
     let busy = subst (λ (S : Schema). (m : MayStep S a n op) (b : OwnerNo) → (c.in_ok-answer.answer ≡ told.Busy b) ↔ (blocker m.by.kept.owners n (step_in m).needs ≡ Some b)) c.schema.ensures c.in_ok-answer.ensures.busy in
     let held = subst (λ (S : Schema). (m : MayStep S a n op) → IsSome (blocker m.by.kept.owners n (step_in m).needs) → AreAccounts S c.act.new.self m.by.kept) c.schema.ensures c.in_ok-answer.ensures.held_up in
     let is = (busy (may_step m.take) c.in-Busy.other).0 c.in-Busy.is in
@@ -32,9 +32,9 @@ pub returns-in_default : goal.returns-in_default
 returns-in_default c m =
     let a = c.args.parts.now.accounts in
     let n = c.args.acting.owner in
-    let op = plain_op c.args.asked.op in
+    let op = plain_op c.args.asked.now.op in
     let busy = subst (λ (S : Schema). (m : MayStep S a n op) (b : OwnerNo) → (c.in_ok-answer.answer ≡ told.Busy b) ↔ (blocker m.by.kept.owners n (step_in m).needs ≡ Some b)) c.schema.ensures c.in_ok-answer.ensures.busy in
     let answered = subst (λ (S : Schema). (m : MayStep S a n op) → blocker m.by.kept.owners n (step_in m).needs ≡ None → plain_answer c.in_ok-answer.answer ≡ (step_in m).answer) c.schema.ensures c.in_ok-answer.ensures.answer in
     let stepped = subst (λ (S : Schema). (m : MayStep S a n op) (s : SessionNo) (asked : Asked) → blocker m.by.kept.owners n (step_in m).needs ≡ None → AreAccounts S c.act.new.self (after_step m.by.kept n s (step_in m) asked)) c.schema.ensures c.in_ok-answer.ensures.stepped in
     let none = none_where (blocker m.take.asks.kept.owners n (step_in (may_step m.take)).needs) (λ b is. c.in_default.not-Busy b ((busy (may_step m.take) b).1 is)) in
-    act_takes m (plain_answer c.in_ok-answer.answer) none (answered (may_step m.take) none) _ (record { schema = refl; limits = refl }) refl (stepped (may_step m.take) c.args.acting.session (plain_asked c.args.asked) none)
+    act_takes m (plain_answer c.in_ok-answer.answer) none (answered (may_step m.take) none) _ (record { schema = refl; limits = refl }) refl (stepped (may_step m.take) c.args.acting.session (plain_asked c.args.asked.now) none)

@@ -11,7 +11,7 @@ lead_off-requires c = record { act = c.requires; led = c.in-Some.ensures c.requi
 pub returns-in-Some : goal.returns-in-Some
 returns-in-Some c =
     if_ok
-    (λ (grant : Grant). (m : MayFollow c.args.parts.now c.args.acting (plain_asked c.args.asked) c.in-Some.followed.pid c.in-Some.followed.to) → IsGranted c.args.parts.now m.act.take.asks.kept (decision_on m.act.take.asks) c.args.acting grant c.lead_off.new.parts)
-    (λ (grant : Grant). (m : MayAct c.args.parts.now c.args.acting (plain_asked c.args.asked)) → IsGranted c.args.parts.now m.take.asks.kept (decision_on m.take.asks) c.args.acting grant c.lead_off.new.parts)
+    (λ (grant : Grant). (m : MayFollow c.args.parts.now c.args.acting (plain_asked c.args.asked.now) c.in-Some.followed.pid c.in-Some.followed.to) → IsGranted c.args.parts.now m.act.take.asks.kept (decision_on m.act.take.asks) c.args.acting (plain_asked c.args.asked.now) grant c.lead_off.new.parts)
+    (λ (grant : Grant). (m : MayAct c.args.parts.now c.args.acting (plain_asked c.args.asked.now)) → IsGranted c.args.parts.now m.take.asks.kept (decision_on m.take.asks) c.args.acting (plain_asked c.args.asked.now) grant c.lead_off.new.parts)
     c.lead_off.result
     (λ grant h m. h (record { act = m; led = c.in-Some.ensures m })) c.lead_off.ensures

@@ -24,7 +24,7 @@ returns-in-Found c m =
     let V = view m.take.asks.kept.catalog m.take.asks.is.owner in
     let free = look_free m.take _ m.told q in
     let found = lead_found V q _ (sym (ap plain_answer c.in-Found.is) ∙ answered (may_look m.take q) free) in
-    look_takes m.take (Found q) (m.told ∙ ap Some found) q _ (record { schema = refl; limits = refl }) refl (stepped (may_look m.take q) c.args.acting.session (plain_asked c.args.asked) free)
+    look_takes m.take (Found q) (m.told ∙ ap Some found) q _ (record { schema = refl; limits = refl }) refl (stepped (may_look m.take q) c.args.acting.session (plain_asked c.args.asked.now) free)
 
 pub returns : goal.returns
 returns c m =
@@ -36,4 +36,4 @@ returns c m =
     let V = view m.take.asks.kept.catalog m.take.asks.is.owner in
     let free = look_free m.take _ m.told q in
     let gone = lead_gone V q (plain_answer c.in_ok-act.field-0) (λ p is. c.in_default.not-Found p (plain_found c.in_ok-act.field-0 p is)) (answered (may_look m.take q) free) in
-    look_takes m.take (Gone q) (m.told ∙ ap Some gone) q _ (record { schema = refl; limits = refl }) refl (stepped (may_look m.take q) c.args.acting.session (plain_asked c.args.asked) free)
+    look_takes m.take (Gone q) (m.told ∙ ap Some gone) q _ (record { schema = refl; limits = refl }) refl (stepped (may_look m.take q) c.args.acting.session (plain_asked c.args.asked.now) free)

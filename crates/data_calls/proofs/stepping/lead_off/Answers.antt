@@ -40,4 +40,4 @@ returns-in_default c m =
     let answered = subst (λ (S : Schema). (m : MayFollow S a n p to) → blocker m.step.by.kept.owners n (step_in m.step).needs ≡ None → plain_answer c.in_ok-told.told ≡ (step_in m.step).answer) c.schema.ensures c.in_ok-told.ensures.answer in
     let stepped = subst (λ (S : Schema). (m : MayFollow S a n p to) (s : SessionNo) (asked : Asked) → blocker m.step.by.kept.owners n (step_in m.step).needs ≡ None → AreAccounts S c.follow.new.self (after_step m.step.by.kept n s (step_in m.step) asked)) c.schema.ensures c.in_ok-told.ensures.stepped in
     let none = none_where (blocker m.act.take.asks.kept.owners n (step_in (may_follow m).step).needs) (λ b is. c.in_default.not-Busy b ((busy (may_follow m) b).1 is)) in
-    follow_takes m (plain_answer c.in_ok-told.told) none (answered (may_follow m) none) _ (record { schema = refl; limits = refl }) refl (stepped (may_follow m) c.args.acting.session (plain_asked c.args.asked) none)
+    follow_takes m (plain_answer c.in_ok-told.told) none (answered (may_follow m) none) _ (record { schema = refl; limits = refl }) refl (stepped (may_follow m) c.args.acting.session (plain_asked c.args.asked.now) none)

@@ -37,4 +37,4 @@ returns-in_default c m =
     let busy = subst (λ (S : Schema). (m : MayStep S a n op) (b : OwnerNo) → (c.in_ok-answer.answer ≡ told.Busy b) ↔ (blocker m.by.kept.owners n (step_in m).needs ≡ Some b)) c.schema-schema.ensures c.in_ok-answer.ensures.busy in
     let stepped = subst (λ (S : Schema). (m : MayStep S a n op) (s : SessionNo) (asked : Asked) → blocker m.by.kept.owners n (step_in m).needs ≡ None → AreAccounts S c.act.new.self (after_step m.by.kept n s (step_in m) asked)) c.schema-schema.ensures c.in_ok-answer.ensures.stepped in
     let none = none_where (blocker m.act.take.asks.kept.owners n (step_in (may_look m)).needs) (λ b is. c.in_default.not-Busy b ((busy (may_look m) b).1 is)) in
-    look_takes m none _ (record { schema = refl; limits = refl }) refl (stepped (may_look m) c.args.acting.session (plain_asked c.args.asked) none)
+    look_takes m none _ (record { schema = refl; limits = refl }) refl (stepped (may_look m) c.args.acting.session (plain_asked c.args.asked.now) none)

@@ -25,8 +25,8 @@ lead-requires c =
 pub returns-in-Nothing : goal.returns-in-Nothing
 returns-in-Nothing c =
     if_ok
-    (λ (grant : Grant). (m : MayAct c.args.parts.now c.args.acting (plain_asked c.args.asked)) → IsGranted c.args.parts.now m.take.asks.kept (decision_on m.take.asks) c.args.acting grant c.take.new.parts)
-    (λ (grant : Grant). (m : MayTake c.args.parts.now c.args.acting (plain_asked c.args.asked)) → IsGranted c.args.parts.now m.asks.kept (decision_on m.asks) c.args.acting grant c.take.new.parts)
+    (λ (grant : Grant). (m : MayAct c.args.parts.now c.args.acting (plain_asked c.args.asked.now)) → IsGranted c.args.parts.now m.take.asks.kept (decision_on m.take.asks) c.args.acting (plain_asked c.args.asked.now) grant c.take.new.parts)
+    (λ (grant : Grant). (m : MayTake c.args.parts.now c.args.acting (plain_asked c.args.asked.now)) → IsGranted c.args.parts.now m.asks.kept (decision_on m.asks) c.args.acting (plain_asked c.args.asked.now) grant c.take.new.parts)
     c.take.result
     (λ grant h m. h (record { take = m; told = sym (c.in_ok-consult.ensures m.asks.kept m.asks.is m.asks.at) ∙ ap (told_as (view m.asks.kept.catalog m.asks.is.owner)) c.in-Nothing.is })) c.take.ensures
 
@@ -37,7 +37,7 @@ returns-in-Answer c m =
 pub returns-in-Lead : goal.returns-in-Lead
 returns-in-Lead c =
     if_ok
-    (λ (grant : Grant). (m : MayLead c.args.parts.now c.args.acting (plain_asked c.args.asked) c.in-Lead.pid) → IsGranted c.args.parts.now m.take.asks.kept (decision_on m.take.asks) c.args.acting grant c.lead.new.parts)
-    (λ (grant : Grant). (m : MayTake c.args.parts.now c.args.acting (plain_asked c.args.asked)) → IsGranted c.args.parts.now m.asks.kept (decision_on m.asks) c.args.acting grant c.lead.new.parts)
+    (λ (grant : Grant). (m : MayLead c.args.parts.now c.args.acting (plain_asked c.args.asked.now) c.in-Lead.pid) → IsGranted c.args.parts.now m.take.asks.kept (decision_on m.take.asks) c.args.acting (plain_asked c.args.asked.now) grant c.lead.new.parts)
+    (λ (grant : Grant). (m : MayTake c.args.parts.now c.args.acting (plain_asked c.args.asked.now)) → IsGranted c.args.parts.now m.asks.kept (decision_on m.asks) c.args.acting (plain_asked c.args.asked.now) grant c.lead.new.parts)
     c.lead.result
     (λ grant h m. h (record { take = m; told = sym (c.in_ok-consult.ensures m.asks.kept m.asks.is m.asks.at) ∙ ap (told_as (view m.asks.kept.catalog m.asks.is.owner)) c.in-Lead.is })) c.lead.ensures

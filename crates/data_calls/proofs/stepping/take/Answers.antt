@@ -12,14 +12,14 @@ use Rattle.data_calls.proofs.stepping.take.Goals as goal
 
 pub look-requires : goal.look-requires
 look-requires c =
-    let read = subst (λ o. IfSome o (λ (sight : Sight). (m : MayAct c.args.parts.now c.args.acting (plain_asked c.args.asked)) → IsRead m sight.pid (Val (plain_value sight.value)))) c.in-Some.is c.in_ok-sight.ensures in
+    let read = subst (λ o. IfSome o (λ (sight : Sight). (m : MayAct c.args.parts.now c.args.acting (plain_asked c.args.asked.now)) → IsRead m sight.pid (Val (plain_value sight.value)))) c.in-Some.is c.in_ok-sight.ensures in
     record { act = c.requires; read = read c.requires }
 
 pub returns-in-Some : goal.returns-in-Some
 returns-in-Some c =
-    let read = subst (λ o. IfSome o (λ (sight : Sight). (m : MayAct c.args.parts.now c.args.acting (plain_asked c.args.asked)) → IsRead m sight.pid (Val (plain_value sight.value)))) c.in-Some.is c.in_ok-sight.ensures in
+    let read = subst (λ o. IfSome o (λ (sight : Sight). (m : MayAct c.args.parts.now c.args.acting (plain_asked c.args.asked.now)) → IsRead m sight.pid (Val (plain_value sight.value)))) c.in-Some.is c.in_ok-sight.ensures in
     if_ok
-    (λ (grant : Grant). (m : MayLook c.args.parts.now c.args.acting (plain_asked c.args.asked) c.in-Some.sight.pid (Val (plain_value c.in-Some.sight.value))) → IsGranted c.args.parts.now m.act.take.asks.kept (decision_on m.act.take.asks) c.args.acting grant c.look.new.parts)
-    (λ (grant : Grant). (m : MayAct c.args.parts.now c.args.acting (plain_asked c.args.asked)) → IsGranted c.args.parts.now m.take.asks.kept (decision_on m.take.asks) c.args.acting grant c.look.new.parts)
+    (λ (grant : Grant). (m : MayLook c.args.parts.now c.args.acting (plain_asked c.args.asked.now) c.in-Some.sight.pid (Val (plain_value c.in-Some.sight.value))) → IsGranted c.args.parts.now m.act.take.asks.kept (decision_on m.act.take.asks) c.args.acting (plain_asked c.args.asked.now) grant c.look.new.parts)
+    (λ (grant : Grant). (m : MayAct c.args.parts.now c.args.acting (plain_asked c.args.asked.now)) → IsGranted c.args.parts.now m.take.asks.kept (decision_on m.take.asks) c.args.acting (plain_asked c.args.asked.now) grant c.look.new.parts)
     c.look.result
     (λ grant h m. h (record { act = m; read = read m })) c.look.ensures

@@ -9,4 +9,4 @@ count-requires c = (c.args.parts.now.schema, may_count c.requires.take)
 
 pub returns : goal.returns
 returns c m =
-    told_takes m.take _ m.told _ (record { schema = refl; limits = refl }) refl (λ question. c.count.ensures c.args.parts.now.schema (may_count m.take) c.args.acting.session question (plain_answer c.args.answer) (plain_asked c.args.asked))
+    told_takes m.take _ m.told _ (record { schema = refl; limits = refl }) refl (λ question. c.count.ensures c.args.parts.now.schema (may_count m.take) c.args.acting.session question (plain_answer c.args.answer) (plain_asked c.args.asked.now))

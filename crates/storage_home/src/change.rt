@@ -1,5 +1,5 @@
 // What a commit makes of objects, and of the keys that they hold.
-ghost use Rattle.std.specs.Prelude.{◌≡◌, ◌≤◌, ◌++◌, ◌∷◌, [], OnOk, OnErr};
+ghost use Rattle.std.specs.Prelude.{◌≡◌, ◌≤◌, ◌++◌, ◌∷◌, [], IfOk, OnOk, OnErr};
 ghost use Rattle.storage_home.specs.Changes.{Rises, least_next};
 
 use pss_base::{Bytes, NoMemory, Put};
@@ -92,6 +92,14 @@ impl Changes {
         Changes {
             changes: Vec::new(alloc),
         }
+    }
+
+    /// None, with room for so many.
+    pub fn with_capacity(alloc: Global, count: usize) -> Result<Changes, NoMemory>
+        ensures { IfOk result (λ changes. changes ≡ []) }
+    {
+        let changes = Vec::with_capacity(alloc, count)?;
+        Ok(Changes { changes })
     }
 
     /// Puts one last. `NoMemory`: the list is as before.

@@ -308,3 +308,8 @@ pub links_end : (first now : Links) (col : Col) (all rest : List Lock) → Links
 links_end first now col all rest l e =
     let ready : IsReady now [] = subst (IsReady now) e l.ready in
     (record { linked = ready.linked; rows = ready.rows; cols = ready.cols }, sym (ap (λ z. with_all z (held_in now.pool)) e) ∙ l.held)
+
+-- a lock is linked alone
+pub linked_alone : (old new : Links) (col : Col) (lock : Lock) → IsReady old (lock ∷ []) → HaveRings old col (lock ∷ []) → 1 ≤ old.pool.room → IsLinked new → LinksOne old new lock → IsWhole new × (held_in new.pool ≡ with_lock lock (held_in old.pool))
+linked_alone old new col lock ready rings room linked one =
+    links_end old new col (lock ∷ []) [] (links_on old old col (lock ∷ []) [] (lock ∷ []) lock (links_begin old col (lock ∷ []) ready rings room) refl new linked one) refl

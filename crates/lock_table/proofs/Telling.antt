@@ -1,6 +1,6 @@
 -- What a table tells of its locks.
-use Rattle.std.proofs.Common.{◌≡◌, List, [], ◌∷◌, length, Some, None, refl, sym, ap, ◌∙◌, subst, arith}
-use Rattle.std.specs.Prelude.{Contains, map}
+use Rattle.std.proofs.Common.{◌≡◌, ⊎_elim, List, [], ◌∷◌, length, Some, None, refl, sym, ap, ◌∙◌, subst, arith}
+use Rattle.std.specs.Prelude.{Contains, map, Result, Ok, Err, OnOk}
 use Rattle.std.specs.Option.{option_map}
 use Rattle.std.specs.FinMap as map
 use Rattle.pss_base.specs.declared.owner.OwnerNo.{OwnerNo}
@@ -12,13 +12,13 @@ use Rattle.lock_table.specs.declared.links.Lock.{Lock}
 use Rattle.lock_table.specs.declared.links.Links.{Links}
 use Rattle.lock_table.specs.Locks.{granted}
 use Rattle.lock_table.specs.Standing.{AreLocks, lock_of}
-use Rattle.lock_table.specs.inner.Nodes.{held_of, held_in, with_all, missing}
+use Rattle.lock_table.specs.inner.Nodes.{held_of, held_in, with_lock, with_all, missing}
 use Rattle.lock_table.specs.inner.Links.{IsReady, IsWhole, same_owner, resources, owners, place_at, row_at, col_at}
 use Rattle.pss_machine.specs.declared.lock.Resource.{Resource}
 use Rattle.pss_machine.specs.Needs.{same_resource}
 use Rattle.link_pool.specs.Names.{node_cmp, row_cmp, col_cmp}
 use Rattle.lock_table.specs.inner.Tables.{entry_at}
-use Rattle.lock_table.proofs.Keyed.{one_value, no_value, empty_within}
+use Rattle.lock_table.proofs.Keyed.{one_value, no_value, empty_within, contains_cases}
 use Rattle.lock_table.proofs.Holding.{node_held, held_node, tight-held_of}
 use Rattle.lock_table.proofs.Unlinking.{seat_row, seat_col}
 use Rattle.lock_table.proofs.Missing.{all_granted, own_locks}
@@ -102,3 +102,17 @@ module _ (p : Meaning Lock) (owner : OwnerNo) (needs : List Need) (locks : List 
       no_locks : (xs : List Lock) → length xs ≡ 0 → xs ≡ []
       no_locks [] e = refl
       no_locks (x ∷ xs) e = absurd (omega (arith, e))
+
+module _ (p : Meaning Lock) (owner : OwnerNo) (needs : List Need) where
+  pub nothing_more : missing (held_in p) owner needs ≡ [] → held_in p ≡ granted (held_in p) owner needs
+  nothing_more none = ap (λ l. with_all (map (lock_of owner) l) (held_in p)) (sym none) ∙ all_in p owner needs _ refl
+
+  pub one_more : (need : Need) (rest : List Need) → missing (held_in p) owner needs ≡ need ∷ missing (held_in p) owner rest → missing (held_in p) owner rest ≡ [] → with_lock (lock_of owner need) (held_in p) ≡ granted (held_in p) owner needs
+  one_more need rest some none = ap (λ l. with_all (map (lock_of owner) (need ∷ l)) (held_in p)) (sym none) ∙ ap (λ l. with_all (map (lock_of owner) l) (held_in p)) (sym some) ∙ all_in p owner needs _ refl
+
+pub only_own : (one lock : Lock) → Contains (one ∷ []) lock → lock.owner ≡ one.owner
+only_own one lock m = ⊎_elim (λ (e : one ≡ lock). ap (λ (l : Lock). l.owner) (sym e)) (λ n. absurd (nothing_within lock n)) (contains_cases one lock [] m)
+
+pub on_ok : {A E P Q : Type 0} (r : Result A E) → (P → Q) → OnOk r P → OnOk r Q
+on_ok (Ok a) f p = f p
+on_ok (Err e) f p = p

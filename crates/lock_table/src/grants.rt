@@ -1,12 +1,12 @@
 // Locks come in: copies and rings first, where memory may lack, and then the nodes.
-ghost use Rattle.std.specs.Prelude.{◌≡◌, ◌+◌, ◌-◌, ◌^◌, ◌≤◌, ◌<◌, ◌++◌, ◌∷◌, [], List, length, map, min, true, false, Some, None, IsSome, IfOk, OnOk, Contains};
+ghost use Rattle.std.specs.Prelude.{◌≡◌, ◌+◌, ◌-◌, ◌^◌, ◌≤◌, ◌<◌, ◌++◌, ◌∷◌, [], List, length, map, min, true, false, Some, None, IsSome, IfOk, OnOk, OnErr, IfSome, IfNone, Contains};
 ghost use Rattle.pss_machine.specs.declared.lock.Resource.{Resource};
 ghost use Rattle.pss_base.specs.declared.owner.OwnerNo.{OwnerNo};
 ghost use Rattle.lock_table.specs.declared.links.Lock.{Lock};
 ghost use Rattle.std.specs.FinSet as set;
-ghost use Rattle.lock_table.specs.Locks.{held_by};
+ghost use Rattle.lock_table.specs.Locks.{held_by, granted};
 ghost use Rattle.lock_table.specs.Standing.{lock_of, need_of};
-ghost use Rattle.lock_table.specs.inner.Nodes.{held_in, with_all, missing};
+ghost use Rattle.lock_table.specs.inner.Nodes.{held_in, with_lock, with_all, missing};
 ghost use Rattle.lock_table.specs.inner.Links.{IsLinked, IsReady, IsWhole, HaveRings, Grows, SameNodes, IsFound, Recounts, LinksOne, EmptyRows, EmptyCols, resources, owners, place_at, col_at};
 
 use crate::asks::{is_held, is_held_at, place_of};
@@ -19,6 +19,7 @@ use link_pool::Col;
 use pss_base::{NoMemory, OwnerNo};
 use pss_machine::{Need, Resource};
 use std::alloc::Global;
+use std::slice;
 
 // Puts a copy last.
 fn push_lock(locks: &mut Vec<Lock>, owner: OwnerNo, need: &Need) -> Result<(), NoMemory>
@@ -28,8 +29,28 @@ fn push_lock(locks: &mut Vec<Lock>, owner: OwnerNo, need: &Need) -> Result<(), N
     Ok(())
 }
 
-/// The locks that an owner needs and does not have, as often as they are needed.
-pub fn missing_locks(
+// The first need for which an owner has no lock yet, and those behind it.
+fn first_missing<'a>(
+    links: &Links,
+    owner: OwnerNo,
+    needs: &'a [Need],
+) -> Option<(&'a Need, &'a [Need])>
+    requires { IsLinked links.now }
+    ensures some { IfSome result (λ found. missing (held_in links.now.pool) owner needs.now ≡ found.0.now ∷ missing (held_in links.now.pool) owner found.1.now) }
+    ensures none { IfNone result (missing (held_in links.now.pool) owner needs.now ≡ []) }
+{
+    let mut left = needs;
+    while let Some((need, rest)) = left.split_first() {
+        if !is_held(links, owner, &need.resource, need.mode) {
+            return Some((need, rest));
+        }
+        left = rest;
+    }
+    None
+}
+
+// The locks that an owner needs and does not have, as often as they are needed.
+fn missing_locks(
     alloc: Global,
     links: &Links,
     owner: OwnerNo,
@@ -110,8 +131,8 @@ fn make_places(links: &mut Links, locks: &[Lock]) -> Result<(), NoMemory>
     Ok(())
 }
 
-/// Makes rings and room for locks of an owner, and answers the owner's column. Also without memory there may be empty rings.
-pub fn make_rings(links: &mut Links, owner: OwnerNo, locks: &[Lock]) -> Result<Col, NoMemory>
+// Makes rings and room for locks of an owner, and answers the owner's column. Also without memory there may be empty rings.
+fn make_rings(links: &mut Links, owner: OwnerNo, locks: &[Lock]) -> Result<Col, NoMemory>
     requires ready { IsReady links.old locks.now }
     requires own { (lock : Lock) → Contains locks.now lock → lock.owner ≡ owner }
     requires some { 0 < length locks.now }
@@ -126,8 +147,8 @@ pub fn make_rings(links: &mut Links, owner: OwnerNo, locks: &[Lock]) -> Result<C
     Ok(col)
 }
 
-/// Takes the empty rings away that were made for locks of an owner.
-pub fn drop_empty_rings(links: &mut Links, owner: OwnerNo, locks: &[Lock])
+// Takes the empty rings away that were made for locks of an owner.
+fn drop_empty_rings(links: &mut Links, owner: OwnerNo, locks: &[Lock])
     requires ready { IsReady links.old locks.now }
     requires own { (lock : Lock) → Contains locks.now lock → lock.owner ≡ owner }
     ensures nodes { SameNodes links.old links.new }
@@ -197,8 +218,8 @@ fn link(links: &mut Links, col: Col, lock: Lock)
     }
 }
 
-/// Links locks in their rings, each where its owner has it not yet.
-pub fn link_all(links: &mut Links, col: Col, locks: Vec<Lock>)
+// Links locks in their rings, each where its owner has it not yet.
+fn link_all(links: &mut Links, col: Col, locks: Vec<Lock>)
     requires ready { IsReady links.old locks.items }
     requires rings { HaveRings links.old col locks.items }
     requires room { length locks.items ≤ links.old.pool.room }
@@ -208,5 +229,90 @@ pub fn link_all(links: &mut Links, col: Col, locks: Vec<Lock>)
     let mut rest = locks;
     while let Some(lock) = rest.pop() {
         link(links, col, lock);
+    }
+}
+
+// Locks one thing that an owner needs.
+//
+// `NoMemory`: the locks are as before.
+fn grant_one(links: &mut Links, owner: OwnerNo, need: &Need) -> Result<(), NoMemory>
+    requires { IsWhole links.old }
+    ensures whole { IsWhole links.new }
+    ensures ok { OnOk result (held_in links.new.pool ≡ with_lock (lock_of owner need.now) (held_in links.old.pool)) }
+    ensures err { OnErr result (held_in links.new.pool ≡ held_in links.old.pool) }
+{
+    let lock = lock_for(owner, need)?;
+    link_one(links, lock)
+}
+
+// Makes rings for a lock, and links it there.
+fn link_one(links: &mut Links, lock: Lock) -> Result<(), NoMemory>
+    requires { IsWhole links.old }
+    ensures whole { IsWhole links.new }
+    ensures ok { OnOk result (held_in links.new.pool ≡ with_lock lock (held_in links.old.pool)) }
+    ensures err { OnErr result (held_in links.new.pool ≡ held_in links.old.pool) }
+{
+    match make_rings(links, lock.owner, slice::from_ref(&lock)) {
+        Ok(col) => {
+            link(links, col, lock);
+            Ok(())
+        }
+        Err(NoMemory) => {
+            drop_empty_rings(links, lock.owner, slice::from_ref(&lock));
+            Err(NoMemory)
+        }
+    }
+}
+
+// Locks all that an owner needs and has not locked yet.
+//
+// `NoMemory`: the locks are as before.
+fn grant_all(
+    alloc: Global,
+    links: &mut Links,
+    owner: OwnerNo,
+    needs: &[Need],
+) -> Result<(), NoMemory>
+    requires { IsWhole links.old }
+    ensures whole { IsWhole links.new }
+    ensures ok { OnOk result (held_in links.new.pool ≡ granted (held_in links.old.pool) owner needs.now) }
+    ensures err { OnErr result (held_in links.new.pool ≡ held_in links.old.pool) }
+{
+    let locks = missing_locks(alloc, links, owner, needs)?;
+    if locks.is_empty() {
+        return Ok(());
+    }
+    match make_rings(links, owner, &locks) {
+        Ok(col) => {
+            link_all(links, col, locks);
+            Ok(())
+        }
+        Err(NoMemory) => {
+            drop_empty_rings(links, owner, &locks);
+            Err(NoMemory)
+        }
+    }
+}
+
+/// Locks what an owner needs and has not locked yet: nothing or one thing nearly always, which takes no list.
+///
+/// `NoMemory`: the locks are as before.
+pub fn grant(
+    alloc: Global,
+    links: &mut Links,
+    owner: OwnerNo,
+    needs: &[Need],
+) -> Result<(), NoMemory>
+    requires { IsWhole links.old }
+    ensures whole { IsWhole links.new }
+    ensures ok { OnOk result (held_in links.new.pool ≡ granted (held_in links.old.pool) owner needs.now) }
+    ensures err { OnErr result (held_in links.new.pool ≡ held_in links.old.pool) }
+{
+    match first_missing(links, owner, needs) {
+        Some((need, rest)) => match first_missing(links, owner, rest) {
+            Some(_) => grant_all(alloc, links, owner, needs),
+            None => grant_one(links, owner, need),
+        },
+        None => Ok(()),
     }
 }

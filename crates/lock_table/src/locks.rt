@@ -8,7 +8,7 @@ ghost use Rattle.lock_table.specs.inner.Nodes.{held_in};
 ghost use Rattle.lock_table.specs.inner.Links.{IsWhole};
 
 use crate::asks::blocker_of;
-use crate::grants::{drop_empty_rings, link_all, make_rings, missing_locks};
+use crate::grants::grant;
 use crate::links::{Links, Lock};
 use crate::releases::release;
 use crate::{places, tables};
@@ -87,20 +87,8 @@ impl LockTable {
         ensures ok { OnOk result (self.new ≡ granted self.old owner needs.now) }
         ensures err { OnErr result (self.new ≡ self.old) }
     {
-        let locks = missing_locks(self.alloc, &self.links, owner, needs.as_slice())?;
-        if locks.is_empty() {
-            return Ok(());
-        }
-        match make_rings(&mut self.links, owner, &locks) {
-            Ok(col) => {
-                link_all(&mut self.links, col, locks);
-                Ok(())
-            }
-            Err(NoMemory) => {
-                drop_empty_rings(&mut self.links, owner, &locks);
-                Err(NoMemory)
-            }
-        }
+        grant(self.alloc, &mut self.links, owner, needs.as_slice())?;
+        Ok(())
     }
 
     /// Releases all locks of an owner. One step for each of them, and at most one more. It takes no memory.

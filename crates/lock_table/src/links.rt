@@ -1,7 +1,7 @@
 // Locks in rings, and the tables by which rings are found.
 
 use crate::places::Places;
-use crate::tables::Table;
+use crate::tables::NumberTable;
 use link_pool::{Col, Pool};
 use pss_base::OwnerNo;
 use pss_machine::{Mode, Resource};
@@ -19,7 +19,7 @@ pub struct Lock {
 pub struct Links {
     pub pool: Pool<Lock>,
     pub places: Places,
-    pub columns: Table<OwnerNo, Col>,
+    pub columns: NumberTable<OwnerNo, Col>,
     /// How many locks there are.
     pub held: u64,
 }

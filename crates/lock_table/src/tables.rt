@@ -6,21 +6,26 @@ ghost use Rattle.lock_table.specs.inner.Tables.{entry_at, Turns};
 use indexmap::IndexMap;
 use pss_base::NoMemory;
 use std::alloc::Global;
-use std::hash::{BuildHasherDefault, Hash};
-use table_hash::ByteHasher;
+use std::hash::{BuildHasher, BuildHasherDefault, Hash, Hasher};
+use table_hash::{ByteHasher, NumberHasher};
 
 /// Values by key. A stranger may choose the keys.
 pub type Table<K, V> = IndexMap<K, V, BuildHasherDefault<ByteHasher>>;
 
+/// Values by number. The service gives the numbers in turn and no stranger chooses them, so that one multiplication parts them.
+pub type NumberTable<N, V> = IndexMap<N, V, BuildHasherDefault<NumberHasher>>;
+
 /// A table with no entry. It takes no memory.
-pub fn empty<K: Eq + Hash, V>(alloc: Global) -> Table<K, V>
+pub fn empty<K: Eq + Hash, V, H: Copy + Default + Hasher>(
+    alloc: Global,
+) -> IndexMap<K, V, BuildHasherDefault<H>>
     ensures { result.entries ≡ [] }
 {
     IndexMap::with_hasher(alloc, BuildHasherDefault::new())
 }
 
 /// The value of a key, where it has one. The first key is not hashed: it may be alone.
-pub fn find<K: Eq + Hash, V: Copy>(table: &Table<K, V>, key: &K) -> Option<V>
+pub fn find<K: Eq + Hash, V: Copy, S: BuildHasher>(table: &IndexMap<K, V, S>, key: &K) -> Option<V>
     ensures { result ≡ entry_at K.eq table.now.entries key.now }
 {
     match first_if(table, key) {
@@ -30,7 +35,7 @@ pub fn find<K: Eq + Hash, V: Copy>(table: &Table<K, V>, key: &K) -> Option<V>
 }
 
 // The first value, where it has this key.
-fn first_if<K: Eq + Hash, V: Copy>(table: &Table<K, V>, key: &K) -> Option<V>
+fn first_if<K: Eq + Hash, V: Copy, S: BuildHasher>(table: &IndexMap<K, V, S>, key: &K) -> Option<V>
     ensures { IfSome result (λ value. entry_at K.eq table.now.entries key.now ≡ Some value) }
 {
     match table.get_index(0) {
@@ -40,7 +45,9 @@ fn first_if<K: Eq + Hash, V: Copy>(table: &Table<K, V>, key: &K) -> Option<V>
 }
 
 /// Makes room for one more entry. Without memory the entries are as before.
-pub fn reserve<K: Eq + Hash, V>(table: &mut Table<K, V>) -> Result<(), NoMemory>
+pub fn reserve<K: Eq + Hash, V, S: BuildHasher>(
+    table: &mut IndexMap<K, V, S>,
+) -> Result<(), NoMemory>
     ensures entries { table.new.entries ≡ table.old.entries }
     ensures ok { OnOk result (0 < spare table.new) }
 {
@@ -49,7 +56,11 @@ pub fn reserve<K: Eq + Hash, V>(table: &mut Table<K, V>) -> Result<(), NoMemory>
 }
 
 /// Sets the value of a key, for which there is room. It takes no memory.
-pub fn put<K: Eq + Hash + Drop, V: Drop>(table: &mut Table<K, V>, key: K, value: V)
+pub fn put<K: Eq + Hash + Drop, V: Drop, S: BuildHasher>(
+    table: &mut IndexMap<K, V, S>,
+    key: K,
+    value: V,
+)
     requires { 0 < spare table.old }
     ensures { Turns K.eq table.old.entries table.new.entries key (Some value) }
 {
@@ -60,7 +71,7 @@ pub fn put<K: Eq + Hash + Drop, V: Drop>(table: &mut Table<K, V>, key: K, value:
 }
 
 /// Takes the entry of a key away.
-pub fn remove<K: Eq + Hash + Drop, V: Drop>(table: &mut Table<K, V>, key: &K)
+pub fn remove<K: Eq + Hash + Drop, V: Drop, S: BuildHasher>(table: &mut IndexMap<K, V, S>, key: &K)
     ensures { Turns K.eq table.old.entries table.new.entries key.now None }
 {
     let _ = table.swap_remove(key);

@@ -309,7 +309,13 @@ links_end first now col all rest l e =
     let ready : IsReady now [] = subst (IsReady now) e l.ready in
     (record { linked = ready.linked; rows = ready.rows; cols = ready.cols }, sym (ap (λ z. with_all z (held_in now.pool)) e) ∙ l.held)
 
+pub only_one : (one lock : Lock) → Contains (one ∷ []) lock → one ≡ lock
+only_one one lock m = ⊎_elim (λ e. e) (λ n. absurd (omega (arith, n.1))) (contains_cases one lock [] m)
+
 -- a lock is linked alone
-pub linked_alone : (old new : Links) (col : Col) (lock : Lock) → IsReady old (lock ∷ []) → HaveRings old col (lock ∷ []) → 1 ≤ old.pool.room → IsLinked new → LinksOne old new lock → IsWhole new × (held_in new.pool ≡ with_lock lock (held_in old.pool))
-linked_alone old new col lock ready rings room linked one =
+pub linked_alone : (old new : Links) (col : Col) (lock : Lock) → IsReady old (lock ∷ []) → IsSome (place_at old lock.resource) → col_at old lock.owner ≡ Some col → 1 ≤ old.pool.room → IsLinked new → LinksOne old new lock → IsWhole new × (held_in new.pool ≡ with_lock lock (held_in old.pool))
+linked_alone old new col lock ready place at room linked one =
     links_end old new col (lock ∷ []) [] (links_on old old col (lock ∷ []) [] (lock ∷ []) lock (links_begin old col (lock ∷ []) ready rings room) refl new linked one) refl
+  where
+    rings : HaveRings old col (lock ∷ [])
+    rings other m = subst (λ (l : Lock). IsSome (place_at old l.resource) × (col_at old l.owner ≡ Some col)) (only_one lock other m) (place, at)

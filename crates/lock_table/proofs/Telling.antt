@@ -1,5 +1,5 @@
 -- What a table tells of its locks.
-use Rattle.std.proofs.Common.{◌≡◌, ⊎_elim, List, [], ◌∷◌, length, Some, None, refl, sym, ap, ◌∙◌, subst, arith}
+use Rattle.std.proofs.Common.{◌≡◌, List, [], ◌∷◌, length, Some, None, refl, sym, ap, ◌∙◌, subst, arith}
 use Rattle.std.specs.Prelude.{Contains, map, Result, Ok, Err, OnOk}
 use Rattle.std.specs.Option.{option_map}
 use Rattle.std.specs.FinMap as map
@@ -18,7 +18,8 @@ use Rattle.pss_machine.specs.declared.lock.Resource.{Resource}
 use Rattle.pss_machine.specs.Needs.{same_resource}
 use Rattle.link_pool.specs.Names.{node_cmp, row_cmp, col_cmp}
 use Rattle.lock_table.specs.inner.Tables.{entry_at}
-use Rattle.lock_table.proofs.Keyed.{one_value, no_value, empty_within, contains_cases}
+use Rattle.lock_table.proofs.Keyed.{one_value, no_value, empty_within}
+use Rattle.lock_table.proofs.Linking.{only_one}
 use Rattle.lock_table.proofs.Holding.{node_held, held_node, tight-held_of}
 use Rattle.lock_table.proofs.Unlinking.{seat_row, seat_col}
 use Rattle.lock_table.proofs.Missing.{all_granted, own_locks}
@@ -111,7 +112,7 @@ module _ (p : Meaning Lock) (owner : OwnerNo) (needs : List Need) where
   one_more need rest some none = ap (λ l. with_all (map (lock_of owner) (need ∷ l)) (held_in p)) (sym none) ∙ ap (λ l. with_all (map (lock_of owner) l) (held_in p)) (sym some) ∙ all_in p owner needs _ refl
 
 pub only_own : (one lock : Lock) → Contains (one ∷ []) lock → lock.owner ≡ one.owner
-only_own one lock m = ⊎_elim (λ (e : one ≡ lock). ap (λ (l : Lock). l.owner) (sym e)) (λ n. absurd (nothing_within lock n)) (contains_cases one lock [] m)
+only_own one lock m = ap (λ (l : Lock). l.owner) (sym (only_one one lock m))
 
 pub on_ok : {A E P Q : Type 0} (r : Result A E) → (P → Q) → OnOk r P → OnOk r Q
 on_ok (Ok a) f p = f p

@@ -20,13 +20,14 @@ pub fn place_of(links: &Links, resource: &Resource) -> Option<Place>
     places::find(&links.places, resource)
 }
 
-/// Whether an owner has locked a resource in a mode.
-pub fn is_held(links: &Links, owner: OwnerNo, resource: &Resource, mode: Mode) -> bool
-    requires { IsLinked links.now }
-    ensures { result ≡ set.contains (held_by (held_in links.now.pool) owner) (record { resource = resource.now; mode = mode }) }
+/// Whether an owner has locked what it needs, where this is the place of its resource.
+pub fn is_held(links: &Links, owner: OwnerNo, need: &Need, place: Option<Place>) -> bool
+    requires linked { IsLinked links.now }
+    requires place { place ≡ place_at links.now need.now.resource }
+    ensures { result ≡ set.contains (held_by (held_in links.now.pool) owner) need.now }
 {
-    match place_of(links, resource) {
-        Some(place) => is_held_at(links, place, owner, mode),
+    match place {
+        Some(place) => is_held_at(links, place, owner, need.mode),
         None => false,
     }
 }

@@ -29,20 +29,22 @@ fn push_lock(locks: &mut Vec<Lock>, owner: OwnerNo, need: &Need) -> Result<(), N
     Ok(())
 }
 
-// The first need for which an owner has no lock yet, and those behind it.
+// The first need for which an owner has no lock yet, those behind it, and the place of its resource, which is not looked for again.
 fn first_missing<'a>(
     links: &Links,
     owner: OwnerNo,
     needs: &'a [Need],
-) -> Option<(&'a Need, &'a [Need])>
+) -> Option<(&'a Need, &'a [Need], Option<Place>)>
     requires { IsLinked links.now }
     ensures some { IfSome result (λ found. missing (held_in links.now.pool) owner needs.now ≡ found.0.now ∷ missing (held_in links.now.pool) owner found.1.now) }
+    ensures place { IfSome result (λ found. found.2 ≡ place_at links.now found.0.now.resource) }
     ensures none { IfNone result (missing (held_in links.now.pool) owner needs.now ≡ []) }
 {
     let mut left = needs;
     while let Some((need, rest)) = left.split_first() {
-        if !is_held(links, owner, &need.resource, need.mode) {
-            return Some((need, rest));
+        let place = place_of(links, &need.resource);
+        if !is_held(links, owner, need, place) {
+            return Some((need, rest, place));
         }
         left = rest;
     }
@@ -61,7 +63,7 @@ fn missing_locks(
 {
     let mut locks = Vec::new(alloc);
     for need in needs {
-        if !is_held(links, owner, &need.resource, need.mode) {
+        if !is_held(links, owner, need, place_of(links, &need.resource)) {
             push_lock(&mut locks, owner, need)?;
         }
     }
@@ -100,7 +102,22 @@ fn make_place(links: &mut Links, resource: &Resource) -> Result<(), NoMemory>
     ensures ready { (locks : List Lock) → Contains (resources locks) resource.now → IsReady links.old locks → IsReady links.new locks }
     ensures ok { OnOk result (IsSome (place_at links.new resource.now)) }
 {
-    match place_of(links, resource) {
+    let place = place_of(links, resource);
+    make_place_where(links, resource, place)
+}
+
+// Sees to it that a resource has a row, where this is its place.
+fn make_place_where(
+    links: &mut Links,
+    resource: &Resource,
+    place: Option<Place>,
+) -> Result<(), NoMemory>
+    requires { place ≡ place_at links.old resource.now }
+    ensures grows { Grows links.old links.new }
+    ensures ready { (locks : List Lock) → Contains (resources locks) resource.now → IsReady links.old locks → IsReady links.new locks }
+    ensures ok { OnOk result (IsSome (place_at links.new resource.now)) }
+{
+    match place {
         Some(_) => Ok(()),
         None => add_place(links, copy(resource)?),
     }
@@ -144,6 +161,23 @@ fn make_rings(links: &mut Links, owner: OwnerNo, locks: &[Lock]) -> Result<Col, 
     make_places(links, locks)?;
     let col = make_column(links, owner)?;
     links.pool.reserve(locks.len())?;
+    Ok(col)
+}
+
+// Makes rings and room for a lock, where this is the place of its resource, and answers its owner's column. Also without memory
+// there may be empty rings.
+fn make_ring(links: &mut Links, lock: &Lock, place: Option<Place>) -> Result<Col, NoMemory>
+    requires whole { IsWhole links.old }
+    requires place { place ≡ place_at links.old lock.now.resource }
+    ensures nodes { SameNodes links.old links.new }
+    ensures ready { IsReady links.new (lock.now ∷ []) }
+    ensures place { OnOk result (IsSome (place_at links.new lock.now.resource)) }
+    ensures col { IfOk result (λ col. col_at links.new lock.now.owner ≡ Some col) }
+    ensures room { OnOk result (1 ≤ links.new.pool.room) }
+{
+    make_place_where(links, &lock.resource, place)?;
+    let col = make_column(links, lock.owner)?;
+    links.pool.reserve(1)?;
     Ok(col)
 }
 
@@ -232,27 +266,34 @@ fn link_all(links: &mut Links, col: Col, locks: Vec<Lock>)
     }
 }
 
-// Locks one thing that an owner needs.
+// Locks one thing that an owner needs, where this is the place of its resource.
 //
 // `NoMemory`: the locks are as before.
-fn grant_one(links: &mut Links, owner: OwnerNo, need: &Need) -> Result<(), NoMemory>
-    requires { IsWhole links.old }
+fn grant_one(
+    links: &mut Links,
+    owner: OwnerNo,
+    need: &Need,
+    place: Option<Place>,
+) -> Result<(), NoMemory>
+    requires whole { IsWhole links.old }
+    requires place { place ≡ place_at links.old need.now.resource }
     ensures whole { IsWhole links.new }
     ensures ok { OnOk result (held_in links.new.pool ≡ with_lock (lock_of owner need.now) (held_in links.old.pool)) }
     ensures err { OnErr result (held_in links.new.pool ≡ held_in links.old.pool) }
 {
     let lock = lock_for(owner, need)?;
-    link_one(links, lock)
+    link_one(links, lock, place)
 }
 
-// Makes rings for a lock, and links it there.
-fn link_one(links: &mut Links, lock: Lock) -> Result<(), NoMemory>
-    requires { IsWhole links.old }
+// Makes rings for a lock, where this is the place of its resource, and links it there.
+fn link_one(links: &mut Links, lock: Lock, place: Option<Place>) -> Result<(), NoMemory>
+    requires whole { IsWhole links.old }
+    requires place { place ≡ place_at links.old lock.resource }
     ensures whole { IsWhole links.new }
     ensures ok { OnOk result (held_in links.new.pool ≡ with_lock lock (held_in links.old.pool)) }
     ensures err { OnErr result (held_in links.new.pool ≡ held_in links.old.pool) }
 {
-    match make_rings(links, lock.owner, slice::from_ref(&lock)) {
+    match make_ring(links, &lock, place) {
         Ok(col) => {
             link(links, col, lock);
             Ok(())
@@ -309,9 +350,9 @@ pub fn grant(
     ensures err { OnErr result (held_in links.new.pool ≡ held_in links.old.pool) }
 {
     match first_missing(links, owner, needs) {
-        Some((need, rest)) => match first_missing(links, owner, rest) {
+        Some((need, rest, place)) => match first_missing(links, owner, rest) {
             Some(_) => grant_all(alloc, links, owner, needs),
-            None => grant_one(links, owner, need),
+            None => grant_one(links, owner, need, place),
         },
         None => Ok(()),
     }

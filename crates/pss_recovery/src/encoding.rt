@@ -56,16 +56,26 @@ fn put_changes(octets: &mut Bytes, puts: &[Put]) -> Result<(), NoMemory>
 // What the record of a change takes, as a rule.
 const USUAL_RECORD: usize = 16;
 
+// The octets of a body, in the room of other octets.
+pub(crate) fn encode_in(mut octets: Bytes, body: &Body) -> Result<Bytes, NoMemory>
+    requires few { length body.now.puts < 2 ^ 32 }
+    requires each { AllByRecursion HasLength body.now.puts }
+    ensures { IfOk result (λ octets. Spells octets body.now) }
+{
+    let puts = body.puts.as_slice();
+    octets.clear();
+    octets.reserve(CHANGES + (RECORD + USUAL_RECORD) * puts.len())?;
+    octets.extend(&body.next.to_be_bytes())?;
+    octets.extend(&(puts.len() as u32).to_be_bytes())?;
+    put_changes(&mut octets, puts)?;
+    Ok(octets)
+}
+
 /// The octets of a body.
 pub fn encode_body(alloc: Global, body: &Body) -> Result<Bytes, NoMemory>
     requires few { length body.now.puts < 2 ^ 32 }
     requires each { AllByRecursion HasLength body.now.puts }
     ensures { IfOk result (λ octets. Spells octets body.now) }
 {
-    let puts = body.puts.as_slice();
-    let mut octets = Bytes::with_room(alloc, CHANGES + (RECORD + USUAL_RECORD) * puts.len())?;
-    octets.extend(&body.next.to_be_bytes())?;
-    octets.extend(&(puts.len() as u32).to_be_bytes())?;
-    put_changes(&mut octets, puts)?;
-    Ok(octets)
+    encode_in(Bytes::new(alloc), body)
 }

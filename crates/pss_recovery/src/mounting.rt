@@ -20,7 +20,7 @@ use crate::replaying::{BodyStop, Replayed, replay_bodies};
 use crate::rooting::read_rooted;
 use crate::store::Store;
 use page_store::{Pages, Root};
-use pss_base::{DamageKind, NoMemory, Puts};
+use pss_base::{Bytes, DamageKind, NoMemory, Puts};
 use pss_disk::Station;
 use redo_journal::{Journal, Replay, ReplayFault, replay};
 use std::alloc::Global;
@@ -84,6 +84,7 @@ fn built(alloc: Global, root: &Root, loaded: Loaded, end: u32, next: u64) -> Mou
                 epoch: root.epoch,
                 next,
             },
+            space: Bytes::new(alloc),
         },
         homes: loaded.homes,
         next,

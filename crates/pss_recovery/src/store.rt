@@ -29,6 +29,8 @@ mod prepare;
 #[derive(Drop)]
 pub struct Store {
     pub(crate) parts: Parts,
+    // The octets of the last body, in whose room those of the next one are made.
+    pub(crate) space: Bytes,
 }
 
 impl Model for Store {

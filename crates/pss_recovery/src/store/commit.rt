@@ -14,8 +14,18 @@ ghost use Rattle.pss_recovery.specs.Silence.{IsSilent};
 use crate::noting::note_all;
 use crate::prepared::Prepared;
 use crate::store::Store;
-use pss_base::DiskFault;
+use pss_base::{Bytes, DiskFault};
 use pss_disk::Station;
+
+// The room of a body of more octets is given back.
+const MOST_KEPT: usize = 4096;
+
+// Keeps the room of a body for the next one.
+fn keep(space: &mut Bytes, octets: Bytes) {
+    if octets.as_slice().len() <= MOST_KEPT {
+        *space = octets;
+    }
+}
 
 impl Store {
     /// Appends a body that was prepared to the journal, and makes sure of it. It takes no memory, and changes no octet outside the
@@ -39,6 +49,7 @@ impl Store {
         self.parts.journal.append(w, prepared.octets.as_slice())?;
         note_all(&mut self.parts.pages, prepared.body.puts);
         self.parts.next = prepared.body.next;
+        keep(&mut self.space, prepared.octets);
         Ok(())
     }
 }

@@ -13,11 +13,12 @@ ghost use Rattle.pss_recovery.specs.Silence.{IsSilent};
 ghost use Rattle.pss_recovery.specs.Stands.{Stands};
 
 use crate::body::Body;
-use crate::encoding::encode_body;
+use crate::encoding::encode_in;
 use crate::prepared::Prepared;
 use crate::store::Store;
-use pss_base::{NoMemory, StoreStop};
+use pss_base::{Bytes, NoMemory, StoreStop};
 use pss_disk::Station;
+use std::mem;
 
 impl Store {
     /// Makes room for a body in the journal and in memory, so that committing it takes no memory. A checkpoint is made exactly where the
@@ -41,7 +42,8 @@ impl Store {
         ensures silent { IsSilent W.now W.history W.speak_faults w.old w.new }
         ensures cause { HasCauseIf (W.disk_faults w.old) (W.disk_faults w.new) (is_disk_stop result) }
     {
-        let octets = match encode_body(self.parts.alloc, &body) {
+        let space = self.take_space();
+        let octets = match encode_in(space, &body) {
             Ok(octets) => octets,
             Err(NoMemory) => return Err(StoreStop::NoMemory),
         };
@@ -50,6 +52,14 @@ impl Store {
             Ok(()) => Ok(Prepared { body, octets }),
             Err(stop) => Err(stop),
         }
+    }
+
+    // The octets of the last body, in whose room another one is made.
+    fn take_space(&mut self) -> Bytes
+        ensures { self.new ≡ self.old }
+    {
+        let alloc = self.parts.alloc;
+        mem::replace(&mut self.space, Bytes::new(alloc))
     }
 
     // Makes room for a body of so many octets, with so many changes.

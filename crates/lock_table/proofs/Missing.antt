@@ -16,9 +16,9 @@ use Rattle.lock_table.proofs.Sames.{need-true}
 use Rattle.lock_table.proofs.Keyed.{contains_cases}
 use Rattle.lock_table.proofs.Holding.{has, is_lock, IsTight, same_held, owner_tied, has-with_lock, has-with_locks, tight-with_lock, tight-with_locks}
 
--- the locks that were missing among the first k needs
-abbrev pub Gathered : Held → OwnerNo → List Need → ℕ → List Lock → Type 0
-Gathered held owner needs k locks = locks ≡ map (lock_of owner) (missing held owner (take k needs))
+-- two locks, and those that were missing among the first k needs of the rest
+abbrev pub Gathered : Held → OwnerNo → Need → Need → List Need → ℕ → List Lock → Type 0
+Gathered held owner first second rest k locks = locks ≡ map (lock_of owner) (first ∷ second ∷ missing held owner (take k rest))
 
 -- ---- granted
 

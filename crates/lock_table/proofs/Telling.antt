@@ -12,7 +12,7 @@ use Rattle.lock_table.specs.declared.links.Lock.{Lock}
 use Rattle.lock_table.specs.declared.links.Links.{Links}
 use Rattle.lock_table.specs.Locks.{granted}
 use Rattle.lock_table.specs.Standing.{AreLocks, lock_of}
-use Rattle.lock_table.specs.inner.Nodes.{held_of, held_in, with_lock, with_all, missing}
+use Rattle.lock_table.specs.inner.Nodes.{held_of, held_in, with_all, missing}
 use Rattle.lock_table.specs.inner.Links.{IsReady, IsWhole, same_owner, resources, owners, place_at, row_at, col_at}
 use Rattle.pss_machine.specs.declared.lock.Resource.{Resource}
 use Rattle.pss_machine.specs.Needs.{same_resource}
@@ -90,26 +90,19 @@ none_whole links pool places columns held rings = (
     no_item : (node : Node) → item_in links.pool node ≡ None
     no_item node = ap (λ p. item_in p node) pool ∙ ap (option_map (λ s. s.item)) (map.get-empty node_cmp node)
 
-module _ (p : Meaning Lock) (owner : OwnerNo) (needs : List Need) (locks : List Lock) (are : locks ≡ map (lock_of owner) (missing (held_in p) owner needs)) where
-  pub own : (lock : Lock) → Contains locks lock → lock.owner ≡ owner
-  own lock m = own_locks owner (missing (held_in p) owner needs) lock (subst (λ l. Contains l lock) are m)
-
-  pub all_in : with_all locks (held_in p) ≡ granted (held_in p) owner needs
-  all_in = ap (λ l. with_all l (held_in p)) are ∙ all_granted (held_in p) (tight-held_of (map.entries p.nodes)) owner needs
-
-  pub none_in : length locks ≡ 0 → held_in p ≡ granted (held_in p) owner needs
-  none_in e = ap (λ l. with_all l (held_in p)) (sym (no_locks locks e)) ∙ all_in
-    where
-      no_locks : (xs : List Lock) → length xs ≡ 0 → xs ≡ []
-      no_locks [] e = refl
-      no_locks (x ∷ xs) e = absurd (omega (arith, e))
+pub own : (owner : OwnerNo) (needs : List Need) (locks : List Lock) → locks ≡ map (lock_of owner) needs → (lock : Lock) → Contains locks lock → lock.owner ≡ owner
+own owner needs locks are lock m = own_locks owner needs lock (subst (λ l. Contains l lock) are m)
 
 module _ (p : Meaning Lock) (owner : OwnerNo) (needs : List Need) where
-  pub nothing_more : missing (held_in p) owner needs ≡ [] → held_in p ≡ granted (held_in p) owner needs
-  nothing_more none = ap (λ l. with_all (map (lock_of owner) l) (held_in p)) (sym none) ∙ all_in p owner needs _ refl
+  all_in : (those : List Need) → missing (held_in p) owner needs ≡ those → with_all (map (lock_of owner) those) (held_in p) ≡ granted (held_in p) owner needs
+  all_in those are = ap (λ l. with_all (map (lock_of owner) l) (held_in p)) (sym are) ∙ all_granted (held_in p) (tight-held_of (map.entries p.nodes)) owner needs
 
-  pub one_more : (need : Need) (rest : List Need) → missing (held_in p) owner needs ≡ need ∷ missing (held_in p) owner rest → missing (held_in p) owner rest ≡ [] → with_lock (lock_of owner need) (held_in p) ≡ granted (held_in p) owner needs
-  one_more need rest some none = ap (λ l. with_all (map (lock_of owner) (need ∷ l)) (held_in p)) (sym none) ∙ ap (λ l. with_all (map (lock_of owner) l) (held_in p)) (sym some) ∙ all_in p owner needs _ refl
+  pub nothing_more : missing (held_in p) owner needs ≡ [] → held_in p ≡ granted (held_in p) owner needs
+  nothing_more none = all_in [] none
+
+  -- the first one that is missing, and those behind it
+  pub one_more : (first : Need) (behind more : List Need) → missing (held_in p) owner needs ≡ first ∷ missing (held_in p) owner behind → missing (held_in p) owner behind ≡ more → with_all (map (lock_of owner) (first ∷ more)) (held_in p) ≡ granted (held_in p) owner needs
+  one_more first behind more some are = all_in (first ∷ more) (some ∙ ap (λ l. first ∷ l) are)
 
 pub only_own : (one lock : Lock) → Contains (one ∷ []) lock → lock.owner ≡ one.owner
 only_own one lock m = ap (λ (l : Lock). l.owner) (sym (only_one one lock m))

@@ -7,7 +7,7 @@ ghost use Rattle.std.specs.FinSet as set;
 ghost use Rattle.lock_table.specs.Locks.{held_by, granted};
 ghost use Rattle.lock_table.specs.Standing.{lock_of, need_of};
 ghost use Rattle.lock_table.specs.inner.Nodes.{held_in, with_lock, with_all, missing};
-ghost use Rattle.lock_table.specs.inner.Links.{IsLinked, IsReady, IsWhole, HaveRings, Grows, SameNodes, IsFound, Recounts, LinksOne, EmptyRows, EmptyCols, resources, owners, place_at, col_at};
+ghost use Rattle.lock_table.specs.inner.Links.{IsLinked, IsReady, IsWhole, HaveRings, Grows, SameNodes, IsFound, IsFirst, Recounts, LinksOne, EmptyRows, EmptyCols, resources, owners, place_at, col_at};
 
 use crate::asks::{is_held, is_held_at, place_of};
 use crate::copies::{copy, lock_for};
@@ -51,18 +51,22 @@ fn first_missing<'a>(
     None
 }
 
-// The locks that an owner needs and does not have, as often as they are needed.
+// The locks for two needs, known to be missing, and for those of the rest that are, as often as they are needed.
 fn missing_locks(
     alloc: Global,
     links: &Links,
     owner: OwnerNo,
-    needs: &[Need],
+    first: &Need,
+    second: &Need,
+    rest: &[Need],
 ) -> Result<Vec<Lock>, NoMemory>
     requires { IsLinked links.now }
-    ensures { IfOk result (λ locks. locks.items ≡ map (lock_of owner) (missing (held_in links.now.pool) owner needs.now)) }
+    ensures { IfOk result (λ locks. locks.items ≡ map (lock_of owner) (first.now ∷ second.now ∷ missing (held_in links.now.pool) owner rest.now)) }
 {
-    let mut locks = Vec::new(alloc);
-    for need in needs {
+    let mut locks = Vec::with_capacity(alloc, 2)?;
+    push_lock(&mut locks, owner, first)?;
+    push_lock(&mut locks, owner, second)?;
+    for need in rest {
         if !is_held(links, owner, need, place_of(links, &need.resource)) {
             push_lock(&mut locks, owner, need)?;
         }
@@ -135,30 +139,40 @@ fn make_column(links: &mut Links, owner: OwnerNo) -> Result<Col, NoMemory>
     }
 }
 
-// Sees to it that each lock has its row.
-fn make_places(links: &mut Links, locks: &[Lock]) -> Result<(), NoMemory>
-    requires { IsReady links.old locks.now }
+// Sees to it that each lock has its row, where this is the place of the first one's resource.
+fn make_places(links: &mut Links, locks: &[Lock], place: Option<Place>) -> Result<(), NoMemory>
+    requires ready { IsReady links.old locks.now }
+    requires some { 0 < length locks.now }
+    requires place { IsFirst links.old locks.now place }
     ensures grows { Grows links.old links.new }
     ensures ready { IsReady links.new locks.now }
     ensures ok { OnOk result ((lock : Lock) → Contains locks.now lock → IsSome (place_at links.new lock.resource)) }
 {
-    for at in 0..locks.len() {
+    make_place_where(links, &locks[0].resource, place)?;
+    for at in 1..locks.len() {
         make_place(links, &locks[at].resource)?;
     }
     Ok(())
 }
 
-// Makes rings and room for locks of an owner, and answers the owner's column. Also without memory there may be empty rings.
-fn make_rings(links: &mut Links, owner: OwnerNo, locks: &[Lock]) -> Result<Col, NoMemory>
+// Makes rings and room for locks of an owner, where this is the place of the first one's resource, and answers the owner's column.
+// Also without memory there may be empty rings.
+fn make_rings(
+    links: &mut Links,
+    owner: OwnerNo,
+    locks: &[Lock],
+    place: Option<Place>,
+) -> Result<Col, NoMemory>
     requires ready { IsReady links.old locks.now }
     requires own { (lock : Lock) → Contains locks.now lock → lock.owner ≡ owner }
     requires some { 0 < length locks.now }
+    requires place { IsFirst links.old locks.now place }
     ensures nodes { SameNodes links.old links.new }
     ensures ready { IsReady links.new locks.now }
     ensures rings { IfOk result (λ col. HaveRings links.new col locks.now) }
     ensures room { OnOk result (length locks.now ≤ links.new.pool.room) }
 {
-    make_places(links, locks)?;
+    make_places(links, locks, place)?;
     let col = make_column(links, owner)?;
     links.pool.reserve(locks.len())?;
     Ok(col)
@@ -305,25 +319,27 @@ fn link_one(links: &mut Links, lock: Lock, place: Option<Place>) -> Result<(), N
     }
 }
 
-// Locks all that an owner needs and has not locked yet.
+// Locks two things that an owner needs, where this is the place of the first one's resource, and what it has not locked yet of the
+// rest: the two are not looked for again.
 //
 // `NoMemory`: the locks are as before.
 fn grant_all(
     alloc: Global,
     links: &mut Links,
     owner: OwnerNo,
-    needs: &[Need],
+    first: &Need,
+    second: &Need,
+    rest: &[Need],
+    place: Option<Place>,
 ) -> Result<(), NoMemory>
-    requires { IsWhole links.old }
+    requires whole { IsWhole links.old }
+    requires place { place ≡ place_at links.old first.now.resource }
     ensures whole { IsWhole links.new }
-    ensures ok { OnOk result (held_in links.new.pool ≡ granted (held_in links.old.pool) owner needs.now) }
+    ensures ok { OnOk result (held_in links.new.pool ≡ with_all (map (lock_of owner) (first.now ∷ second.now ∷ missing (held_in links.old.pool) owner rest.now)) (held_in links.old.pool)) }
     ensures err { OnErr result (held_in links.new.pool ≡ held_in links.old.pool) }
 {
-    let locks = missing_locks(alloc, links, owner, needs)?;
-    if locks.is_empty() {
-        return Ok(());
-    }
-    match make_rings(links, owner, &locks) {
+    let locks = missing_locks(alloc, links, owner, first, second, rest)?;
+    match make_rings(links, owner, &locks, place) {
         Ok(col) => {
             link_all(links, col, locks);
             Ok(())
@@ -350,9 +366,9 @@ pub fn grant(
     ensures err { OnErr result (held_in links.new.pool ≡ held_in links.old.pool) }
 {
     match first_missing(links, owner, needs) {
-        Some((need, rest, place)) => match first_missing(links, owner, rest) {
-            Some(_) => grant_all(alloc, links, owner, needs),
-            None => grant_one(links, owner, need, place),
+        Some((first, behind, place)) => match first_missing(links, owner, behind) {
+            Some((second, rest, _)) => grant_all(alloc, links, owner, first, second, rest, place),
+            None => grant_one(links, owner, first, place),
         },
         None => Ok(()),
     }

@@ -1,5 +1,5 @@
 -- Locks in rings, with the tables by which rings are found.
-use Rattle.std.specs.Prelude.{ℕ, ◌≡◌, ◌+◌, ◌≤◌, ◌==◌, List, [], ◌∷◌, true, false, map, length, Option, Some, IsSome, Contains, Bool}
+use Rattle.std.specs.Prelude.{ℕ, ◌≡◌, ◌+◌, ◌≤◌, ◌==◌, List, [], ◌∷◌, true, false, map, length, get_or, Option, Some, IsSome, Contains, Bool}
 use Rattle.std.specs.Option.{option_map}
 use Rattle.std.specs.FinMap as map
 use Rattle.pss_base.specs.declared.owner.OwnerNo.{OwnerNo}
@@ -62,6 +62,10 @@ IsAlone links owner = (n : OwnerNo) (col : Col) → col_at links n ≡ Some col 
 pub record IsFound (links : Links) (r : Resource) (found : Found) : Type 0 where
   pub at : key_at found.at links.places.table.entries ≡ Some r
   pub place : place_at links r ≡ Some found.place
+
+-- this is the place of the first lock's resource
+abbrev pub IsFirst : Links → List Lock → Option Place → Type 0
+IsFirst links locks place = (lock : Lock) → get_or locks 0 lock ≡ lock → place ≡ place_at links lock.resource
 
 -- what holds whenever a lock is linked or unlinked
 pub record IsLinked (links : Links) : Type 0 where

@@ -21,7 +21,7 @@ use crate::storing::store_changes;
 use connector_parts::Parts;
 use pss_base::{Bytes, NoMemory, OwnerNo, SessionNo, Steps, StoreStop};
 use pss_disk::Station;
-use pss_machine::Reply;
+use pss_machine::{Reply, Text};
 use pss_recovery::Store;
 use std::sync::ledger::Ledger;
 
@@ -96,7 +96,7 @@ pub fn commit<L: Ledger, W: Station>(
     parts: &mut Parts,
     store: &mut Store,
     station: &mut W,
-    transaction: &Bytes,
+    transaction: &Text<'_>,
     steps: &mut Steps<L>,
 ) -> Result<Reply, StoreStop>
     requires any { AnyAt parts.old }

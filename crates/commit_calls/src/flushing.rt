@@ -18,9 +18,9 @@ ghost use Rattle.commit_saving.specs.Saving.{BecomesSaved, IsSavedThroughout, St
 use crate::ready::Ready;
 use crate::storing::store_changes;
 use connector_parts::Parts;
-use pss_base::{Bytes, OwnerNo, SessionNo, Steps, StoreStop};
+use pss_base::{OwnerNo, SessionNo, Steps, StoreStop};
 use pss_disk::Station;
-use pss_machine::{Kind, Reply};
+use pss_machine::{Kind, Reply, Text};
 use pss_recovery::Store;
 use std::sync::ledger::Ledger;
 
@@ -82,7 +82,7 @@ pub fn flush<L: Ledger, W: Station>(
     parts: &mut Parts,
     store: &mut Store,
     station: &mut W,
-    name: &Bytes,
+    name: &Text<'_>,
     steps: &mut Steps<L>,
 ) -> Result<Reply, StoreStop>
     requires any { AnyAt parts.old }

@@ -100,7 +100,7 @@ impl Connector {
     /// objects before. After either the connector is not live any more, and nothing more is said of it.
     pub fn perform<W: Station>(
         &mut self,
-        command: &Command,
+        command: &Command<'_>,
         station: &mut W,
     ) -> Result<Reply, StoreStop>
         requires live { is_live self.old ≡ true }

@@ -25,7 +25,7 @@ use std::sync::ledger::{Blank, Ledger};
 // What a command comes to that has nothing to do with the store.
 fn perform_in_memory<L: Ledger>(
     parts: &mut Parts,
-    command: &Command,
+    command: &Command<'_>,
     steps: &mut Steps<L>,
 ) -> Result<Reply, NoMemory>
     requires any { AnyAt parts.old }
@@ -94,7 +94,7 @@ fn perform<L: Ledger, W: Station>(
     parts: &mut Parts,
     store: &mut Store,
     station: &mut W,
-    command: &Command,
+    command: &Command<'_>,
     steps: &mut Steps<L>,
 ) -> Result<Reply, StoreStop>
     requires any { AnyAt parts.old }
@@ -130,7 +130,7 @@ pub fn perform_counted<L: Ledger, W: Station>(
     parts: &mut Parts,
     store: &mut Store,
     station: &mut W,
-    command: &Command,
+    command: &Command<'_>,
     blank: Blank,
 ) -> Result<Reply, StoreStop>
     requires name { blank.name ≡ L.name }

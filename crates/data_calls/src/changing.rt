@@ -8,8 +8,8 @@ use crate::acting::acts_in;
 use crate::asking::{asking, named};
 use crate::finishing::ask;
 use connector_parts::Parts;
-use pss_base::{Bytes, NoMemory, Steps};
-use pss_machine::{Reply, Rest};
+use pss_base::{NoMemory, Steps};
+use pss_machine::{Reply, Rest, Text};
 use std::sync::ledger::Ledger;
 
 /// `set S I M VALUE`: gives a member of an entry's object a value: `OK`. Else `NOENTRY`, `NOMEMBER`, `BADVALUE` with the
@@ -17,10 +17,10 @@ use std::sync::ledger::Ledger;
 /// `DUPLICATE` with a key that is taken, or `TOOLARGE`.
 pub fn set<L: Ledger>(
     parts: &mut Parts,
-    name: &Bytes,
+    name: &Text<'_>,
     entry: u64,
-    member: &Bytes,
-    value: &Rest,
+    member: &Text<'_>,
+    value: &Rest<'_>,
     steps: &mut Steps<L>,
 ) -> Result<Reply, NoMemory>
     requires any { AnyAt parts.old }
@@ -40,7 +40,7 @@ pub fn set<L: Ledger>(
 /// `destroy S I`: removes an entry's object: `OK`. Else `NOENTRY`, `READONLY`, `MANY`, or `GONE` with the object.
 pub fn destroy<L: Ledger>(
     parts: &mut Parts,
-    name: &Bytes,
+    name: &Text<'_>,
     entry: u64,
     steps: &mut Steps<L>,
 ) -> Result<Reply, NoMemory>

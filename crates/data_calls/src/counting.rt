@@ -8,15 +8,15 @@ use crate::acting::acts_in;
 use crate::asking::asking;
 use crate::finishing::ask;
 use connector_parts::Parts;
-use pss_base::{Bytes, NoMemory, Steps};
-use pss_machine::Reply;
+use pss_base::{NoMemory, Steps};
+use pss_machine::{Reply, Text};
 use std::sync::ledger::Ledger;
 
 /// `count S H`: how many objects the home and those derived from it have, or `NOHOME`.
 pub fn count<L: Ledger>(
     parts: &mut Parts,
-    name: &Bytes,
-    home: &Bytes,
+    name: &Text<'_>,
+    home: &Text<'_>,
     steps: &mut Steps<L>,
 ) -> Result<Reply, NoMemory>
     requires { AnyAt parts.old }
@@ -34,8 +34,8 @@ pub fn count<L: Ledger>(
 /// `list S H`: the same, and the pids of the first 256 by serial, or `NOHOME`.
 pub fn list<L: Ledger>(
     parts: &mut Parts,
-    name: &Bytes,
-    home: &Bytes,
+    name: &Text<'_>,
+    home: &Text<'_>,
     steps: &mut Steps<L>,
 ) -> Result<Reply, NoMemory>
     requires { AnyAt parts.old }

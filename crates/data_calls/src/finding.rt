@@ -12,8 +12,8 @@ use crate::asking::asking;
 use crate::finishing::ask;
 use connector_parts::Parts;
 use pss_asking::Asked;
-use pss_base::{Bytes, NoMemory, Pid, Steps};
-use pss_machine::{Op, Reply, Rest};
+use pss_base::{NoMemory, Pid, Steps};
+use pss_machine::{Op, Reply, Rest, Text};
 use std::sync::ledger::Ledger;
 
 // The object of a pid is to be obtained.
@@ -31,10 +31,10 @@ fn looking_up(pid: Pid) -> Asked
 /// its entry and its pid. Else `NOHOME`, `NOKEY`, `BADVALUE` with the column, `ENTRIES` or `NOTFOUND`.
 pub fn find<L: Ledger>(
     parts: &mut Parts,
-    name: &Bytes,
-    home: &Bytes,
-    key: &Bytes,
-    values: &Rest,
+    name: &Text<'_>,
+    home: &Text<'_>,
+    key: &Text<'_>,
+    values: &Rest<'_>,
     steps: &mut Steps<L>,
 ) -> Result<Reply, NoMemory>
     requires any { AnyAt parts.old }
@@ -54,10 +54,10 @@ pub fn find<L: Ledger>(
 /// column, or `NOTFOUND`.
 pub fn findref<L: Ledger>(
     parts: &mut Parts,
-    name: &Bytes,
-    home: &Bytes,
-    key: &Bytes,
-    values: &Rest,
+    name: &Text<'_>,
+    home: &Text<'_>,
+    key: &Text<'_>,
+    values: &Rest<'_>,
     steps: &mut Steps<L>,
 ) -> Result<Reply, NoMemory>
     requires any { AnyAt parts.old }
@@ -77,8 +77,8 @@ pub fn findref<L: Ledger>(
 /// `NOHOME`, `ENTRIES` or `NOTFOUND`.
 pub fn short<L: Ledger>(
     parts: &mut Parts,
-    name: &Bytes,
-    home: &Bytes,
+    name: &Text<'_>,
+    home: &Text<'_>,
     serial: u64,
     steps: &mut Steps<L>,
 ) -> Result<Reply, NoMemory>
@@ -97,7 +97,7 @@ pub fn short<L: Ledger>(
 /// `pid S P`: obtains the object of a pid: its entry and the pid. Else `ENTRIES` or `NOTFOUND`.
 pub fn pid<L: Ledger>(
     parts: &mut Parts,
-    name: &Bytes,
+    name: &Text<'_>,
     pid: Pid,
     steps: &mut Steps<L>,
 ) -> Result<Reply, NoMemory>

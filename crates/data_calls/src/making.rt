@@ -8,8 +8,8 @@ use crate::acting::acts_in;
 use crate::asking::asking;
 use crate::finishing::ask;
 use connector_parts::Parts;
-use pss_base::{Bytes, NoMemory, Steps};
-use pss_machine::{Reply, Rest};
+use pss_base::{NoMemory, Steps};
+use pss_machine::{Reply, Rest, Text};
 use std::sync::ledger::Ledger;
 
 /// `create S H VALUES`: makes an object of the home with these values and obtains it: its entry and its pid. Else
@@ -17,9 +17,9 @@ use std::sync::ledger::Ledger;
 /// refers to, `DUPLICATE` with a key that is taken, or `TOOLARGE`.
 pub fn create<L: Ledger>(
     parts: &mut Parts,
-    name: &Bytes,
-    home: &Bytes,
-    values: &Rest,
+    name: &Text<'_>,
+    home: &Text<'_>,
+    values: &Rest<'_>,
     steps: &mut Steps<L>,
 ) -> Result<Reply, NoMemory>
     requires any { AnyAt parts.old }
@@ -39,10 +39,10 @@ pub fn create<L: Ledger>(
 /// `NOFACTORY` too, behind `NOHOME`.
 pub fn make<L: Ledger>(
     parts: &mut Parts,
-    name: &Bytes,
-    home: &Bytes,
-    factory: &Bytes,
-    values: &Rest,
+    name: &Text<'_>,
+    home: &Text<'_>,
+    factory: &Text<'_>,
+    values: &Rest<'_>,
     steps: &mut Steps<L>,
 ) -> Result<Reply, NoMemory>
     requires any { AnyAt parts.old }

@@ -8,14 +8,14 @@ use crate::acting::acts_in;
 use crate::asking::{asking, named};
 use crate::finishing::ask;
 use connector_parts::Parts;
-use pss_base::{Bytes, NoMemory, Steps};
-use pss_machine::Reply;
+use pss_base::{NoMemory, Steps};
+use pss_machine::{Reply, Text};
 use std::sync::ledger::Ledger;
 
 /// `exists S I`: whether the object of an entry is there, or `NOENTRY`.
 pub fn exists<L: Ledger>(
     parts: &mut Parts,
-    name: &Bytes,
+    name: &Text<'_>,
     entry: u64,
     steps: &mut Steps<L>,
 ) -> Result<Reply, NoMemory>
@@ -35,9 +35,9 @@ pub fn exists<L: Ledger>(
 /// `get S I M`: the value of a member of an entry's object, as text. Else `NOENTRY`, `NOMEMBER`, or `GONE` with the object.
 pub fn get<L: Ledger>(
     parts: &mut Parts,
-    name: &Bytes,
+    name: &Text<'_>,
     entry: u64,
-    member: &Bytes,
+    member: &Text<'_>,
     steps: &mut Steps<L>,
 ) -> Result<Reply, NoMemory>
     requires { AnyAt parts.old }
@@ -57,9 +57,9 @@ pub fn get<L: Ledger>(
 /// `NOMEMBER`, `NOTREF`, `ENTRIES`, `NIL`, or `GONE` with the object that is not there.
 pub fn follow<L: Ledger>(
     parts: &mut Parts,
-    name: &Bytes,
+    name: &Text<'_>,
     entry: u64,
-    member: &Bytes,
+    member: &Text<'_>,
     steps: &mut Steps<L>,
 ) -> Result<Reply, NoMemory>
     requires { AnyAt parts.old }

@@ -45,7 +45,7 @@ impl Show {
         requires settled { IsSettled (W.content station.old) (W.now station.old) }
         ensures { Serves W.now W.history W.content W.disk_faults W.speak_faults (line.now ∷ []) result station.old station.new self.old self.new }
     {
-        match reply_to(self.alloc, &mut self.connector, line, station) {
+        match reply_to(&mut self.connector, line, station) {
             Ok(reply) => {
                 self.tally.add_answer(&reply);
                 Ok(())

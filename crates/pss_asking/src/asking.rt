@@ -70,7 +70,7 @@ fn by_entry(number: u64, op: Op) -> Asked
 
 impl Asking<'_> {
     /// `create`: an object of a home, with one value for each member.
-    pub fn create(&self, home: &[u8], values: &Rest) -> Result<Asked, AskFault>
+    pub fn create(&self, home: &[u8], values: &Rest<'_>) -> Result<Asked, AskFault>
         requires { values.now.column + length values.now.text < 2 ^ 32 }
         ensures { (session : Session) → session.access ≡ self.now.access → Tells plain_asked result (creating self.now.names.now self.now.next session home.now values.now) }
     {
@@ -98,7 +98,7 @@ impl Asking<'_> {
     }
 
     // An object of a home with one value for each of the members with these numbers, and for each other its default.
-    fn make_of(&self, home: HomeNo, numbers: &[u32], values: &Rest) -> Result<Asked, AskFault>
+    fn make_of(&self, home: HomeNo, numbers: &[u32], values: &Rest<'_>) -> Result<Asked, AskFault>
         requires { values.now.column + length values.now.text < 2 ^ 32 }
         ensures { (session : Session) → session.access ≡ self.now.access → Tells plain_asked result (making_of self.now.names.now self.now.next session home numbers.now values.now) }
     {
@@ -116,7 +116,7 @@ impl Asking<'_> {
 
     /// `make`: an object of a home, with one value for each member that the factory names, and for each other its
     /// default.
-    pub fn make(&self, home: &[u8], factory: &[u8], values: &Rest) -> Result<Asked, AskFault>
+    pub fn make(&self, home: &[u8], factory: &[u8], values: &Rest<'_>) -> Result<Asked, AskFault>
         requires { values.now.column + length values.now.text < 2 ^ 32 }
         ensures { (session : Session) → session.access ≡ self.now.access → Tells plain_asked result (making self.now.names.now self.now.next session home.now factory.now values.now) }
     {
@@ -136,7 +136,7 @@ impl Asking<'_> {
     }
 
     // One value for each member of a key.
-    fn read_key(&self, key: KeyNo, values: &Rest) -> Result<Values, AskFault>
+    fn read_key(&self, key: KeyNo, values: &Rest<'_>) -> Result<Values, AskFault>
         requires { values.now.column + length values.now.text < 2 ^ 32 }
         ensures { Tells plain_values result (read_values (types_of (key_members self.now.names.now key)) values.now) }
     {
@@ -153,7 +153,7 @@ impl Asking<'_> {
     }
 
     // The object of a home that holds a key whose members have these values.
-    fn by_key(&self, home: &[u8], key: &[u8], values: &Rest) -> Result<Op, AskFault>
+    fn by_key(&self, home: &[u8], key: &[u8], values: &Rest<'_>) -> Result<Op, AskFault>
         requires { values.now.column + length values.now.text < 2 ^ 32 }
         ensures { Tells plain_op result (finding self.now.names.now home.now key.now values.now) }
     {
@@ -165,7 +165,7 @@ impl Asking<'_> {
     }
 
     /// `find`: the object that holds a key whose members have these values, to be obtained.
-    pub fn find(&self, home: &[u8], key: &[u8], values: &Rest) -> Result<Asked, AskFault>
+    pub fn find(&self, home: &[u8], key: &[u8], values: &Rest<'_>) -> Result<Asked, AskFault>
         requires { values.now.column + length values.now.text < 2 ^ 32 }
         ensures { Tells plain_asked result (finding_to obtains self.now.names.now home.now key.now values.now) }
     {
@@ -173,7 +173,7 @@ impl Asking<'_> {
     }
 
     /// `findref`: the object that holds a key whose members have these values.
-    pub fn findref(&self, home: &[u8], key: &[u8], values: &Rest) -> Result<Asked, AskFault>
+    pub fn findref(&self, home: &[u8], key: &[u8], values: &Rest<'_>) -> Result<Asked, AskFault>
         requires { values.now.column + length values.now.text < 2 ^ 32 }
         ensures { Tells plain_asked result (finding_to only_asks self.now.names.now home.now key.now values.now) }
     {
@@ -206,7 +206,7 @@ impl Asking<'_> {
     }
 
     // The value of one member.
-    fn read_one(&self, member: &Member, value: &Rest) -> Result<Value, AskFault>
+    fn read_one(&self, member: &Member, value: &Rest<'_>) -> Result<Value, AskFault>
         requires { value.now.column + length value.now.text < 2 ^ 32 }
         ensures { Tells plain_value result (read_value (plain_member member.now) value.now) }
     {
@@ -218,7 +218,7 @@ impl Asking<'_> {
     }
 
     /// `set`: a member of an entry's object is to have a value.
-    pub fn set(&self, named: &Named, member: &[u8], value: &Rest) -> Result<Asked, AskFault>
+    pub fn set(&self, named: &Named, member: &[u8], value: &Rest<'_>) -> Result<Asked, AskFault>
         requires { value.now.column + length value.now.text < 2 ^ 32 }
         ensures { (session : Session) (copies : Copies) → session.access ≡ self.now.access → IsNamed copies named.now → Tells plain_asked result (setting self.now.names.now session copies named.now.number member.now value.now) }
     {

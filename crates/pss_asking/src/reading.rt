@@ -56,7 +56,7 @@ pub fn chosen_types<'a>(
 }
 
 /// One value of each type.
-pub fn read_of(alloc: Global, types: &[&Ty], rest: &Rest) -> Result<Values, AskFault>
+pub fn read_of(alloc: Global, types: &[&Ty], rest: &Rest<'_>) -> Result<Values, AskFault>
     requires { rest.now.column + length rest.now.text < 2 ^ 32 }
     ensures { Tells plain_values result (read_in (map (λ t. plain_type t.now) types.now) rest.now) }
 {
@@ -68,7 +68,7 @@ pub fn read_of(alloc: Global, types: &[&Ty], rest: &Rest) -> Result<Values, AskF
 }
 
 /// One value for each of these members.
-pub fn read_members(alloc: Global, members: &[Member], rest: &Rest) -> Result<Values, AskFault>
+pub fn read_members(alloc: Global, members: &[Member], rest: &Rest<'_>) -> Result<Values, AskFault>
     requires { rest.now.column + length rest.now.text < 2 ^ 32 }
     ensures { Tells plain_values result (read_in (types_in (map plain_member members.now)) rest.now) }
 {
@@ -81,7 +81,7 @@ pub fn read_chosen(
     alloc: Global,
     members: &[Member],
     numbers: &[u32],
-    rest: &Rest,
+    rest: &Rest<'_>,
 ) -> Result<Values, AskFault>
     requires { rest.now.column + length rest.now.text < 2 ^ 32 }
     ensures { Tells plain_values result (read_in (types_in (chosen (map plain_member members.now) numbers.now)) rest.now) }

@@ -1,142 +1,143 @@
 // What a line of a script asks for.
 
-use pss_base::{Bytes, Pid};
+use crate::Text;
+use pss_base::Pid;
 
 /// The rest of a line directly behind one of its words, blanks included.
 #[derive(Drop)]
-pub struct Rest {
+pub struct Rest<'a> {
     /// The column at which it begins, from 1.
     pub column: u32,
-    pub text: Bytes,
+    pub text: Text<'a>,
 }
 
 /// A command. `s` and `t` are the names of a session and of a transaction; `home`, `factory`, `key` and `member` are
-/// words as they stand in the line, which may name nothing; `entry` is the number behind `i`.
+/// words as they stand in the line, which may name nothing; `entry` is the number behind `i`. The words are lent by the line.
 #[derive(Drop)]
-pub enum Command {
+pub enum Command<'a> {
     /// `open S basic|tx ro|rw`
     OpenSession {
-        s: Bytes,
+        s: Text<'a>,
         tx: bool,
         write: bool,
     },
     Close {
-        s: Bytes,
+        s: Text<'a>,
     },
     /// `begin T SERIALIZABLE|READ_COMMITTED`
     Begin {
-        t: Bytes,
+        t: Text<'a>,
         serializable: bool,
     },
     Start {
-        s: Bytes,
-        t: Bytes,
+        s: Text<'a>,
+        t: Text<'a>,
     },
     Suspend {
-        s: Bytes,
+        s: Text<'a>,
     },
     /// `end S ok|fail`
     End {
-        s: Bytes,
+        s: Text<'a>,
         ok: bool,
     },
     Status {
-        s: Bytes,
+        s: Text<'a>,
     },
     Commit {
-        t: Bytes,
+        t: Text<'a>,
     },
     Rollback {
-        t: Bytes,
+        t: Text<'a>,
     },
     Home {
-        s: Bytes,
-        home: Bytes,
+        s: Text<'a>,
+        home: Text<'a>,
     },
     Create {
-        s: Bytes,
-        home: Bytes,
-        values: Rest,
+        s: Text<'a>,
+        home: Text<'a>,
+        values: Rest<'a>,
     },
     Make {
-        s: Bytes,
-        home: Bytes,
-        factory: Bytes,
-        values: Rest,
+        s: Text<'a>,
+        home: Text<'a>,
+        factory: Text<'a>,
+        values: Rest<'a>,
     },
     Find {
-        s: Bytes,
-        home: Bytes,
-        key: Bytes,
-        values: Rest,
+        s: Text<'a>,
+        home: Text<'a>,
+        key: Text<'a>,
+        values: Rest<'a>,
     },
     FindRef {
-        s: Bytes,
-        home: Bytes,
-        key: Bytes,
-        values: Rest,
+        s: Text<'a>,
+        home: Text<'a>,
+        key: Text<'a>,
+        values: Rest<'a>,
     },
     Pid {
-        s: Bytes,
+        s: Text<'a>,
         pid: Pid,
     },
     Short {
-        s: Bytes,
-        home: Bytes,
+        s: Text<'a>,
+        home: Text<'a>,
         serial: u64,
     },
     Exists {
-        s: Bytes,
+        s: Text<'a>,
         entry: u64,
     },
     Get {
-        s: Bytes,
+        s: Text<'a>,
         entry: u64,
-        member: Bytes,
+        member: Text<'a>,
     },
     Set {
-        s: Bytes,
+        s: Text<'a>,
         entry: u64,
-        member: Bytes,
-        value: Rest,
+        member: Text<'a>,
+        value: Rest<'a>,
     },
     Destroy {
-        s: Bytes,
+        s: Text<'a>,
         entry: u64,
     },
     Follow {
-        s: Bytes,
+        s: Text<'a>,
         entry: u64,
-        member: Bytes,
+        member: Text<'a>,
     },
     Count {
-        s: Bytes,
-        home: Bytes,
+        s: Text<'a>,
+        home: Text<'a>,
     },
     List {
-        s: Bytes,
-        home: Bytes,
+        s: Text<'a>,
+        home: Text<'a>,
     },
     PidOf {
-        s: Bytes,
+        s: Text<'a>,
         entry: u64,
     },
     Dup {
-        s: Bytes,
+        s: Text<'a>,
         entry: u64,
     },
     Release {
-        s: Bytes,
+        s: Text<'a>,
         entry: u64,
     },
     FreeAll {
-        s: Bytes,
+        s: Text<'a>,
     },
     Flush {
-        s: Bytes,
+        s: Text<'a>,
     },
     Refresh {
-        s: Bytes,
+        s: Text<'a>,
     },
     Checkpoint,
     Stat,

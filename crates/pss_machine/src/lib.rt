@@ -14,6 +14,7 @@ mod lock;
 mod operation;
 mod reply;
 mod session;
+mod text;
 
 pub use answer::Answer;
 pub use command::{Command, Rest};
@@ -27,3 +28,4 @@ pub use lock::{Mode, Need, Needs, Resource};
 pub use operation::Op;
 pub use reply::Reply;
 pub use session::{Access, Association, Kind, StateName, View};
+pub use text::Text;

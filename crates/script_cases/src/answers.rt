@@ -9,9 +9,9 @@ use std::alloc::Global;
 /// A line of a script has at most so many bytes.
 const MOST_LINE: usize = 65536;
 
-fn append_line(alloc: Global, out: &mut Bytes, line: &[u8]) -> Result<(), NoMemory> {
+fn append_line(out: &mut Bytes, line: &[u8]) -> Result<(), NoMemory> {
     if line.len() <= MOST_LINE {
-        append_said(alloc, out, line)
+        append_said(out, line)
     } else {
         out.extend(b"too long")
     }
@@ -19,7 +19,7 @@ fn append_line(alloc: Global, out: &mut Bytes, line: &[u8]) -> Result<(), NoMemo
 
 fn append_octets(alloc: Global, out: &mut Bytes, digits: &[u8]) -> Result<(), NoMemory> {
     let line = octets_of(alloc, digits)?;
-    append_line(alloc, out, line.as_slice())
+    append_line(out, line.as_slice())
 }
 
 fn append_reply(alloc: Global, out: &mut Bytes, rest: &[u8]) -> Result<(), NoMemory> {
@@ -38,7 +38,7 @@ impl Cases for Scripts {
     fn answer(&mut self, alloc: Global, out: &mut Bytes, case: &[u8]) -> Result<(), NoMemory> {
         let (kind, rest) = split_word(case);
         match kind {
-            b"line" => append_line(alloc, out, rest)?,
+            b"line" => append_line(out, rest)?,
             b"octets" => append_octets(alloc, out, rest)?,
             b"reply" => append_reply(alloc, out, rest)?,
             b"#" => return Ok(()),

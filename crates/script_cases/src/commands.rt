@@ -3,9 +3,8 @@ ghost use Rattle.std.specs.Prelude.{◌≤◌, length};
 
 use itoa::Buffer;
 use pss_base::{Bytes, NoMemory, Pid, append_pid};
-use pss_machine::{Command, Rest};
+use pss_machine::{Command, Rest, Text};
 use script_text::{CommandFault, read_command};
-use std::alloc::Global;
 
 fn show_number(out: &mut Bytes, number: u64) -> Result<(), NoMemory> {
     out.push(b' ')?;
@@ -13,7 +12,7 @@ fn show_number(out: &mut Bytes, number: u64) -> Result<(), NoMemory> {
 }
 
 // The name of a variant and its words.
-fn show(out: &mut Bytes, name: &[u8], words: &[&Bytes]) -> Result<(), NoMemory> {
+fn show(out: &mut Bytes, name: &[u8], words: &[&Text<'_>]) -> Result<(), NoMemory> {
     out.extend(name)?;
     for word in words {
         out.push(b' ')?;
@@ -25,7 +24,7 @@ fn show(out: &mut Bytes, name: &[u8], words: &[&Bytes]) -> Result<(), NoMemory> 
 fn show_choices(
     out: &mut Bytes,
     name: &[u8],
-    word: &Bytes,
+    word: &Text<'_>,
     choices: &[bool],
 ) -> Result<(), NoMemory> {
     show(out, name, &[word])?;
@@ -39,21 +38,21 @@ fn show_choices(
 fn show_numbered(
     out: &mut Bytes,
     name: &[u8],
-    words: &[&Bytes],
+    words: &[&Text<'_>],
     number: u64,
 ) -> Result<(), NoMemory> {
     show(out, name, words)?;
     show_number(out, number)
 }
 
-fn show_object(out: &mut Bytes, name: &[u8], word: &Bytes, pid: Pid) -> Result<(), NoMemory> {
-    show(out, name, &[word])?;
+fn show_object(out: &mut Bytes, words: &[&Text<'_>], pid: Pid) -> Result<(), NoMemory> {
+    show(out, b"Pid", words)?;
     out.push(b' ')?;
     append_pid(out, pid)
 }
 
 // The rest of the line stands last, as its column and its text behind `|`.
-fn show_rest(out: &mut Bytes, rest: &Rest) -> Result<(), NoMemory> {
+fn show_rest(out: &mut Bytes, rest: &Rest<'_>) -> Result<(), NoMemory> {
     show_number(out, u64::from(rest.column))?;
     out.push(b'|')?;
     out.extend(rest.text.as_slice())
@@ -62,19 +61,24 @@ fn show_rest(out: &mut Bytes, rest: &Rest) -> Result<(), NoMemory> {
 fn show_values(
     out: &mut Bytes,
     name: &[u8],
-    words: &[&Bytes],
-    rest: &Rest,
+    words: &[&Text<'_>],
+    rest: &Rest<'_>,
 ) -> Result<(), NoMemory> {
     show(out, name, words)?;
     show_rest(out, rest)
 }
 
-fn show_set(out: &mut Bytes, words: &[&Bytes], number: u64, rest: &Rest) -> Result<(), NoMemory> {
+fn show_set(
+    out: &mut Bytes,
+    words: &[&Text<'_>],
+    number: u64,
+    rest: &Rest<'_>,
+) -> Result<(), NoMemory> {
     show_numbered(out, b"Set", words, number)?;
     show_rest(out, rest)
 }
 
-fn show_command(out: &mut Bytes, command: &Command) -> Result<(), NoMemory> {
+fn show_command(out: &mut Bytes, command: &Command<'_>) -> Result<(), NoMemory> {
     match command {
         Command::OpenSession { s, tx, write } => show_choices(
             out,
@@ -110,7 +114,7 @@ fn show_command(out: &mut Bytes, command: &Command) -> Result<(), NoMemory> {
             key,
             values,
         } => show_values(out, b"FindRef", &[s, home, key], values),
-        Command::Pid { s, pid } => show_object(out, b"Pid", s, *pid),
+        Command::Pid { s, pid } => show_object(out, &[s], *pid),
         Command::Short { s, home, serial } => show_numbered(out, b"Short", &[s, home], *serial),
         Command::Exists { s, entry } => show_numbered(out, b"Exists", &[s], *entry),
         Command::Get { s, entry, member } => show_numbered(out, b"Get", &[s, member], *entry),
@@ -142,13 +146,12 @@ fn show_column(out: &mut Bytes, column: u32) -> Result<(), NoMemory> {
 }
 
 /// Adds what a line is read as, in words.
-pub fn append_said(alloc: Global, out: &mut Bytes, line: &[u8]) -> Result<(), NoMemory>
+pub fn append_said(out: &mut Bytes, line: &[u8]) -> Result<(), NoMemory>
     requires { length line.now ≤ 65536 }
 {
-    match read_command(alloc, line) {
+    match read_command(line) {
         Ok(Some(command)) => show_command(out, &command),
         Ok(None) => out.extend(b"no reply"),
-        Err(CommandFault::Column(column)) => show_column(out, column),
-        Err(CommandFault::NoMemory) => Err(NoMemory),
+        Err(CommandFault { column }) => show_column(out, column),
     }
 }

@@ -20,7 +20,6 @@ use std::alloc::Global;
 /// A connector, and how many lines were served by it.
 #[derive(Drop)]
 pub struct Daemon {
-    alloc: Global,
     connector: Connector,
     served: u32,
     // The line that was spoken last: the next one takes its room.
@@ -34,7 +33,6 @@ impl Daemon {
         ensures served { served_by result ≡ 0 }
     {
         Daemon {
-            alloc,
             connector,
             served: 0,
             spoken: Bytes::new(alloc),
@@ -80,7 +78,7 @@ impl Daemon {
     {
         a_mounted_store_stands();
         self.served += 1;
-        match reply_to(self.alloc, &mut self.connector, line, station) {
+        match reply_to(&mut self.connector, line, station) {
             Ok(Some(reply)) => say(&mut self.spoken, &reply, station),
             Ok(None) => Turn::Went,
             Err(StoreStop::DiskFault) => Turn::DiskFault,

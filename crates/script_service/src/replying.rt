@@ -22,8 +22,7 @@ use connector::Connector;
 use pss_base::{LineStep, StoreStop};
 use pss_disk::Station;
 use pss_machine::{Command, Reply};
-use script_text::{CommandFault, read_command};
-use std::alloc::Global;
+use script_text::read_command;
 
 /// The column that is told of a line which is too long: that of its first byte too many.
 const TOO_LONG: u32 = 65537;
@@ -31,7 +30,7 @@ const TOO_LONG: u32 = 65537;
 // Performs what a line says, and tells the reply.
 fn reply_to_command<W: Station>(
     connector: &mut Connector,
-    command: &Command,
+    command: &Command<'_>,
     station: &mut W,
 ) -> Result<Option<Reply>, StoreStop>
     requires rest { HasShortRest command.now }
@@ -57,7 +56,6 @@ fn reply_to_command<W: Station>(
 // The reply to a line by the command that is read of its text, if it has one.
 #[inline(never)]
 fn reply_to_any<W: Station>(
-    alloc: Global,
     connector: &mut Connector,
     text: &[u8],
     station: &mut W,
@@ -77,23 +75,16 @@ fn reply_to_any<W: Station>(
     ensures silent { IsSilent W.now W.history W.speak_faults station.old station.new }
     ensures cause { HasCauseIf (W.disk_faults station.old) (W.disk_faults station.new) (is_disk_stop result) }
 {
-    match read_command(alloc, text) {
+    match read_command(text) {
         Ok(None) => Ok(None),
-        Ok(Some(command)) => {
-            let reply = reply_to_command(connector, &command, station);
-            // Here and not at the end: so its many forms are not taken apart among the clauses above.
-            drop(command);
-            reply
-        }
-        Err(CommandFault::Column(column)) => Ok(Some(Reply::Err(column))),
-        Err(CommandFault::NoMemory) => Err(StoreStop::NoMemory),
+        Ok(Some(command)) => reply_to_command(connector, &command, station),
+        Err(fault) => Ok(Some(Reply::Err(fault.column))),
     }
 }
 
 /// Does what a line says, and tells the reply, if it has one. Nothing is spoken. After an error the connector is not used again.
 #[inline(always)]
 pub fn reply_to<W: Station>(
-    alloc: Global,
     connector: &mut Connector,
     line: &LineStep,
     station: &mut W,
@@ -114,7 +105,7 @@ pub fn reply_to<W: Station>(
     ensures cause { HasCauseIf (W.disk_faults station.old) (W.disk_faults station.new) (is_disk_stop result) }
 {
     match line {
-        LineStep::Line(text) => reply_to_any(alloc, connector, text.as_slice(), station),
+        LineStep::Line(text) => reply_to_any(connector, text.as_slice(), station),
         LineStep::TooLong => Ok(Some(Reply::Err(TOO_LONG))),
         _ => Ok(None),
     }

@@ -6,7 +6,6 @@ use Rattle.pss_machine.specs.declared.command.Command.TheVariants as command
 use Rattle.pss_machine.specs.declared.command.Command.{Command}
 use Rattle.pss_machine.specs.Run.{Said, Silent, Says, Wrong}
 use Rattle.script_text.specs.declared.fault.CommandFault.{CommandFault}
-use Rattle.script_text.specs.declared.fault.CommandFault.TheVariants.{Column, NoMemory}
 use Rattle.script_text.specs.declared.verb.Verb.{Verb}
 use Rattle.script_text.specs.declared.verb.Verb.TheVariants as Verb
 use Rattle.script_text.specs.declared.verb.MemberVerb.TheVariants as MemberVerb
@@ -15,7 +14,6 @@ use Rattle.script_text.specs.Parts.{is_name}
 use Rattle.script_text.specs.Spelling.{is_silent, Reads}
 use Rattle.script_text.specs.Meaning.{Kind, OfName, OfEntry, OfWord, Value, value_of, step, entry_of, verb_of, given, command_in, said_by, said_in, meaning}
 use Rattle.script_text.specs.Telling.{Exactly, Tells}
-use Rattle.script_text.specs.inner.Seen.{Fails}
 use Rattle.script_text.proofs.CommandLaws.{lines_say_one_thing}
 use Rattle.script_text.proofs.RowLaws.{step_some, nothing_none}
 
@@ -44,23 +42,18 @@ pub get_said : (line : List ℕ) (w : Word) (ws : List Word) (c : Command) → w
 get_said line w ws c is loud text e =
     sym (command_said line w ws c is loud (ap (λ t. given (verb_of t) (Err w.column) (λ v. command_in v w.rest)) text ∙ ap (λ o. given o (Err w.column) (λ v. command_in v w.rest)) verb_get ∙ e))
 
-pub fault_said : (line : List ℕ) (w : Word) (ws : List Word) (fault : CommandFault) → words line ≡ w ∷ ws → is_silent (words line) ≡ false → Fails fault (command_from w) → Tells (λ said. said ≡ meaning line) (Err fault)
-fault_said line w ws (Column column) is loud e = ap said_by (sym e) ∙ sym (loud_means line w ws is loud)
-fault_said line w ws NoMemory is loud e = tt
+pub fault_said : (line : List ℕ) (w : Word) (ws : List Word) (column : ℕ) → words line ≡ w ∷ ws → is_silent (words line) ≡ false → command_from w ≡ Err column → Wrong column ≡ meaning line
+fault_said line w ws column is loud e = ap said_by (sym e) ∙ sym (loud_means line w ws is loud)
 
 -- what a line means it says, and nothing else
 exactly : (line : List ℕ) (said : Said) → said ≡ meaning line → Exactly (Reads line) said
 exactly line said e = subst (λ s. Exactly (Reads line) s) (sym e) (lines_say_one_thing line)
 
-fault_exactly : (line : List ℕ) (fault : CommandFault) → Tells (λ said. said ≡ meaning line) (Err fault) → Tells (Exactly (Reads line)) (Err fault)
-fault_exactly line (Column column) e = exactly line (Wrong column) e
-fault_exactly line NoMemory e = tt
-
 -- what is told of a line that means it, it says
 pub tells_exactly : (line : List ℕ) (r : Result (Option Command) CommandFault) → Tells (λ said. said ≡ meaning line) r → Tells (Exactly (Reads line)) r
 tells_exactly line (Ok None) e = exactly line Silent e
 tells_exactly line (Ok (Some c)) e = exactly line (Says c) e
-tells_exactly line (Err fault) e = fault_exactly line fault e
+tells_exactly line (Err fault) e = exactly line (Wrong fault.column) e
 
 -- ---- a get by words with one space between them
 

@@ -3,7 +3,6 @@ use Rattle.std.specs.Prelude.{ℕ, ◌≡◌, List, Option, Some, None, Result, 
 use Rattle.pss_machine.specs.declared.command.Command.{Command}
 use Rattle.pss_machine.specs.Run.{Said, Silent, Says, Wrong}
 use Rattle.script_text.specs.declared.fault.CommandFault.{CommandFault}
-use Rattle.script_text.specs.declared.fault.CommandFault.TheVariants.{Column, NoMemory}
 use Rattle.script_text.specs.Spelling.{Reads}
 use Rattle.script_text.specs.Meaning.{meaning}
 
@@ -11,12 +10,11 @@ use Rattle.script_text.specs.Meaning.{meaning}
 abbrev pub Exactly : (Said → Type 0) → Said → Type 0
 Exactly P said = P said × ((other : Said) → P other → other ≡ said)
 
--- what was told of a line, unless memory ran out
+-- what was told of a line
 abbrev pub Tells : (Said → Type 0) → Result (Option Command) CommandFault → Type 0
 Tells P (Ok None) = P Silent
 Tells P (Ok (Some c)) = P (Says c)
-Tells P (Err (Column column)) = P (Wrong column)
-Tells P (Err NoMemory) = Unit {0}
+Tells P (Err fault) = P (Wrong fault.column)
 
 -- each line says one thing
 abbrev pub LinesSayOneThing : Type 0

@@ -12,19 +12,18 @@ ghost use Rattle.script_text.specs.Meaning.{given, step, OneOf};
 ghost use Rattle.script_text.specs.inner.Seen.{seen, seen_word, Gives};
 
 use crate::CommandFault;
-use crate::owned::{own, own_last, own_two};
-use crate::parts::{any_in, choice_in, entry_in, name_in, one_entry, one_name, pid_in, serial_in};
+use crate::parts::{
+    any_in, choice_in, entry_in, name_in, one_entry, one_name, pid_in, rest_in, serial_in,
+};
 use crate::tail::Tail;
 use crate::verb::{
     AloneVerb, EntryVerb, HomeVerb, KeyVerb, MemberVerb, SessionVerb, TransactionVerb, Verb,
     verb_of,
 };
 use crate::words::{Word, finish, last_word, next_word};
-use pss_base::Bytes;
-use pss_machine::{Command, Rest};
-use std::alloc::Global;
+use pss_machine::{Command, Rest, Text};
 
-fn alone(verb: AloneVerb) -> Command
+fn alone<'a>(verb: AloneVerb) -> Command<'a>
     ensures { result ≡ meaning.alone verb }
 {
     match verb {
@@ -34,8 +33,8 @@ fn alone(verb: AloneVerb) -> Command
     }
 }
 
-fn of_session(verb: SessionVerb, s: Bytes) -> Command
-    ensures { result ≡ meaning.of_session verb s }
+fn of_session<'a>(verb: SessionVerb, s: Text<'a>) -> Command<'a>
+    ensures { result ≡ meaning.of_session verb s.entry }
 {
     match verb {
         SessionVerb::Close => Command::Close { s },
@@ -47,8 +46,8 @@ fn of_session(verb: SessionVerb, s: Bytes) -> Command
     }
 }
 
-fn of_transaction(verb: TransactionVerb, t: Bytes) -> Command
-    ensures { result ≡ meaning.of_transaction verb t }
+fn of_transaction<'a>(verb: TransactionVerb, t: Text<'a>) -> Command<'a>
+    ensures { result ≡ meaning.of_transaction verb t.entry }
 {
     match verb {
         TransactionVerb::Commit => Command::Commit { t },
@@ -56,8 +55,8 @@ fn of_transaction(verb: TransactionVerb, t: Bytes) -> Command
     }
 }
 
-fn of_home(verb: HomeVerb, s: Bytes, home: Bytes) -> Command
-    ensures { result ≡ meaning.of_home verb s home }
+fn of_home<'a>(verb: HomeVerb, s: Text<'a>, home: Text<'a>) -> Command<'a>
+    ensures { result ≡ meaning.of_home verb s.entry home.entry }
 {
     match verb {
         HomeVerb::Home => Command::Home { s, home },
@@ -66,8 +65,14 @@ fn of_home(verb: HomeVerb, s: Bytes, home: Bytes) -> Command
     }
 }
 
-fn of_key(verb: KeyVerb, s: Bytes, home: Bytes, name: Bytes, values: Rest) -> Command
-    ensures { result ≡ meaning.of_key verb s home name values }
+fn of_key<'a>(
+    verb: KeyVerb,
+    s: Text<'a>,
+    home: Text<'a>,
+    name: Text<'a>,
+    values: Rest<'a>,
+) -> Command<'a>
+    ensures { result ≡ meaning.of_key verb s.entry home.entry name.entry values.entry }
 {
     match verb {
         KeyVerb::Make => Command::Make {
@@ -91,8 +96,8 @@ fn of_key(verb: KeyVerb, s: Bytes, home: Bytes, name: Bytes, values: Rest) -> Co
     }
 }
 
-fn of_entry(verb: EntryVerb, s: Bytes, entry: u64) -> Command
-    ensures { result ≡ meaning.of_entry verb s entry }
+fn of_entry<'a>(verb: EntryVerb, s: Text<'a>, entry: u64) -> Command<'a>
+    ensures { result ≡ meaning.of_entry verb s.entry entry }
 {
     match verb {
         EntryVerb::Exists => Command::Exists { s, entry },
@@ -103,8 +108,8 @@ fn of_entry(verb: EntryVerb, s: Bytes, entry: u64) -> Command
     }
 }
 
-fn of_member(verb: MemberVerb, s: Bytes, entry: u64, member: Bytes) -> Command
-    ensures { result ≡ meaning.of_member verb s entry member }
+fn of_member<'a>(verb: MemberVerb, s: Text<'a>, entry: u64, member: Text<'a>) -> Command<'a>
+    ensures { result ≡ meaning.of_member verb s.entry entry member.entry }
 {
     match verb {
         MemberVerb::Get => Command::Get { s, entry, member },
@@ -112,86 +117,74 @@ fn of_member(verb: MemberVerb, s: Bytes, entry: u64, member: Bytes) -> Command
     }
 }
 
-fn read_alone(verb: AloneVerb, tail: Tail<'_>) -> Result<Command, CommandFault>
+fn read_alone<'a>(verb: AloneVerb, tail: Tail<'a>) -> Result<Command<'a>, CommandFault>
     ensures { Gives (λ c. c) result (meaning.command_in (Verb.Alone verb) (seen tail.entry)) }
 {
     finish(tail)?;
     Ok(alone(verb))
 }
 
-fn read_session(alloc: Global, verb: SessionVerb, tail: Tail<'_>) -> Result<Command, CommandFault>
+fn read_session<'a>(verb: SessionVerb, tail: Tail<'a>) -> Result<Command<'a>, CommandFault>
     ensures { Gives (λ c. c) result (meaning.command_in (Verb.Session verb) (seen tail.entry)) }
 {
     let (s, tail) = name_in(tail)?;
     finish(tail)?;
-    Ok(of_session(verb, own(alloc, s)?))
+    Ok(of_session(verb, s))
 }
 
-fn read_transaction(
-    alloc: Global,
-    verb: TransactionVerb,
-    tail: Tail<'_>,
-) -> Result<Command, CommandFault>
+fn read_transaction<'a>(verb: TransactionVerb, tail: Tail<'a>) -> Result<Command<'a>, CommandFault>
     ensures { Gives (λ c. c) result (meaning.command_in (Verb.Transaction verb) (seen tail.entry)) }
 {
     let (t, tail) = name_in(tail)?;
     finish(tail)?;
-    Ok(of_transaction(verb, own(alloc, t)?))
+    Ok(of_transaction(verb, t))
 }
 
-fn read_home(alloc: Global, verb: HomeVerb, tail: Tail<'_>) -> Result<Command, CommandFault>
+fn read_home<'a>(verb: HomeVerb, tail: Tail<'a>) -> Result<Command<'a>, CommandFault>
     ensures { Gives (λ c. c) result (meaning.command_in (Verb.Home verb) (seen tail.entry)) }
 {
     let (s, tail) = name_in(tail)?;
     let (home, tail) = any_in(tail)?;
     finish(tail)?;
-    let (s, home) = own_two(alloc, s, home)?;
     Ok(of_home(verb, s, home))
 }
 
-fn read_key(alloc: Global, verb: KeyVerb, tail: Tail<'_>) -> Result<Command, CommandFault>
+fn read_key<'a>(verb: KeyVerb, tail: Tail<'a>) -> Result<Command<'a>, CommandFault>
     ensures { Gives (λ c. c) result (meaning.command_in (Verb.Key verb) (seen tail.entry)) }
 {
     let (s, tail) = name_in(tail)?;
     let (home, tail) = any_in(tail)?;
     let (name, tail) = any_in(tail)?;
-    let (s, home) = own_two(alloc, s, home)?;
-    let (name, values) = own_last(alloc, name, tail)?;
-    Ok(of_key(verb, s, home, name, values))
+    Ok(of_key(verb, s, home, name, rest_in(tail)))
 }
 
-fn read_entry(alloc: Global, verb: EntryVerb, tail: Tail<'_>) -> Result<Command, CommandFault>
+fn read_entry<'a>(verb: EntryVerb, tail: Tail<'a>) -> Result<Command<'a>, CommandFault>
     ensures { Gives (λ c. c) result (meaning.command_in (Verb.Entry verb) (seen tail.entry)) }
 {
     let (s, tail) = name_in(tail)?;
     let (entry, tail) = entry_in(tail)?;
     finish(tail)?;
-    Ok(of_entry(verb, own(alloc, s)?, entry))
+    Ok(of_entry(verb, s, entry))
 }
 
-fn read_member(alloc: Global, verb: MemberVerb, tail: Tail<'_>) -> Result<Command, CommandFault>
+fn read_member<'a>(verb: MemberVerb, tail: Tail<'a>) -> Result<Command<'a>, CommandFault>
     ensures { Gives (λ c. c) result (meaning.command_in (Verb.Member verb) (seen tail.entry)) }
 {
     let (s, tail) = name_in(tail)?;
     let (entry, tail) = entry_in(tail)?;
     let (member, tail) = any_in(tail)?;
     finish(tail)?;
-    let (s, member) = own_two(alloc, s, member)?;
     Ok(of_member(verb, s, entry, member))
 }
 
-fn read_open(alloc: Global, tail: Tail<'_>) -> Result<Command, CommandFault>
+fn read_open<'a>(tail: Tail<'a>) -> Result<Command<'a>, CommandFault>
     ensures { Gives (λ c. c) result (meaning.command_in Verb.Open (seen tail.entry)) }
 {
     let (s, tail) = name_in(tail)?;
     let (tx, tail) = choice_in(tail, b"tx", b"basic")?;
     let (write, tail) = choice_in(tail, b"rw", b"ro")?;
     finish(tail)?;
-    Ok(Command::OpenSession {
-        s: own(alloc, s)?,
-        tx,
-        write,
-    })
+    Ok(Command::OpenSession { s, tx, write })
 }
 
 // Whether a transaction is to be serializable.
@@ -201,119 +194,110 @@ fn level_in<'a>(tail: Tail<'a>) -> Result<(bool, Tail<'a>), CommandFault>
     choice_in(tail, b"SERIALIZABLE", b"READ_COMMITTED")
 }
 
-fn read_begin(alloc: Global, tail: Tail<'_>) -> Result<Command, CommandFault>
+fn read_begin<'a>(tail: Tail<'a>) -> Result<Command<'a>, CommandFault>
     ensures { Gives (λ c. c) result (meaning.command_in Verb.Begin (seen tail.entry)) }
 {
     let (t, tail) = name_in(tail)?;
     let (serializable, tail) = level_in(tail)?;
     finish(tail)?;
-    Ok(Command::Begin {
-        t: own(alloc, t)?,
-        serializable,
-    })
+    Ok(Command::Begin { t, serializable })
 }
 
-fn read_start(alloc: Global, tail: Tail<'_>) -> Result<Command, CommandFault>
+fn read_start<'a>(tail: Tail<'a>) -> Result<Command<'a>, CommandFault>
     ensures { Gives (λ c. c) result (meaning.command_in Verb.Start (seen tail.entry)) }
 {
     let (s, tail) = name_in(tail)?;
     let (t, tail) = name_in(tail)?;
     finish(tail)?;
-    let (s, t) = own_two(alloc, s, t)?;
     Ok(Command::Start { s, t })
 }
 
-fn read_end(alloc: Global, tail: Tail<'_>) -> Result<Command, CommandFault>
+fn read_end<'a>(tail: Tail<'a>) -> Result<Command<'a>, CommandFault>
     ensures { Gives (λ c. c) result (meaning.command_in Verb.End (seen tail.entry)) }
 {
     let (s, tail) = name_in(tail)?;
     let (ok, tail) = choice_in(tail, b"ok", b"fail")?;
     finish(tail)?;
-    Ok(Command::End {
-        s: own(alloc, s)?,
-        ok,
-    })
+    Ok(Command::End { s, ok })
 }
 
-fn read_create(alloc: Global, tail: Tail<'_>) -> Result<Command, CommandFault>
+fn read_create<'a>(tail: Tail<'a>) -> Result<Command<'a>, CommandFault>
     ensures { Gives (λ c. c) result (meaning.command_in Verb.Create (seen tail.entry)) }
 {
     let (s, tail) = name_in(tail)?;
     let (home, tail) = any_in(tail)?;
-    let s = own(alloc, s)?;
-    let (home, values) = own_last(alloc, home, tail)?;
-    Ok(Command::Create { s, home, values })
+    Ok(Command::Create {
+        s,
+        home,
+        values: rest_in(tail),
+    })
 }
 
-fn read_pid(alloc: Global, tail: Tail<'_>) -> Result<Command, CommandFault>
+fn read_pid<'a>(tail: Tail<'a>) -> Result<Command<'a>, CommandFault>
     ensures { Gives (λ c. c) result (meaning.command_in Verb.Pid (seen tail.entry)) }
 {
     let (s, tail) = name_in(tail)?;
     let (pid, tail) = pid_in(tail)?;
     finish(tail)?;
-    Ok(Command::Pid {
-        s: own(alloc, s)?,
-        pid,
-    })
+    Ok(Command::Pid { s, pid })
 }
 
-fn read_short(alloc: Global, tail: Tail<'_>) -> Result<Command, CommandFault>
+fn read_short<'a>(tail: Tail<'a>) -> Result<Command<'a>, CommandFault>
     ensures { Gives (λ c. c) result (meaning.command_in Verb.Short (seen tail.entry)) }
 {
     let (s, tail) = name_in(tail)?;
     let (home, tail) = any_in(tail)?;
     let (serial, tail) = serial_in(tail)?;
     finish(tail)?;
-    let (s, home) = own_two(alloc, s, home)?;
     Ok(Command::Short { s, home, serial })
 }
 
-fn read_set(alloc: Global, tail: Tail<'_>) -> Result<Command, CommandFault>
+fn read_set<'a>(tail: Tail<'a>) -> Result<Command<'a>, CommandFault>
     ensures { Gives (λ c. c) result (meaning.command_in Verb.Set (seen tail.entry)) }
 {
     let (s, tail) = name_in(tail)?;
     let (entry, tail) = entry_in(tail)?;
     let (member, tail) = any_in(tail)?;
-    let s = own(alloc, s)?;
-    let (member, value) = own_last(alloc, member, tail)?;
     Ok(Command::Set {
         s,
         entry,
         member,
-        value,
+        value: rest_in(tail),
     })
 }
 
 // The command of a verb, by what stands behind it.
-fn read_behind(alloc: Global, verb: Verb, tail: Tail<'_>) -> Result<Command, CommandFault>
+fn read_behind<'a>(verb: Verb, tail: Tail<'a>) -> Result<Command<'a>, CommandFault>
     ensures { Gives (λ c. c) result (meaning.command_in verb (seen tail.entry)) }
 {
     match verb {
-        Verb::Open => read_open(alloc, tail),
-        Verb::Begin => read_begin(alloc, tail),
-        Verb::Start => read_start(alloc, tail),
-        Verb::End => read_end(alloc, tail),
-        Verb::Create => read_create(alloc, tail),
-        Verb::Pid => read_pid(alloc, tail),
-        Verb::Short => read_short(alloc, tail),
-        Verb::Set => read_set(alloc, tail),
+        Verb::Open => read_open(tail),
+        Verb::Begin => read_begin(tail),
+        Verb::Start => read_start(tail),
+        Verb::End => read_end(tail),
+        Verb::Create => read_create(tail),
+        Verb::Pid => read_pid(tail),
+        Verb::Short => read_short(tail),
+        Verb::Set => read_set(tail),
         Verb::Alone(verb) => read_alone(verb, tail),
-        Verb::Session(verb) => read_session(alloc, verb, tail),
-        Verb::Transaction(verb) => read_transaction(alloc, verb, tail),
-        Verb::Home(verb) => read_home(alloc, verb, tail),
-        Verb::Key(verb) => read_key(alloc, verb, tail),
-        Verb::Entry(verb) => read_entry(alloc, verb, tail),
-        Verb::Member(verb) => read_member(alloc, verb, tail),
+        Verb::Session(verb) => read_session(verb, tail),
+        Verb::Transaction(verb) => read_transaction(verb, tail),
+        Verb::Home(verb) => read_home(verb, tail),
+        Verb::Key(verb) => read_key(verb, tail),
+        Verb::Entry(verb) => read_entry(verb, tail),
+        Verb::Member(verb) => read_member(verb, tail),
     }
 }
 
 // The command of a line that begins with this word.
-fn read_from(alloc: Global, word: Word<'_>) -> Result<Command, CommandFault>
+fn read_from<'a>(word: Word<'a>) -> Result<Command<'a>, CommandFault>
     ensures { Gives (λ c. c) result (given (meaning.verb_of word.entry.text.now) (Err word.entry.column) (λ v. meaning.command_in v (seen word.entry.rest))) }
 {
     match verb_of(word.text) {
-        Some(verb) => read_behind(alloc, verb, word.rest),
-        None => Err(CommandFault::Column(word.column)),
+        Some(verb) => read_behind(verb, word.rest),
+        None => Err(CommandFault {
+            column: word.column,
+        }),
     }
 }
 
@@ -408,9 +392,9 @@ pub fn read_get<'a>(line: &'a [u8]) -> Option<GetWords<'a>>
     }
 }
 
-/// The command of a line of at most 65,536 bytes. `None`: the line has no reply, since it has no word or its first one
-/// begins with `#`. `Column`: the line spells no command.
-pub fn read_command(alloc: Global, line: &[u8]) -> Result<Option<Command>, CommandFault>
+/// The command of a line of at most 65,536 bytes. Its words are lent by the line. `None`: the line has no reply, since it has
+/// no word or its first one begins with `#`. An error: the line spells no command.
+pub fn read_command<'a>(line: &'a [u8]) -> Result<Option<Command<'a>>, CommandFault>
     requires { length line.now ≤ 65536 }
     ensures reads { Tells (Exactly (Reads line.now)) result }
     ensures meaning { Tells (λ said. said ≡ meaning.meaning line.now) result }
@@ -418,5 +402,5 @@ pub fn read_command(alloc: Global, line: &[u8]) -> Result<Option<Command>, Comma
     let Some(word) = first_word(line) else {
         return Ok(None);
     };
-    Ok(Some(read_from(alloc, word)?))
+    Ok(Some(read_from(word)?))
 }

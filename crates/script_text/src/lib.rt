@@ -7,7 +7,6 @@
 mod command;
 mod fault;
 mod laws;
-mod owned;
 mod parts;
 mod reply;
 mod tail;

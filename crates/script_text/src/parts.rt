@@ -13,6 +13,7 @@ use crate::CommandFault;
 use crate::tail::Tail;
 use crate::words::{Word, behind_space, word_in};
 use pss_base::{Pid, read_pid, read_short_pid};
+use pss_machine::{Rest, Text};
 
 // Each byte of a name stands at its own place, and a full stop at every other place.
 static NAME_BYTES: [u8; 256] = *b"\
@@ -78,25 +79,38 @@ pub fn is_name(word: &[u8]) -> bool
 /// The name of a session or a transaction: a letter, and at most 31 letters, digits or `_` behind it.
 #[tactic(auto, unfolding(crate::specs::Meaning::step))]
 #[inline(always)]
-pub fn name_in<'a>(tail: Tail<'a>) -> Result<(&'a [u8], Tail<'a>), CommandFault>
-    ensures { Gives (λ x. (x.0.now, seen x.1)) result (step OfName (seen tail.entry)) }
+pub fn name_in<'a>(tail: Tail<'a>) -> Result<(Text<'a>, Tail<'a>), CommandFault>
+    ensures { Gives (λ x. (x.0, seen x.1)) result (step OfName (seen tail.entry)) }
 {
     let word = word_in(tail)?;
     if is_name(word.text) {
-        Ok((word.text, word.rest))
+        Ok((Text::new(word.text), word.rest))
     } else {
-        Err(CommandFault::Column(word.column))
+        Err(CommandFault {
+            column: word.column,
+        })
     }
 }
 
 /// Any word.
 #[tactic(auto, unfolding(crate::specs::Meaning::step))]
 #[inline(always)]
-pub fn any_in<'a>(tail: Tail<'a>) -> Result<(&'a [u8], Tail<'a>), CommandFault>
-    ensures { Gives (λ x. (x.0.now, seen x.1)) result (step OfWord (seen tail.entry)) }
+pub fn any_in<'a>(tail: Tail<'a>) -> Result<(Text<'a>, Tail<'a>), CommandFault>
+    ensures { Gives (λ x. (x.0, seen x.1)) result (step OfWord (seen tail.entry)) }
 {
     let word = word_in(tail)?;
-    Ok((word.text, word.rest))
+    Ok((Text::new(word.text), word.rest))
+}
+
+/// All that is left.
+#[inline(always)]
+pub fn rest_in<'a>(tail: Tail<'a>) -> Rest<'a>
+    ensures { result ≡ seen tail.entry }
+{
+    Rest {
+        column: tail.column,
+        text: Text::new(tail.text),
+    }
 }
 
 /// The first word, where it is a name between two spaces. None: it is none, or stands between other blanks.
@@ -248,7 +262,9 @@ pub fn entry_in<'a>(tail: Tail<'a>) -> Result<(u64, Tail<'a>), CommandFault>
     let word = word_in(tail)?;
     match entry_of(word.text) {
         Some(entry) => Ok((entry, word.rest)),
-        None => Err(CommandFault::Column(word.column)),
+        None => Err(CommandFault {
+            column: word.column,
+        }),
     }
 }
 
@@ -260,7 +276,9 @@ pub fn pid_in<'a>(tail: Tail<'a>) -> Result<(Pid, Tail<'a>), CommandFault>
     let word = word_in(tail)?;
     match read_pid(word.text) {
         Some(pid) => Ok((pid, word.rest)),
-        None => Err(CommandFault::Column(word.column)),
+        None => Err(CommandFault {
+            column: word.column,
+        }),
     }
 }
 
@@ -272,7 +290,9 @@ pub fn serial_in<'a>(tail: Tail<'a>) -> Result<(u64, Tail<'a>), CommandFault>
     let word = word_in(tail)?;
     match read_short_pid(word.text) {
         Some(serial) => Ok((serial, word.rest)),
-        None => Err(CommandFault::Column(word.column)),
+        None => Err(CommandFault {
+            column: word.column,
+        }),
     }
 }
 
@@ -291,6 +311,8 @@ pub fn choice_in<'a>(
     } else if word.text == other {
         Ok((false, word.rest))
     } else {
-        Err(CommandFault::Column(word.column))
+        Err(CommandFault {
+            column: word.column,
+        })
     }
 }

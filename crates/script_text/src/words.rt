@@ -110,7 +110,9 @@ pub fn word_in<'a>(tail: Tail<'a>) -> Result<Word<'a>, CommandFault>
 {
     match next_word(tail) {
         Some(word) => Ok(word),
-        None => Err(CommandFault::Column(end_column(tail))),
+        None => Err(CommandFault {
+            column: end_column(tail),
+        }),
     }
 }
 
@@ -121,7 +123,9 @@ pub fn finish(tail: Tail<'_>) -> Result<(), CommandFault>
     ensures { Gives (λ x. x) result (meaning.nothing_in (seen tail.entry)) }
 {
     match next_word(tail) {
-        Some(word) => Err(CommandFault::Column(word.column)),
+        Some(word) => Err(CommandFault {
+            column: word.column,
+        }),
         None => Ok(()),
     }
 }

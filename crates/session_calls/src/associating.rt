@@ -9,8 +9,8 @@ ghost use Rattle.session_calls.specs.Endings.{MayEnd};
 
 use crate::states::{active_in, held_by, open_in};
 use connector_parts::Parts;
-use pss_base::{Bytes, NoMemory, OwnerNo, SessionNo, Steps};
-use pss_machine::{Kind, Reply};
+use pss_base::{NoMemory, OwnerNo, SessionNo, Steps};
+use pss_machine::{Kind, Reply, Text};
 use std::sync::ledger::Ledger;
 
 /// The reply that a session is associated with a transaction.
@@ -21,7 +21,7 @@ pub fn associated(parts: &Parts, owner: OwnerNo) -> Result<Reply, NoMemory>
 }
 
 /// `start S T`: `OK`, `NOSESSION`, `NOTRANSACTION`, `KIND` or `ASSOC`.
-pub fn start(parts: &mut Parts, name: &Bytes, transaction: &Bytes) -> Result<Reply, NoMemory>
+pub fn start(parts: &mut Parts, name: &Text<'_>, transaction: &Text<'_>) -> Result<Reply, NoMemory>
     requires { AnyAt parts.old }
     ensures { IfOk result (λ reply. (k : Kept) → IsAt parts.old k → Comes parts.old k (command.Start name.now transaction.now) reply parts.new) }
 {
@@ -44,7 +44,7 @@ pub fn start(parts: &mut Parts, name: &Bytes, transaction: &Bytes) -> Result<Rep
 }
 
 /// `suspend S`: `OK`, `NOSESSION`, `KIND` or `NOTX`.
-pub fn suspend(parts: &mut Parts, name: &Bytes) -> Reply
+pub fn suspend(parts: &mut Parts, name: &Text<'_>) -> Reply
     requires { AnyAt parts.old }
     ensures { (k : Kept) → IsAt parts.old k → Comes parts.old k (command.Suspend name.now) result parts.new }
 {
@@ -80,7 +80,7 @@ fn end_part<L: Ledger>(
 }
 
 /// `end S ok|fail`: `OK`, `NOSESSION`, `KIND` or `NOTX`.
-pub fn end<L: Ledger>(parts: &mut Parts, name: &Bytes, ok: bool, steps: &mut Steps<L>) -> Reply
+pub fn end<L: Ledger>(parts: &mut Parts, name: &Text<'_>, ok: bool, steps: &mut Steps<L>) -> Reply
     requires { AnyAt parts.old }
     ensures { (k : Kept) → IsAt parts.old k → Comes parts.old k (command.End name.now ok) result parts.new }
 {

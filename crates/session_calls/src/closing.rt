@@ -11,8 +11,8 @@ ghost use Rattle.session_calls.specs.Closings.{MayClose, closes};
 use crate::associating::associated;
 use crate::states::transaction_of;
 use connector_parts::Parts;
-use pss_base::{Bytes, NoMemory, SessionNo, Steps};
-use pss_machine::{Kind, Reply};
+use pss_base::{NoMemory, SessionNo, Steps};
+use pss_machine::{Kind, Reply, Text};
 use std::sync::ledger::Ledger;
 
 // The session goes, and with a basic one its owner.
@@ -34,7 +34,7 @@ fn close_session<L: Ledger>(parts: &mut Parts, session: SessionNo, kind: Kind, s
 /// `close S`: `OK`, `NOSESSION` or `ASSOC`.
 pub fn close<L: Ledger>(
     parts: &mut Parts,
-    name: &Bytes,
+    name: &Text<'_>,
     steps: &mut Steps<L>,
 ) -> Result<Reply, NoMemory>
     requires { AnyAt parts.old }
@@ -53,7 +53,7 @@ pub fn close<L: Ledger>(
 }
 
 /// `rollback T`: `OK` or `NOTRANSACTION`.
-pub fn rollback<L: Ledger>(parts: &mut Parts, transaction: &Bytes, steps: &mut Steps<L>) -> Reply
+pub fn rollback<L: Ledger>(parts: &mut Parts, transaction: &Text<'_>, steps: &mut Steps<L>) -> Reply
     requires { AnyAt parts.old }
     ensures { (k : Kept) → IsAt parts.old k → Comes parts.old k (command.Rollback transaction.now) result parts.new }
 {

@@ -5,12 +5,12 @@ ghost use Rattle.pss_machine.specs.Kept.{Kept};
 ghost use Rattle.connector_parts.specs.Stands.{AnyAt, IsAt, Comes};
 
 use connector_parts::{Parts, entry_number};
-use pss_base::{Bytes, Steps};
-use pss_machine::{Kind, Reply};
+use pss_base::Steps;
+use pss_machine::{Kind, Reply, Text};
 use std::sync::ledger::Ledger;
 
 /// `dup S I`: the entry's count, `NOSESSION` or `NOENTRY`.
-pub fn dup(parts: &mut Parts, name: &Bytes, entry: u64) -> Reply
+pub fn dup(parts: &mut Parts, name: &Text<'_>, entry: u64) -> Reply
     requires { AnyAt parts.old }
     ensures { (k : Kept) → IsAt parts.old k → Comes parts.old k (command.Dup name.now entry) result parts.new }
 {
@@ -30,7 +30,7 @@ pub fn dup(parts: &mut Parts, name: &Bytes, entry: u64) -> Reply
 /// `release S I`: the entry's count, at 0 of which it goes, `NOSESSION` or `NOENTRY`.
 pub fn release<L: Ledger>(
     parts: &mut Parts,
-    name: &Bytes,
+    name: &Text<'_>,
     entry: u64,
     steps: &mut Steps<L>,
 ) -> Reply
@@ -50,7 +50,7 @@ pub fn release<L: Ledger>(
 }
 
 /// `freeall S`: `OK` or `NOSESSION`.
-pub fn free_all<L: Ledger>(parts: &mut Parts, name: &Bytes, steps: &mut Steps<L>) -> Reply
+pub fn free_all<L: Ledger>(parts: &mut Parts, name: &Text<'_>, steps: &mut Steps<L>) -> Reply
     requires { AnyAt parts.old }
     ensures { (k : Kept) → IsAt parts.old k → Comes parts.old k (command.FreeAll name.now) result parts.new }
 {
@@ -64,7 +64,7 @@ pub fn free_all<L: Ledger>(parts: &mut Parts, name: &Bytes, steps: &mut Steps<L>
 }
 
 /// `refresh S`: `OK`, `NOSESSION` or `KIND`.
-pub fn refresh<L: Ledger>(parts: &mut Parts, name: &Bytes, steps: &mut Steps<L>) -> Reply
+pub fn refresh<L: Ledger>(parts: &mut Parts, name: &Text<'_>, steps: &mut Steps<L>) -> Reply
     requires { AnyAt parts.old }
     ensures { (k : Kept) → IsAt parts.old k → Comes parts.old k (command.Refresh name.now) result parts.new }
 {

@@ -9,8 +9,8 @@ ghost use Rattle.connector_parts.specs.Stands.{Stands, AnyAt, IsAt, StayAs, Come
 ghost use Rattle.session_calls.specs.Openings.{MayOpen};
 
 use connector_parts::Parts;
-use pss_base::{Bytes, NoMemory};
-use pss_machine::{Access, Kind, Level, Reply};
+use pss_base::NoMemory;
+use pss_machine::{Access, Kind, Level, Reply, Text};
 
 // The access of a session that may write, or not.
 fn access_of(write: bool) -> Access
@@ -47,31 +47,31 @@ fn is_in_use(parts: &Parts, name: &[u8]) -> bool
     }
 }
 
-fn open_basic(parts: &mut Parts, name: &Bytes, access: Access) -> Result<(), NoMemory>
+fn open_basic(parts: &mut Parts, name: &Text<'_>, access: Access) -> Result<(), NoMemory>
     requires { MayOpen parts.old name.now }
     ensures moved { OnOk result ((k : Kept) → IsAt parts.old k → Stands parts.new (moved k (OpensBasic name.now access))) }
     ensures rest { StayAs parts.old parts.new }
 {
-    let owner = parts.accounts.open(name.copy()?)?;
+    let owner = parts.accounts.open(name.to_bytes(parts.alloc)?)?;
     parts
         .attended
-        .open(name.copy()?, Kind::Basic(owner), access)?;
+        .open(name.to_bytes(parts.alloc)?, Kind::Basic(owner), access)?;
     Ok(())
 }
 
-fn open_transactional(parts: &mut Parts, name: &Bytes, access: Access) -> Result<(), NoMemory>
+fn open_transactional(parts: &mut Parts, name: &Text<'_>, access: Access) -> Result<(), NoMemory>
     requires { MayOpen parts.old name.now }
     ensures moved { OnOk result ((k : Kept) → IsAt parts.old k → Stands parts.new (moved k (OpensTransactional name.now access))) }
     ensures rest { StayAs parts.old parts.new }
 {
     parts
         .attended
-        .open(name.copy()?, Kind::Transactional, access)?;
+        .open(name.to_bytes(parts.alloc)?, Kind::Transactional, access)?;
     Ok(())
 }
 
 /// `open S basic|tx ro|rw`: `OK`, `EXISTS` or `SESSIONS`.
-pub fn open(parts: &mut Parts, name: &Bytes, tx: bool, write: bool) -> Result<Reply, NoMemory>
+pub fn open(parts: &mut Parts, name: &Text<'_>, tx: bool, write: bool) -> Result<Reply, NoMemory>
     requires { AnyAt parts.old }
     ensures { IfOk result (λ reply. (k : Kept) → IsAt parts.old k → Comes parts.old k (command.OpenSession name.now tx write) reply parts.new) }
 {
@@ -90,7 +90,7 @@ pub fn open(parts: &mut Parts, name: &Bytes, tx: bool, write: bool) -> Result<Re
 }
 
 /// `begin T SERIALIZABLE|READ_COMMITTED`: `OK`, `EXISTS` or `TRANSACTIONS`.
-pub fn begin(parts: &mut Parts, name: &Bytes, serializable: bool) -> Result<Reply, NoMemory>
+pub fn begin(parts: &mut Parts, name: &Text<'_>, serializable: bool) -> Result<Reply, NoMemory>
     requires { AnyAt parts.old }
     ensures { IfOk result (λ reply. (k : Kept) → IsAt parts.old k → Comes parts.old k (command.Begin name.now serializable) reply parts.new) }
 {
@@ -100,6 +100,8 @@ pub fn begin(parts: &mut Parts, name: &Bytes, serializable: bool) -> Result<Repl
     if parts.accounts.titles().transactions() >= parts.limits.transactions {
         return Ok(Reply::Transactions);
     }
-    parts.accounts.begin(name.copy()?, level_of(serializable))?;
+    parts
+        .accounts
+        .begin(name.to_bytes(parts.alloc)?, level_of(serializable))?;
     Ok(Reply::Done)
 }

@@ -9,11 +9,11 @@ use crate::states::state_of;
 use connector_parts::Parts;
 use pss_base::{Bytes, NoMemory};
 use pss_catalog::home_at;
-use pss_machine::{Kind, Reply};
+use pss_machine::{Kind, Reply, Text};
 use type_layout::HomeNo;
 
 /// `status S`: the state, `NOSESSION` or `KIND`.
-pub fn status(parts: &Parts, name: &Bytes) -> Reply
+pub fn status(parts: &Parts, name: &Text<'_>) -> Reply
     ensures { (k : Kept) → IsAt parts.now k → Comes parts.now k (command.Status name.now) result parts.now }
 {
     let Some(found) = parts.session(name.as_slice()) else {
@@ -26,7 +26,7 @@ pub fn status(parts: &Parts, name: &Bytes) -> Reply
 }
 
 /// `pidof S I`: the object of the entry, `NOSESSION` or `NOENTRY`.
-pub fn pid_of(parts: &Parts, name: &Bytes, entry: u64) -> Reply
+pub fn pid_of(parts: &Parts, name: &Text<'_>, entry: u64) -> Reply
     ensures { (k : Kept) → IsAt parts.now k → Comes parts.now k (command.PidOf name.now entry) result parts.now }
 {
     let Some(found) = parts.session(name.as_slice()) else {
@@ -49,7 +49,7 @@ fn home_name(parts: &Parts, home: HomeNo) -> Result<Bytes, NoMemory>
 }
 
 /// `home S HOME`: the home that the word names, `NOSESSION` or `NOHOME`.
-pub fn home(parts: &Parts, name: &Bytes, word: &Bytes) -> Result<Reply, NoMemory>
+pub fn home(parts: &Parts, name: &Text<'_>, word: &Text<'_>) -> Result<Reply, NoMemory>
     ensures { IfOk result (λ reply. (k : Kept) → IsAt parts.now k → Comes parts.now k (command.Home name.now word.now) reply parts.now) }
 {
     let Some(_) = parts.session(name.as_slice()) else {

@@ -9,7 +9,7 @@ pub returns-in_err-read_from-clause-reads : goal.returns-in_err-read_from-clause
 returns-in_err-read_from-clause-reads c =
     let p = err_from_is_err_and c.from_residual.result c.from_residual.ensures.1 in
     let said =
-    fault_said c.args.line.now (seen_word c.in-Some.word) (words_in (seen c.in-Some.word.rest)) c.in_err-read_from.field-0.0 c.in-Some.ensures.first (c.in-Some.ensures.loud refl) c.in_err-read_from.ensures in
+    fault_said c.args.line.now (seen_word c.in-Some.word) (words_in (seen c.in-Some.word.rest)) c.in_err-read_from.field-0.0.column c.in-Some.ensures.first (c.in-Some.ensures.loud refl) c.in_err-read_from.ensures in
     rw (p.1, p.2) (tells_exactly c.args.line.now (Err c.in_err-read_from.field-0.0) said)
 
 pub returns-clause-reads : goal.returns-clause-reads

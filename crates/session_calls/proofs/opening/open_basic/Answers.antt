@@ -14,6 +14,6 @@ open-requires c = record { schema = c.args.parts.now.schema; kept = c.requires.k
 pub returns-clause-moved : goal.returns-clause-moved
 returns-clause-moved c k at =
     basic_opens c.args.parts.now _ k at refl c.args.name.now c.args.access c.in_ok-owner.owner (c.in_ok-owner.ensures.number c.args.parts.now.schema k at.stands.accounts)
-    (subst (λ (n : List ℕ). AreAccounts c.args.parts.now.schema c.open.new.self (with_owner k n level.Basic)) c.in_ok-copy.ensures (c.in_ok-owner.ensures.opened c.args.parts.now.schema k at.stands.accounts))
-    (subst (λ (n : List ℕ). Attends (with_owner k c.args.name.now level.Basic) c.args.parts.now.attended → Attends (with_session (with_owner k c.args.name.now level.Basic) n (kind.Basic c.in_ok-owner.owner) c.args.access) c.open-2.new.self) c.in_ok-copy-2.ensures
+    (subst (λ (n : List ℕ). AreAccounts c.args.parts.now.schema c.open.new.self (with_owner k n level.Basic)) c.in_ok-to_bytes.ensures (c.in_ok-owner.ensures.opened c.args.parts.now.schema k at.stands.accounts))
+    (subst (λ (n : List ℕ). Attends (with_owner k c.args.name.now level.Basic) c.args.parts.now.attended → Attends (with_session (with_owner k c.args.name.now level.Basic) n (kind.Basic c.in_ok-owner.owner) c.args.access) c.open-2.new.self) c.in_ok-to_bytes-2.ensures
     (c.in_ok-open.ensures.opened (with_owner k c.args.name.now level.Basic)))

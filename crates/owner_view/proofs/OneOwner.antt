@@ -1,6 +1,5 @@
 -- An owner that has changed nothing, or of which nothing that can be told has changed.
 use Rattle.std.proofs.Common.{◌≡◌, [], Option, None, Some, sym, ap, subst, ◌∙◌}
-use Rattle.std.specs.List.{slice_get}
 use Rattle.std.specs.Ordering.{nat_cmp}
 use Rattle.std.specs.FinMap.{get, empty, len, get-empty, len-empty}
 use Rattle.type_layout.specs.declared.schema.Schema.{Schema}
@@ -8,7 +7,7 @@ use Rattle.type_layout.specs.Schemas.{given}
 use Rattle.pss_catalog.specs.Catalog.{Object}
 use Rattle.pss_machine.specs.Changes.{Changes}
 use Rattle.owner_view.specs.declared.owned.Owned.{Owned}
-use Rattle.storage_home.specs.Keys.{found_at, KeepsFound}
+use Rattle.owner_view.specs.Indexes.{index_at, found_at, KeepsFound}
 use Rattle.owner_view.specs.Overlay.{indexes_in}
 use Rattle.owner_view.specs.Owned.{changed_by, IsCounted, IsUnder, IsSame}
 use Rattle.owner_view.specs.Views.{IsOwnHolder}
@@ -16,7 +15,7 @@ use Rattle.owner_view.specs.Views.{IsOwnHolder}
 -- who has changed nothing holds no key
 pub nothing_under : (o : Owned) → changed_by o ≡ empty → indexes_in o.overlay ≡ [] → (S : Schema) → IsUnder S o
 nothing_under o changes indexes S k bytes =
-    subst (λ is. IsOwnHolder S (changed_by o) k bytes (given (slice_get is k.0) None (λ index. get index.held bytes))) (sym indexes)
+    subst (λ is. IsOwnHolder S (changed_by o) k bytes (given (index_at k.0 is) None (λ index. get index.held bytes))) (sym indexes)
     (λ s x at. (let no : None ≡ Some (Some x) = sym (get-empty nat_cmp s) ∙ ap (λ c. get c s) (sym changes) ∙ at in cc))
 
 pub nothing_counted : (o : Owned) → changed_by o ≡ empty → o.changed ≡ 0 → IsCounted o

@@ -8,7 +8,6 @@ use Rattle.std.specs.Str.{bytes_eq}
 use Rattle.std.proofs.lemmas.Bool.{eqb-true, eq-eqb}
 use Rattle.std.proofs.lemmas.Option.{same_Some}
 use Rattle.std.specs.FinMap.{get, insert, get-insert}
-use Rattle.key_index.specs.Index.{Index}
 use Rattle.type_layout.specs.declared.key.KeyNo.{KeyNo}
 use Rattle.type_layout.specs.declared.schema.Home.{Home}
 use Rattle.type_layout.specs.declared.schema.Schema.{Schema}
@@ -20,7 +19,8 @@ use Rattle.pss_catalog.proofs.Listing.{tie}
 use Rattle.pss_machine.specs.Changes.{Changes}
 use Rattle.pss_machine.specs.Homes.{keys_at}
 use Rattle.owner_view.specs.Keyed.{keyed, all_keyed, keys_of}
-use Rattle.storage_home.specs.Keys.{found_at, lists}
+use Rattle.storage_home.specs.Keys.{lists}
+use Rattle.owner_view.specs.Indexes.{Indexes, found_at}
 use Rattle.owner_view.specs.Overlay.{HasHolders, FoundAfter}
 use Rattle.owner_view.specs.Views.{seen_with, IsOwnHolder}
 use Rattle.owner_view.proofs.Holding.{seen_at}
@@ -87,7 +87,7 @@ module _ (S : Schema) (M : Catalog) (c : Changes) (s : ℕ) (state : Option Obje
   pub own_seen : (t : ℕ) (x : Object) → get c t ≡ Some (Some x) → get (seen_with M c) t ≡ Some x
   own_seen t x is = seen_at M c t ∙ ap (λ o. unwrap_or o (get M t)) is
 
-  module _ (old new : List Index) (unique : IsUnique S (seen_with M c)) (before : HasHolders S c old)
+  module _ (old new : Indexes) (unique : IsUnique S (seen_with M c)) (before : HasHolders S c old)
       (found : FoundAfter old new s (keys_of S (get (seen_with M c) s)) (keys_of S state)) (k : KeyNo) (bytes : List ℕ) where
     abbrev Has : Bool → Type 0
     Has b = lists (keys_of S state) k.0 bytes ≡ b

@@ -1,53 +1,26 @@
--- What an owner puts: the keys that go and come have their indexes, and their holders stay known.
-use Rattle.std.proofs.Common.{ℕ, ◌+◌, ◌≡◌, ◌≤◌, List, [], ◌∷◌, length, Option, Some, None, true, refl, sym, ap, subst, ◌∙◌, arith, IsTrue}
-use Rattle.std.specs.Prelude.{nat_le, if◌then◌else◌}
-use Rattle.std.specs.List.{list_all}
+-- What an owner puts: the keys that come may be put, and the holders of keys stay known.
+use Rattle.std.proofs.Common.{ℕ, ◌+◌, ◌≡◌, List, None, refl, sym, ap, subst, ◌∙◌, IsTrue}
+use Rattle.std.specs.Prelude.{if◌then◌else◌}
 use Rattle.std.specs.Cmp.{nat_cmp_total}
-use Rattle.std.specs.FinMap.{get, insert, len, len-insert, contains_key}
-use Rattle.key_index.specs.Index.{Index}
-use Rattle.type_layout.specs.declared.key.KeyNo.{KeyNo}
-use Rattle.type_layout.specs.declared.schema.Home.{Home}
+use Rattle.std.specs.FinMap.{insert, len, len-insert, contains_key}
 use Rattle.type_layout.specs.declared.schema.Schema.{Schema}
-use Rattle.type_layout.specs.Types.{PlainValue}
-use Rattle.type_layout.specs.Schemas.{given, home_at}
-use Rattle.type_layout.specs.Sound.{IsSoundSchema}
-use Rattle.pss_catalog.specs.Catalog.{Object, Catalog}
-use Rattle.pss_laws.proofs.Logic.{and_left, and_right}
+use Rattle.pss_catalog.specs.Catalog.{Catalog}
 use Rattle.pss_machine.specs.Changes.{Changes}
 use Rattle.owner_view.specs.declared.owned.Owned.{Owned}
 use Rattle.owner_view.specs.declared.states.Slot.{Slot}
 use Rattle.owner_view.specs.declared.states.Slot.TheVariants as slot
 use Rattle.owner_view.specs.declared.step.Put.{Put}
-use Rattle.storage_home.specs.Keys.{lists, AreThere, TurnsFound, KeepsKeysReserved, MayPut}
-use Rattle.owner_view.specs.Keyed.{Pair, keyed, keys_of}
+use Rattle.storage_home.specs.Keys.{lists}
+use Rattle.owner_view.specs.Indexes.{Indexes, TurnsFound, KeepsKeysReserved, MayPut}
+use Rattle.owner_view.specs.Keyed.{Pair, keys_of}
 use Rattle.owner_view.specs.Overlay.{changes_in, indexes_in, FoundAfter, HasHolders}
 use Rattle.owner_view.specs.Owned.{MayPutIn}
 use Rattle.owner_view.specs.Seen.{plain_object}
 use Rattle.owner_view.specs.States.{slot_state, with_told}
-use Rattle.owner_view.specs.Steps.{state_put, MayStand, IsPut}
+use Rattle.owner_view.specs.Steps.{state_put, MayStand}
 use Rattle.owner_view.specs.Views.{seen_with}
 use Rattle.owner_view.proofs.Freeing.{may_put}
 use Rattle.owner_view.proofs.Owning.{holder_after}
-
--- ---- each key of an object has its index
-
-keys_there : (S : Schema) (values : List PlainValue) (n : ℕ) (keys : List KeyNo) → list_all (λ k. nat_le (k.0 + 1) n) keys ≡ true → (indexes : List Index) → n ≤ length indexes → AreThere indexes (keyed S values keys)
-keys_there S values n [] all indexes many = tt
-keys_there S values n (k ∷ keys) all indexes many =
-    let le = and_left (nat_le (k.0 + 1) n) _ all in
-    let within : k.0 + 1 ≤ n = grind (arith, le) in
-    (omega (arith, within, many), keys_there S values n keys (and_right (nat_le (k.0 + 1) n) _ all) indexes many)
-
-pub there_of : (S : Schema) → IsSoundSchema S → (state : Option Object) (indexes : List Index) → length S.keys ≤ length indexes → AreThere indexes (keys_of S state)
-there_of S sound None indexes many = tt
-there_of S sound (Some x) indexes many = by (home_at S x.home) refl
-  where
-    by : (o : Option Home) → home_at S x.home ≡ o → AreThere indexes (keyed S x.values (given o [] (λ home. home.keys)))
-    by None is = tt
-    by (Some home) is = keys_there S x.values (length S.keys) home.keys (sound.keys_there x.home home is) indexes many
-
-pub has_there : (S : Schema) (V : Catalog) → IsSoundSchema S → (put : Put) → IsPut S V put → (indexes : List Index) → length S.keys ≤ length indexes → AreThere indexes put.pairs.has.items
-has_there S V sound put is indexes many = subst (AreThere indexes) (sym is.has) (there_of S sound (state_put put.slot) indexes many)
 
 -- ---- a state is put
 
@@ -67,10 +40,7 @@ module _ (owned : Owned) (put : Put) (may : MayPutIn owned put) where
   abbrev V : Catalog
   V = seen_with may.catalog changes
 
-  pub had_there : AreThere (indexes_in owned.overlay) put.pairs.had.items
-  had_there = subst (AreThere (indexes_in owned.overlay)) (sym may.is.had) (there_of S may.sound (get V put.serial) (indexes_in owned.overlay) may.ready.many)
-
-  pub has_may : (between : List Index) → TurnsFound (indexes_in owned.overlay) between put.pairs.had.items None → KeepsKeysReserved (indexes_in owned.overlay) between → MayPut between put.pairs.has.items
+  pub has_may : (between : Indexes) → TurnsFound (indexes_in owned.overlay) between put.pairs.had.items None → KeepsKeysReserved (indexes_in owned.overlay) between → MayPut between put.pairs.has.items
   has_may between turned keeps = subst (MayPut between) (sym may.is.has) (by put.slot may.is.may may.is.has)
     where
       by : (s : Slot) → MayStand S V put.serial s → put.pairs.has.items ≡ keys_of S (state_put s) → MayPut between (keys_of S (state_put s))

@@ -1,5 +1,5 @@
 -- What is kept of an owner, what may be asked of it, and what becomes of it.
-use Rattle.std.specs.Prelude.{ℕ, ◌≡◌, ◌<◌, length, Option, Some, None}
+use Rattle.std.specs.Prelude.{ℕ, ◌≡◌, ◌<◌, Option, Some, None}
 use Rattle.std.specs.FinMap.{get, len}
 use Rattle.type_layout.specs.declared.schema.Schema.{Schema}
 use Rattle.type_layout.specs.Sound.{IsSoundSchema}
@@ -13,7 +13,7 @@ use Rattle.owner_view.specs.declared.step.Put.{Put}
 use Rattle.owner_view.specs.Fitting.{FitsOp}
 use Rattle.owner_view.specs.Overlay.{changes_in, indexes_in, IsReady, HasHolders}
 use Rattle.owner_view.specs.Seen.{Fits}
-use Rattle.owner_view.specs.Steps.{IsPut, MayBePut, changes_put}
+use Rattle.owner_view.specs.Steps.{IsPut, changes_put}
 use Rattle.owner_view.specs.Views.{seen_with}
 
 -- what it changed, by serial
@@ -45,12 +45,6 @@ pub record MayStep (S : Schema) (homes : Homes) (owned : Owned) (op : PlainOp) :
 
 -- ---- steps that are taken
 
--- a step puts this on what an owner sees
-pub record IsMade (S : Schema) (put : Option Put) : Type 0 where
-  pub seen : Catalog
-  pub sound : IsSoundSchema S
-  pub may : MayBePut S seen put
-
 -- nothing that can be told of the owner has changed
 pub record IsSame (old new : Owned) : Type 0 where
   pub level : new.level ≡ old.level
@@ -59,9 +53,9 @@ pub record IsSame (old new : Owned) : Type 0 where
   pub under : (S : Schema) → IsUnder S old → IsUnder S new
 
 -- what is put may be put without memory
-abbrev pub IsReadyFor : Schema → Option Put → Owned → Type 0
-IsReadyFor S None owned = Unit {0}
-IsReadyFor S (Some put) owned = IsReady (length S.keys) put.serial put.pairs.has.items owned.overlay
+abbrev pub IsReadyFor : Option Put → Owned → Type 0
+IsReadyFor None owned = Unit {0}
+IsReadyFor (Some put) owned = IsReady put.serial put.pairs.has.items owned.overlay
 
 -- what may be put: a step puts it on what the owner sees, there is room for it, and the owner may change one object more
 pub record MayPutIn (owned : Owned) (put : Put) : Type 0 where
@@ -71,7 +65,7 @@ pub record MayPutIn (owned : Owned) (put : Put) : Type 0 where
   pub unique : IsUnique schema (seen_with catalog (changed_by owned))
   pub under : IsUnder schema owned
   pub is : IsPut schema (seen_with catalog (changed_by owned)) put
-  pub ready : IsReadyFor schema (Some put) owned
+  pub ready : IsReadyFor (Some put) owned
   pub counted : IsCounted owned
   pub few : len (changed_by owned) < 4294967295
 

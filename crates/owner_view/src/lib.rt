@@ -1,6 +1,6 @@
 //! One owner over what was committed: what it changed, what it sees, and what operations come to on that.
 //!
-//! An owner's view is never built. Its changes lie in an overlay by serial, with an index for each key of the changed objects;
+//! An owner's view is never built. Its changes lie in an overlay by serial, with an index for each key that the changed objects had or have;
 //! a look-up asks the overlay first and then the committed objects.
 #![tactic(auto)]
 
@@ -15,6 +15,7 @@ mod extent;
 mod first;
 mod follow;
 mod gone;
+mod indexes;
 mod keyed;
 mod needs;
 mod net;

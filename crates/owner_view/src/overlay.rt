@@ -1,25 +1,22 @@
 // What an owner changed, and who holds which keys among the changed objects.
-ghost use Rattle.std.specs.Prelude.{◌≡◌, ◌≤◌, List, [], length, None, IfOk, OnOk, IsSome};
+ghost use Rattle.std.specs.Prelude.{◌≡◌, [], None, IfOk, OnOk, IsSome};
 ghost use Rattle.std.specs.FinMap as map;
-ghost use Rattle.key_index.specs.Index.{Index};
 ghost use Rattle.owner_view.specs.States.{slot_at, slot_state, told_state, with_told, AreInOrder};
-ghost use Rattle.storage_home.specs.Keys.{found_at, AreThere, MayPut, KeepsFound, TurnsFound, KeepsKeysReserved};
+ghost use Rattle.owner_view.specs.Indexes.{Indexes as Table, found_at, MayPut, KeepsFound, TurnsFound, KeepsKeysReserved};
 ghost use Rattle.owner_view.specs.Overlay.{changes_in, indexes_in, IsReady, FoundAfter};
 
+use crate::indexes::{self, Indexes};
 use crate::states::{self, Slot, States, Told, told_at};
-use key_index::KeyIndex;
 use pss_base::{Bytes, NoMemory};
 use std::alloc::Global;
-use storage_home::keys::{find, put_all, reserve_all, take_all};
 use type_layout::KeyNo;
 
-/// An owner's changes by serial, and an index for each key of the changed objects as they are now.
+/// An owner's changes by serial, and an index for each key that the changed objects had or have.
 #[derive(Drop)]
 pub struct Overlay {
     alloc: Global,
     states: States,
-    /// For each key, from number 0, of the schema under which something was changed.
-    indexes: Vec<KeyIndex>,
+    indexes: Indexes,
 }
 
 impl Overlay {
@@ -31,7 +28,7 @@ impl Overlay {
         Overlay {
             alloc,
             states: states::none(alloc),
-            indexes: Vec::new(alloc),
+            indexes: indexes::none(alloc),
         }
     }
 
@@ -41,7 +38,7 @@ impl Overlay {
         ensures indexes { indexes_in self.new ≡ [] }
     {
         states::clear(&mut self.states, self.alloc);
-        self.indexes.clear();
+        indexes::clear(&mut self.indexes, self.alloc);
     }
 
     /// The serials of the states in their order, with those that are only reserved.
@@ -62,25 +59,18 @@ impl Overlay {
     pub fn holder(&self, key: KeyNo, bytes: &[u8]) -> Option<u64>
         ensures { result ≡ found_at (indexes_in self.now) key.0 bytes.now }
     {
-        find(&self.indexes, key, bytes)
+        indexes::find(&self.indexes, key, bytes)
     }
 
     /// Sees to it that a state may be put at a serial, with these keys, without memory. Nothing that is
-    /// told changes. There are so many keys in all.
-    pub fn reserve(
-        &mut self,
-        keys: usize,
-        serial: u64,
-        pairs: &[(KeyNo, Bytes)],
-    ) -> Result<(), NoMemory>
-        requires { (indexes : List Index) → keys ≤ length indexes → AreThere indexes pairs.now }
+    /// told changes.
+    pub fn reserve(&mut self, serial: u64, pairs: &[(KeyNo, Bytes)]) -> Result<(), NoMemory>
         ensures changes { changes_in self.new ≡ changes_in self.old }
         ensures found { KeepsFound (indexes_in self.old) (indexes_in self.new) }
-        ensures ok { OnOk result (IsReady keys serial pairs.now self.new) }
+        ensures ok { OnOk result (IsReady serial pairs.now self.new) }
     {
         states::reserve(&mut self.states, serial)?;
-        grow(self.alloc, &mut self.indexes, keys)?;
-        reserve_all(&mut self.indexes, pairs)
+        indexes::reserve_all(self.alloc, &mut self.indexes, pairs)
     }
 
     /// Puts a state at a serial. The keys that its object had go, and those that it has come. It takes
@@ -93,25 +83,12 @@ impl Overlay {
         has: &[(KeyNo, Bytes)],
     )
         requires there { IsSome (slot_at serial self.old.states.table.entries) }
-        requires had { AreThere (indexes_in self.old) had.now }
-        requires has { (between : List Index) → TurnsFound (indexes_in self.old) between had.now None → KeepsKeysReserved (indexes_in self.old) between → MayPut between has.now }
+        requires has { (between : Table) → TurnsFound (indexes_in self.old) between had.now None → KeepsKeysReserved (indexes_in self.old) between → MayPut between has.now }
         ensures changes { changes_in self.new ≡ with_told (slot_state slot) serial (changes_in self.old) }
         ensures found { FoundAfter (indexes_in self.old) (indexes_in self.new) serial had.now has.now }
-        ensures size { length (indexes_in self.new) ≡ length (indexes_in self.old) }
     {
         states::put(&mut self.states, serial, slot);
-        take_all(&mut self.indexes, had);
-        put_all(&mut self.indexes, has, serial);
+        indexes::take_all(&mut self.indexes, had);
+        indexes::put_all(&mut self.indexes, has, serial);
     }
-}
-
-// Sees to it that there are indexes for so many keys.
-fn grow(alloc: Global, indexes: &mut Vec<KeyIndex>, keys: usize) -> Result<(), NoMemory>
-    ensures found { KeepsFound indexes.old.items indexes.new.items }
-    ensures ok { OnOk result (keys ≤ length indexes.new.items) }
-{
-    while indexes.len() < keys {
-        indexes.push(KeyIndex::new(alloc))?;
-    }
-    Ok(())
 }

@@ -6,7 +6,7 @@ ghost use Rattle.type_layout.specs.declared.schema.Schema.{Schema as PlainSchema
 ghost use Rattle.pss_machine.specs.Operations.{plain_op};
 ghost use Rattle.storage_home.specs.Applied.{AreChanges};
 ghost use Rattle.owner_view.specs.Net.{net_of, AreNet};
-ghost use Rattle.owner_view.specs.Owned.{changed_by, IsCounted, IsUnder, IsSame, IsMade, IsReadyFor, MayPutIn, HasPut, MayLook, MayStep};
+ghost use Rattle.owner_view.specs.Owned.{changed_by, IsCounted, IsUnder, IsSame, IsReadyFor, MayPutIn, HasPut, MayLook, MayStep};
 ghost use Rattle.owner_view.specs.Steps.{IsStep};
 ghost use Rattle.owner_view.specs.Views.{seen_with};
 
@@ -132,15 +132,12 @@ impl Owned {
 
     /// Sees to it that what a step puts may be put without memory. Nothing that is told of the owner changes, not even where
     /// memory lacks.
-    pub fn reserve(&mut self, schema: &Schema, put: &Option<Put>) -> Result<(), NoMemory>
-        requires made { IsMade schema.now put.now }
+    pub fn reserve(&mut self, put: &Option<Put>) -> Result<(), NoMemory>
         ensures same { IsSame self.old self.new }
-        ensures ready { OnOk result (IsReadyFor schema.now put.now self.new) }
+        ensures ready { OnOk result (IsReadyFor put.now self.new) }
     {
         match put {
-            Some(put) => self
-                .overlay
-                .reserve(schema.keys.as_slice().len(), put.serial, &put.pairs.has),
+            Some(put) => self.overlay.reserve(put.serial, &put.pairs.has),
             None => Ok(()),
         }
     }

@@ -64,7 +64,7 @@ module _ (S : Schema) (parts : Parts) (n : OwnerNo) (step : Step) (m : MayTake S
   V = seen_with m.catalog (changed_by m.owned)
 
   -- with room the step may be put
-  abbrev may_put_in : (put : Put) → MayBePut S V (Some put) → (b : Owned) → IsSame m.owned b → IsReadyFor S (Some put) b → MayPutIn b put
+  abbrev may_put_in : (put : Put) → MayBePut S V (Some put) → (b : Owned) → IsSame m.owned b → IsReadyFor (Some put) b → MayPutIn b put
   may_put_in put may b is ready = record {
     schema = S;
     catalog = m.catalog;
@@ -82,14 +82,14 @@ module _ (S : Schema) (parts : Parts) (n : OwnerNo) (step : Step) (m : MayTake S
       let a = turned_from IsSame parts.table.entries between n same b at in
       subst (λ o. IsSame o b) (same_Some a.0 m.owned (sym a.1 ∙ m.there)) a.2
 
-  pub may_settle : IsReadyIn n.0 S step.put between → MaySettle between n step.put
+  pub may_settle : IsReadyIn n.0 step.put between → MaySettle between n step.put
   may_settle ready = by step.put m.may ready
     where
-      by : (put : Option Put) → MayBePut S V put → IsReadyIn n.0 S put between → MaySettle between n put
+      by : (put : Option Put) → MayBePut S V put → IsReadyIn n.0 put between → MaySettle between n put
       by None may ready = tt
       by (Some put) may ready = λ b at. may_put_in put may b (same_from b at) (ready b at)
 
-  module _ (fs : List (ℕ × Owned)) (ready : IsReadyIn n.0 S step.put between) (settled : HasSettled between fs n step.put) where
+  module _ (fs : List (ℕ × Owned)) (ready : IsReadyIn n.0 step.put between) (settled : HasSettled between fs n step.put) where
     others : (q : ℕ) → (n.0 == q) ≡ false → owned_at q fs ≡ owned_at q parts.table.entries
     others q other = by step.put settled ∙ same.others q other
       where
@@ -103,7 +103,7 @@ module _ (S : Schema) (parts : Parts) (n : OwnerNo) (step : Step) (m : MayTake S
         a : (b : Owned) × (owned_at n.0 between ≡ Some b) × IsSame m.owned b
         a = turned_to IsSame parts.table.entries between n same m.owned m.there
 
-        by : (put : Option Put) → MayBePut S V put → IsReadyIn n.0 S put between → HasSettled between fs n put → (b : Owned) × (owned_at n.0 fs ≡ Some b) × HasStepped S put m.owned b
+        by : (put : Option Put) → MayBePut S V put → IsReadyIn n.0 put between → HasSettled between fs n put → (b : Owned) × (owned_at n.0 fs ≡ Some b) × HasStepped S put m.owned b
         by None may ready is = (
           a.0,
           ap (owned_at n.0) is ∙ a.1,

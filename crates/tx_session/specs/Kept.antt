@@ -39,5 +39,5 @@ pub record TurnsBy (Turns : Owned → Owned → Type 0) (old new : List (ℕ × 
   pub others : (q : ℕ) → (n == q) ≡ false → owned_at q new ≡ owned_at q old
 
 -- what is put may be put by the owner with this number without memory
-abbrev pub IsReadyIn : ℕ → Schema → Option Put → List (ℕ × Owned) → Type 0
-IsReadyIn n S put es = (owned : Owned) → owned_at n es ≡ Some owned → IsReadyFor S put owned
+abbrev pub IsReadyIn : ℕ → Option Put → List (ℕ × Owned) → Type 0
+IsReadyIn n put es = (owned : Owned) → owned_at n es ≡ Some owned → IsReadyFor put owned

@@ -6,7 +6,7 @@ ghost use Rattle.pss_machine.specs.Operations.{plain_op};
 ghost use Rattle.pss_machine.specs.Owners.{view};
 ghost use Rattle.lock_table.specs.Locks.{blocker, granted};
 ghost use Rattle.owner_view.specs.Steps.{IsStep};
-ghost use Rattle.owner_view.specs.Owned.{IsMade, IsSame};
+ghost use Rattle.owner_view.specs.Owned.{IsSame};
 ghost use Rattle.tx_session.specs.Kept.{IsReadyIn, TurnsBy};
 ghost use Rattle.tx_session.specs.Owners.{owners_in, Under, AreOwners, MayAct};
 ghost use Rattle.tx_session.specs.Acting.{MayTake, MaySettle, HasSettled, with_step};
@@ -50,22 +50,21 @@ impl Parts {
         ensures under { Under schema.now self.new }
         ensures owners { AreOwners self.new }
     {
-        match self.prepare(owner, schema, &step) {
+        match self.prepare(owner, &step) {
             Ok(()) => Ok(self.settle(owner, step)),
             Err(NoMemory) => Err(NoMemory),
         }
     }
 
     // Room for what a step puts, and the locks that it needs.
-    fn prepare(&mut self, owner: OwnerNo, schema: &Schema, step: &Step) -> Result<(), NoMemory>
-        requires made { IsMade schema.now step.now.put }
+    fn prepare(&mut self, owner: OwnerNo, step: &Step) -> Result<(), NoMemory>
         requires free { blocker self.old.locks owner step.now.needs ≡ None }
         ensures same { TurnsBy IsSame self.old.table.entries self.new.table.entries owner.0 }
-        ensures ready { OnOk result (IsReadyIn owner.0 schema.now step.now.put self.new.table.entries) }
+        ensures ready { OnOk result (IsReadyIn owner.0 step.now.put self.new.table.entries) }
         ensures granted { OnOk result (self.new.locks ≡ granted self.old.locks owner step.now.needs) }
         ensures err { OnErr result (self.new.locks ≡ self.old.locks) }
     {
-        reserve_in(&mut self.table, owner, schema, &step.put)?;
+        reserve_in(&mut self.table, owner, &step.put)?;
         self.locks.grant(owner, &step.needs)
     }
 

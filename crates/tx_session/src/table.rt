@@ -2,7 +2,7 @@
 ghost use Rattle.std.specs.Prelude.{◌≡◌, [], Some, None, IfSome, OnOk, OnErr};
 ghost use Rattle.std.specs.Option.{option_map};
 ghost use Rattle.owner_view.specs.declared.owned.Owned.{Owned as One};
-ghost use Rattle.owner_view.specs.Owned.{IsSame, IsMade, MayPutIn, HasPut};
+ghost use Rattle.owner_view.specs.Owned.{IsSame, MayPutIn, HasPut};
 ghost use Rattle.tx_session.specs.Kept.{owned_at, TurnsOwned, TurnsBy, IsReadyIn, IsCleared};
 
 use indexmap::IndexMap;
@@ -11,7 +11,6 @@ use pss_base::{NoMemory, OwnerNo};
 use std::alloc::Global;
 use std::hash::BuildHasherDefault;
 use table_hash::NumberHasher;
-use type_layout::Schema;
 
 pub type Table = IndexMap<u32, Owned, BuildHasherDefault<NumberHasher>>;
 
@@ -65,18 +64,12 @@ pub fn clear(table: &mut Table, owner: OwnerNo)
 }
 
 /// Sees to it that what a step puts may be put without memory.
-pub fn reserve_in(
-    table: &mut Table,
-    owner: OwnerNo,
-    schema: &Schema,
-    put: &Option<Put>,
-) -> Result<(), NoMemory>
-    requires { IsMade schema.now put.now }
+pub fn reserve_in(table: &mut Table, owner: OwnerNo, put: &Option<Put>) -> Result<(), NoMemory>
     ensures same { TurnsBy IsSame table.old.entries table.new.entries owner.0 }
-    ensures ready { OnOk result (IsReadyIn owner.0 schema.now put.now table.new.entries) }
+    ensures ready { OnOk result (IsReadyIn owner.0 put.now table.new.entries) }
 {
     match table.get_mut(&owner.0) {
-        Some(owned) => owned.reserve(schema, put),
+        Some(owned) => owned.reserve(put),
         None => Ok(()),
     }
 }

@@ -1,19 +1,14 @@
 use Rattle.std.proofs.Common.{List, None, sym, ap, subst, ◌∙◌}
 use Rattle.owner_view.specs.declared.overlay.Overlay.{Overlay}
 use Rattle.owner_view.specs.declared.owned.Owned.{Owned}
-use Rattle.storage_home.specs.Keys.{AreThere, TurnsFound, KeepsKeysReserved, MayPut}
+use Rattle.owner_view.specs.Indexes.{TurnsFound, KeepsKeysReserved, MayPut}
 use Rattle.owner_view.specs.Keyed.{Pair}
 use Rattle.owner_view.specs.Overlay.{changes_in, indexes_in, FoundAfter}
 use Rattle.owner_view.specs.Owned.{changed_by}
 use Rattle.owner_view.specs.States.{slot_state, with_told}
 use Rattle.owner_view.specs.Views.{seen_with}
-use Rattle.owner_view.proofs.Putting.{told_insert, had_there, has_may, indexed_after, counted_after}
+use Rattle.owner_view.proofs.Putting.{told_insert, has_may, indexed_after, counted_after}
 use Rattle.owner_view.proofs.owned.Owned.put.Goals as goal
-
-pub put_reserved-requires-clause-had : goal.put_reserved-requires-clause-had
-put_reserved-requires-clause-had c =
-    subst (λ (o : Overlay). AreThere (indexes_in o) c.deref.result.now) (sym c.count.ensures.overlay)
-    (subst (AreThere (indexes_in c.args.self.now.overlay)) (sym c.deref.ensures.value) (had_there c.args.self.now c.args.put c.requires))
 
 pub put_reserved-requires-clause-has : goal.put_reserved-requires-clause-has
 put_reserved-requires-clause-has c between turned keeps =

@@ -1,14 +1,9 @@
 use Rattle.std.proofs.Common.{◌≡◌, sym, ap, subst, ◌∙◌}
 use Rattle.lock_table.specs.Locks.{Held, granted}
 use Rattle.lock_table.specs.Agreement.{HaveLocks}
-use Rattle.owner_view.specs.Views.{seen_with}
-use Rattle.owner_view.specs.Owned.{changed_by}
 use Rattle.tx_session.specs.Owners.{owners_of}
 use Rattle.tx_session.proofs.Stepping.{owners_stay, indexed_stay, counted_stay, locks_stay, may_settle, owners_stepped, under_stepped, counted_stepped, locks_stepped}
 use Rattle.tx_session.proofs.parts.Parts.take.Goals as goal
-
-pub prepare-requires-clause-made : goal.prepare-requires-clause-made
-prepare-requires-clause-made c = (let m = c.requires.may in record { seen = seen_with m.catalog (changed_by m.owned); sound = m.sound; may = m.may })
 
 pub settle-requires : goal.settle-requires
 settle-requires c =

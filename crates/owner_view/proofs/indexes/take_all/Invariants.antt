@@ -1,0 +1,9 @@
+use Rattle.std.proofs.Common.{ℕ, ◌≡◌, List, None, drop, cond}
+use Rattle.storage_home.specs.Keys.{lists}
+use Rattle.owner_view.specs.Indexes.{found_at, KeepsKeysReserved}
+use Rattle.owner_view.proofs.indexes.take_all.Given as goal
+
+abbrev pub invariant-loop-key : goal.invariant-loop-key
+invariant-loop-key l =
+    ((key : ℕ) (bytes : List ℕ) → cond (lists (drop l.key-index l.pairs) key bytes) None (found_at l.indexes.entries key bytes) ≡ cond (lists l.pairs key bytes) None (found_at l.initial.indexes.entries key bytes))
+    × KeepsKeysReserved l.initial.indexes.entries l.indexes.entries

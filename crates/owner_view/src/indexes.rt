@@ -1,0 +1,134 @@
+// Who holds which key among an owner's changed objects: an index for each key that it has used.
+ghost use Rattle.std.specs.Prelude.{◌≡◌, [], Some, None, true, false, IfOk, OnOk};
+ghost use Rattle.std.specs.FinMap as map;
+ghost use Rattle.std.specs.FinSet as set;
+ghost use Rattle.owner_view.specs.Indexes.{index_at, found_at, KeepsFound, TurnsFoundAt, TurnsKeyReservedAt, KeepsKeysReserved, TurnsFound, TurnsKeysReserved, MayPut, is_key_reserved};
+
+use indexmap::IndexMap;
+use key_index::KeyIndex;
+use pss_base::{Bytes, NoMemory};
+use std::alloc::Global;
+use std::hash::BuildHasherDefault;
+use table_hash::NumberHasher;
+use type_layout::KeyNo;
+
+/// Indexes by the numbers of their keys. A schema may have thousands of keys, of which an owner uses few: an index comes to be
+/// when its key is first reserved.
+pub type Indexes = IndexMap<u32, KeyIndex, BuildHasherDefault<NumberHasher>>;
+
+/// No index. It takes no memory.
+pub fn none(alloc: Global) -> Indexes
+    ensures { result.entries ≡ [] }
+{
+    IndexMap::with_hasher(alloc, BuildHasherDefault::new())
+}
+
+/// The most indexes that an owner keeps the places of.
+const MOST_KEPT: usize = 64;
+
+/// Takes all indexes away. The memory of a few places stays for those that come next.
+pub fn clear(indexes: &mut Indexes, alloc: Global)
+    ensures { indexes.new.entries ≡ [] }
+{
+    if indexes.capacity() <= MOST_KEPT {
+        indexes.clear();
+    } else {
+        *indexes = none(alloc);
+    }
+}
+
+/// The serial of the object that holds a key with these bytes, where one does.
+pub fn find(indexes: &Indexes, key: KeyNo, bytes: &[u8]) -> Option<u64>
+    ensures { result ≡ found_at indexes.now.entries key.0 bytes.now }
+{
+    match indexes.get(&key.0) {
+        Some(index) => index.find(bytes),
+        None => None,
+    }
+}
+
+/// Reserves keys. They may be held, and stay so.
+pub fn reserve_all(
+    alloc: Global,
+    indexes: &mut Indexes,
+    pairs: &[(KeyNo, Bytes)],
+) -> Result<(), NoMemory>
+    ensures found { KeepsFound indexes.old.entries indexes.new.entries }
+    ensures ok { OnOk result (TurnsKeysReserved indexes.old.entries indexes.new.entries pairs.now true) }
+{
+    for (key, bytes) in pairs {
+        reserve(alloc, indexes, *key, bytes.as_slice())?;
+    }
+    Ok(())
+}
+
+fn reserve(alloc: Global, indexes: &mut Indexes, key: KeyNo, bytes: &[u8]) -> Result<(), NoMemory>
+    ensures found { KeepsFound indexes.old.entries indexes.new.entries }
+    ensures ok { OnOk result (TurnsKeyReservedAt indexes.old.entries indexes.new.entries key.0 bytes.now true) }
+{
+    match indexes.get_mut(&key.0) {
+        Some(index) => index.reserve(bytes),
+        None => add(alloc, indexes, key, bytes),
+    }
+}
+
+// Reserves a key that has no index yet.
+fn add(alloc: Global, indexes: &mut Indexes, key: KeyNo, bytes: &[u8]) -> Result<(), NoMemory>
+    requires { index_at key.0 indexes.old.entries ≡ None }
+    ensures found { KeepsFound indexes.old.entries indexes.new.entries }
+    ensures ok { OnOk result (TurnsKeyReservedAt indexes.old.entries indexes.new.entries key.0 bytes.now true) }
+{
+    let index = reserved(alloc, bytes)?;
+    indexes.insert(key.0, index)?;
+    Ok(())
+}
+
+// An index in which one key is reserved, and none held.
+fn reserved(alloc: Global, bytes: &[u8]) -> Result<KeyIndex, NoMemory>
+    ensures held { IfOk result (λ index. index.held ≡ map.empty) }
+    ensures reserved { IfOk result (λ index. index.reserved ≡ set.insert set.empty bytes.now) }
+{
+    let mut index = KeyIndex::new(alloc);
+    index.reserve(bytes)?;
+    Ok(index)
+}
+
+/// Takes keys from their holders, where they have some. What is reserved stays so. It takes no memory.
+pub fn take_all(indexes: &mut Indexes, pairs: &[(KeyNo, Bytes)])
+    ensures found { TurnsFound indexes.old.entries indexes.new.entries pairs.now None }
+    ensures reserved { KeepsKeysReserved indexes.old.entries indexes.new.entries }
+{
+    for (key, bytes) in pairs {
+        take(indexes, *key, bytes.as_slice());
+    }
+}
+
+fn take(indexes: &mut Indexes, key: KeyNo, bytes: &[u8])
+    ensures found { TurnsFoundAt indexes.old.entries indexes.new.entries key.0 bytes.now None }
+    ensures reserved { KeepsKeysReserved indexes.old.entries indexes.new.entries }
+{
+    if let Some(index) = indexes.get_mut(&key.0) {
+        let _ = index.take(bytes);
+    }
+}
+
+/// Gives reserved keys that nothing holds to the object with a serial, and ends their reservations. It takes no memory.
+pub fn put_all(indexes: &mut Indexes, pairs: &[(KeyNo, Bytes)], serial: u64)
+    requires { MayPut indexes.old.entries pairs.now }
+    ensures found { TurnsFound indexes.old.entries indexes.new.entries pairs.now (Some serial) }
+{
+    for (key, bytes) in pairs {
+        put(indexes, *key, bytes.as_slice(), serial);
+    }
+}
+
+fn put(indexes: &mut Indexes, key: KeyNo, bytes: &[u8], serial: u64)
+    requires reserved { is_key_reserved indexes.old.entries key.0 bytes.now ≡ true }
+    requires free { found_at indexes.old.entries key.0 bytes.now ≡ None }
+    ensures found { TurnsFoundAt indexes.old.entries indexes.new.entries key.0 bytes.now (Some serial) }
+    ensures reserved { TurnsKeyReservedAt indexes.old.entries indexes.new.entries key.0 bytes.now false }
+{
+    if let Some(index) = indexes.get_mut(&key.0) {
+        index.put_reserved(bytes, serial);
+    }
+}

@@ -13,6 +13,7 @@ ghost use Rattle.pss_machine.specs.Owners.{Owner, new_owner, has_changed, net, b
 ghost use Rattle.storage_home.specs.Applied.{AreChanges};
 ghost use Rattle.lock_table.specs.Agreement.{locks_of};
 ghost use Rattle.owner_view.specs.Net.{AreNet};
+ghost use Rattle.tx_session.specs.Kept.{IsNew};
 ghost use Rattle.tx_session.specs.Owners.{owners_in, Under, MaySee, MayAct, step_of};
 ghost use Rattle.tx_session.specs.Following.{MayFollow};
 
@@ -64,6 +65,7 @@ impl Owners {
                 alloc,
                 table: table::empty(alloc),
                 locks: LockTable::new(alloc),
+                ended: None,
             },
         }
     }
@@ -78,7 +80,8 @@ impl Owners {
         ensures under { (S : PlainSchema) → Under S self.old → Under S self.new }
     {
         let parts = &mut self.parts;
-        table::add(&mut parts.table, owner, Owned::new(parts.alloc, level))
+        let new = begun(&mut parts.ended, parts.alloc, level);
+        table::add(&mut parts.table, owner, new)
     }
 
     /// What an operation comes to for an owner. `Busy` names the least other owner with a lock that clashes with what is needed;
@@ -216,12 +219,32 @@ impl Owners {
         table::clear(&mut parts.table, owner);
     }
 
-    /// Takes an owner away that has no lock, as after `finish`. It takes no memory.
+    /// Takes an owner away that has no lock, as after `finish`. It takes no memory, and the next owner has that of this one.
     pub fn remove(&mut self, owner: OwnerNo)
         requires { locks_of (owners_in self.old) owner ≡ set.empty }
         ensures removed { owners_in self.new ≡ remove (owners_in self.old) owner.0 }
         ensures under { (S : PlainSchema) → Under S self.old → Under S self.new }
     {
-        table::remove(&mut self.parts.table, owner);
+        let parts = &mut self.parts;
+        parts.ended = table::remove(&mut parts.table, owner);
     }
+}
+
+// An owner that has changed nothing. It has the memory of the one that ended last, where there is one.
+fn begun(ended: &mut Option<Owned>, alloc: Global, level: Level) -> Owned
+    ensures { IsNew level result }
+{
+    match ended.take() {
+        Some(owned) => again(owned, level),
+        None => Owned::new(alloc, level),
+    }
+}
+
+fn again(owned: Owned, level: Level) -> Owned
+    ensures { IsNew level result }
+{
+    let mut owned = owned;
+    owned.clear();
+    owned.level = level;
+    owned
 }

@@ -1,6 +1,7 @@
 // What is kept of all owners.
 use crate::table::Table;
 use lock_table::LockTable;
+use owner_view::Owned;
 use std::alloc::Global;
 
 /// Owners by number, and what they have locked.
@@ -9,4 +10,6 @@ pub struct Parts {
     pub alloc: Global,
     pub table: Table,
     pub locks: LockTable,
+    /// The owner that ended last, where no other one has its memory yet.
+    pub ended: Option<Owned>,
 }

@@ -48,10 +48,11 @@ pub fn add(table: &mut Table, owner: OwnerNo, owned: Owned) -> Result<(), NoMemo
     Ok(())
 }
 
-pub fn remove(table: &mut Table, owner: OwnerNo)
+/// Takes an owner out, where there is one with this number.
+pub fn remove(table: &mut Table, owner: OwnerNo) -> Option<Owned>
     ensures { TurnsOwned table.old.entries table.new.entries owner.0 None }
 {
-    let _ = table.swap_remove(&owner.0);
+    table.swap_remove(&owner.0)
 }
 
 /// Takes all that an owner changed away. It takes no memory.

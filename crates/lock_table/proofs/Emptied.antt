@@ -15,7 +15,7 @@ use Rattle.link_pool.specs.declared.names.Node.{Node}
 use Rattle.lock_table.specs.declared.places.Place.{Place}
 use Rattle.lock_table.specs.declared.links.Links.{Links}
 use Rattle.lock_table.specs.inner.Tables.{Turns, entry_at}
-use Rattle.lock_table.specs.inner.Links.{IsLinked, EmptyRows, EmptyCols, same_owner, resource_in, owner_in, place_at, row_at, col_at}
+use Rattle.lock_table.specs.inner.Links.{IsLinked, DropsRow, EmptyRows, EmptyCols, same_owner, resource_in, owner_in, place_at, row_at, col_at}
 use Rattle.lock_table.proofs.Sames.{resource-true, resource-self, owner-true, owner-self, cases, differ}
 use Rattle.lock_table.proofs.Keyed.{one_value, no_value, keyed_less, empty_less}
 use Rattle.lock_table.proofs.Kept.{same_row, same_col, same_key, same_owner_in, same_once, same_held, keyed_cols, empty_cols, keyed_rows, empty_rows, same_counts, row_gone, col_gone, row_gone_here, col_gone_here}
@@ -53,7 +53,7 @@ module _ (old new : Links) (linked : IsLinked old) (r : Resource) (row : Row) (a
       linked.counted q place was ∙ ap (λ o. length (unwrap_or o [])) (sym (left_r place.row away)))
       (cases same_resource resource-true q r)
 
-  pub place_removed : IsLinked new
+  place_removed : IsLinked new
   place_removed = record {
     rings = rings;
     rows =
@@ -65,14 +65,14 @@ module _ (old new : Links) (linked : IsLinked old) (r : Resource) (row : Row) (a
     held = same_held old new nodes_r linked held;
   }
 
-  pub place_removed_rows : (keys : List Resource) → EmptyRows old (r ∷ keys) → EmptyRows new keys
+  place_removed_rows : (keys : List Resource) → EmptyRows old (r ∷ keys) → EmptyRows new keys
   place_removed_rows keys were =
       empty_less same_resource resource-true resource-self (λ row. map.get old.pool.rows row ≡ Some []) (λ row. map.get new.pool.rows row ≡ Some []) (row_at old) (row_at new) r others_r keys were
       (λ s e. let away : s ≡ row → ⊥ = λ o. no_value {B = ⊥} [] (sym (row_gone_here old.pool.rows row) ∙ ap (map.get (map.remove old.pool.rows row)) (sym o) ∙ ap (λ m. map.get m s) (sym rows_r) ∙ e) in
       (sym (left_r s away) ∙ e, λ (h : row_at old r ≡ Some s). away (one_value (sym h ∙ at))))
 
-  pub place_removed_cols : (keys : List OwnerNo) → EmptyCols old keys → EmptyCols new keys
-  place_removed_cols = empty_cols old new nodes_r cols_r columns
+  pub place_dropped : DropsRow old new r
+  place_dropped = record { linked = place_removed; rows = place_removed_rows; cols = empty_cols old new nodes_r cols_r columns }
 
 module _ (old new : Links) (linked : IsLinked old) (owner : OwnerNo) (col : Col) (at : col_at old owner ≡ Some col) (empty : map.get old.pool.cols col ≡ Some []) (turns : Turns same_owner old.columns.entries new.columns.entries owner None)
     (pool : new.pool ≡ record old.pool { cols = map.remove old.pool.cols col }) (places : new.places.table.entries ≡ old.places.table.entries) (held : new.held ≡ old.held) (rings : AreRings new.pool) where
@@ -120,6 +120,10 @@ module _ (old new : Links) (linked : IsLinked old) (owner : OwnerNo) (col : Col)
 pub rows_less : (links : Links) (r : Resource) (keys : List Resource) → EmptyRows links (r ∷ keys) → ((s : Row) → map.get links.pool.rows s ≡ Some [] → row_at links r ≡ Some s → ⊥) → EmptyRows links keys
 rows_less links r keys were none =
     empty_less same_resource resource-true resource-self (λ row. map.get links.pool.rows row ≡ Some []) (λ row. map.get links.pool.rows row ≡ Some []) (row_at links) (row_at links) r (λ q ne. refl) keys were (λ s e. (e, none s e))
+
+-- so a resource without an empty row drops none
+pub drops_none : (links : Links) → IsLinked links → (r : Resource) → ((s : Row) → map.get links.pool.rows s ≡ Some [] → row_at links r ≡ Some s → ⊥) → DropsRow links links r
+drops_none links linked r none = record { linked = linked; rows = λ keys were. rows_less links r keys were none; cols = λ keys were. were }
 
 pub cols_less : (links : Links) (owner : OwnerNo) (keys : List OwnerNo) → EmptyCols links (owner ∷ keys) → ((s : Col) → map.get links.pool.cols s ≡ Some [] → col_at links owner ≡ Some s → ⊥) → EmptyCols links keys
 cols_less links owner keys were none =

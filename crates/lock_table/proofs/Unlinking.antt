@@ -16,9 +16,10 @@ use Rattle.link_pool.specs.declared.names.Seat.{Seat}
 use Rattle.link_pool.proofs.RingChanges.{TakesFirst, bare, row_stays-unlinked, col_stays-unlinked, seat-unlinked, seat-unlinked_other, row_length-unlinked}
 use Rattle.lock_table.specs.declared.links.Lock.{Lock}
 use Rattle.lock_table.specs.declared.places.Place.{Place}
+use Rattle.lock_table.specs.declared.places.Found.{Found}
 use Rattle.lock_table.specs.declared.links.Links.{Links}
-use Rattle.lock_table.specs.inner.Tables.{entry_at}
-use Rattle.lock_table.specs.inner.Links.{IsLinked, Recounts, Unlinks, same_owner, resource_in, owner_in, place_at, row_at, col_at}
+use Rattle.lock_table.specs.inner.Tables.{entry_at, key_at}
+use Rattle.lock_table.specs.inner.Links.{IsLinked, IsFound, Recounts, Unlinks, same_owner, resource_in, owner_in, place_at, row_at, col_at}
 use Rattle.lock_table.proofs.Sames.{resource-true, resource-self, owner-true, owner-self, cases, differ}
 use Rattle.lock_table.proofs.Keyed.{one_value, no_value, empty_more}
 use Rattle.lock_table.proofs.Kept.{row_came, col_came}
@@ -148,12 +149,12 @@ module _ (old new : Links) (linked : IsLinked old) (node : Node) (seat : Seat Lo
     held = held ∙ ap (λ n. n - 1) linked.held ∙ sym (ap (λ p. map.len p.nodes) pool ∙ map.len-remove node_cmp_total old.pool.nodes node ∙ ap (λ o. cond (is_some o) (map.len old.pool.nodes - 1) (map.len old.pool.nodes)) at);
   }
 
-  pub unlink_unlinks : (col : Col) (left : Place) → seat.col ≡ col → place_at new seat.item.resource ≡ Some left → Unlinks old new col seat.item left
+  pub unlink_unlinks : (col : Col) (left : Found) → seat.col ≡ col → IsFound new seat.item.resource left → Unlinks old new col seat.item left
   unlink_unlinks col left own now = record {
     own = seat_col old linked node seat at ∙ ap (λ c. Some c) own;
     had = node_held old.pool node seat.item item_here;
     held = held_less old.pool new.pool seat.item was rest;
-    place = now;
+    found = now;
     columns = columns;
     rows = λ keys were.
         empty_more same_resource resource-true resource-self (λ q. map.get old.pool.rows q ≡ Some []) (λ q. map.get new.pool.rows q ≡ Some []) (row_at old) (row_at new) r (λ q ne. row_same q) keys were (λ q s e. row_same q ∙ e) rows_now;
@@ -191,7 +192,7 @@ module _ (old mid : Links) (linked : IsLinked old) (col : Col) (row : Row) (lock
   pub took_place : IsSome (place_at mid lock.resource)
   took_place = some_is (place_at mid lock.resource) taken_from.place (mid_place lock.resource ∙ ap (λ (l : Lock). place_at old l.resource) (sym lock_is) ∙ taken_from.at)
 
-  module _ (counted new : Links) (left : Place) (counts : Recounts mid counted lock.resource (λ n. n - 1)) (now : place_at counted lock.resource ≡ Some left) where
+  module _ (counted new : Links) (left : Found) (counts : Recounts mid counted lock.resource (λ n. n - 1)) (now : IsFound counted lock.resource left) where
     pub took_some : 1 ≤ counted.held
     took_some = omega (arith, counts.held, mid_held, linked.held, some_nodes old.pool took.node took.seat took.at)
 
@@ -213,10 +214,14 @@ module _ (old mid : Links) (linked : IsLinked old) (col : Col) (row : Row) (lock
       took_unlinks =
           subst (λ (l : Lock). Unlinks old new col l left) lock_is
           (unlink_unlinks old new linked took.node took.seat took.at (pool ∙ counts.pool ∙ took.left) (columns ∙ counts.columns ∙ mid_columns) here others (held ∙ ap (λ n. n - 1) (counts.held ∙ mid_held)) (subst AreRings (sym (pool ∙ counts.pool)) rings) col left
-          took.own (new_place took.seat.item.resource ∙ ap (λ (l : Lock). place_at counted l.resource) lock_is ∙ now))
+          took.own
+          (record {
+            at = ap (key_at left.at) places ∙ now.at ∙ ap (λ (l : Lock). Some l.resource) (sym lock_is);
+            place = new_place took.seat.item.resource ∙ ap (λ (l : Lock). place_at counted l.resource) lock_is ∙ now.place;
+          }))
 
 -- an empty column stays as it was
-pub took_nothing : (old : Links) (pool : Meaning Lock) (col : Col) (o : Option (Lock × Place)) → o ≡ None → IsSome (map.get old.pool.cols col) → (list_in old.pool.cols col ≡ []) × (pool ≡ old.pool)
+pub took_nothing : (old : Links) (pool : Meaning Lock) (col : Col) (o : Option (Lock × Found)) → o ≡ None → IsSome (map.get old.pool.cols col) → (list_in old.pool.cols col ≡ []) × (pool ≡ old.pool)
     → MatchOption o ((record old { pool = pool } ≡ old) × (map.get pool.cols col ≡ Some [])) (λ r. Unlinks old (record old { pool = pool }) col r.0 r.1)
 took_nothing old pool col None e there n = (ap (λ p. record old { pool = p }) n.1, ap (λ p. map.get p.cols col) n.1 ∙ bare old.pool.cols col there n.0)
 took_nothing old pool col (Some r) e there n = no_value r (sym e)

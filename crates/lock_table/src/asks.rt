@@ -5,29 +5,29 @@ ghost use Rattle.std.specs.FinSet as set;
 ghost use Rattle.pss_machine.specs.declared.lock.Resource.{Resource};
 ghost use Rattle.lock_table.specs.Locks.{held_by, blocker};
 ghost use Rattle.lock_table.specs.inner.Nodes.{held_in};
-ghost use Rattle.lock_table.specs.inner.Links.{IsLinked, IsAlone, place_at};
+ghost use Rattle.lock_table.specs.inner.Links.{IsLinked, IsLookedUp, IsAlone, place_at};
 
 use crate::links::Links;
-use crate::places::{self, Place};
+use crate::places::{self, Found, Place};
 use crate::walks::{is_in_row, least_against, lesser};
 use pss_base::OwnerNo;
 use pss_machine::{Mode, Need, Resource};
 
 /// Where the locks on a resource stand, if it has a row.
-pub fn place_of(links: &Links, resource: &Resource) -> Option<Place>
-    ensures { result ≡ place_at links.now resource.now }
+pub fn look_up(links: &Links, resource: &Resource) -> Option<Found>
+    ensures { IsLookedUp links.now resource.now result }
 {
     places::find(&links.places, resource)
 }
 
-/// Whether an owner has locked what it needs, where this is the place of its resource.
-pub fn is_held(links: &Links, owner: OwnerNo, need: &Need, place: Option<Place>) -> bool
+/// Whether an owner has locked what it needs, where this was found of its resource.
+pub fn is_held(links: &Links, owner: OwnerNo, need: &Need, found: Option<Found>) -> bool
     requires linked { IsLinked links.now }
-    requires place { place ≡ place_at links.now need.now.resource }
+    requires found { IsLookedUp links.now need.now.resource found }
     ensures { result ≡ set.contains (held_by (held_in links.now.pool) owner) need.now }
 {
-    match place {
-        Some(place) => is_held_at(links, place, owner, need.mode),
+    match found {
+        Some(found) => is_held_at(links, found.place, owner, need.mode),
         None => false,
     }
 }
@@ -46,8 +46,8 @@ fn blocker_of_one(links: &Links, owner: OwnerNo, need: &Need) -> Option<OwnerNo>
     requires { IsLinked links.now }
     ensures { result ≡ blocker (held_in links.now.pool) owner (need.now ∷ []) }
 {
-    match place_of(links, &need.resource) {
-        Some(place) => least_against(&links.pool, place.row, owner, need.mode),
+    match look_up(links, &need.resource) {
+        Some(found) => least_against(&links.pool, found.place.row, owner, need.mode),
         None => None,
     }
 }

@@ -7,19 +7,35 @@ ghost use Rattle.std.specs.FinSet as set;
 ghost use Rattle.lock_table.specs.Locks.{held_by, granted};
 ghost use Rattle.lock_table.specs.Standing.{lock_of, need_of};
 ghost use Rattle.lock_table.specs.inner.Nodes.{held_in, with_lock, with_all, missing};
-ghost use Rattle.lock_table.specs.inner.Links.{IsLinked, IsReady, IsWhole, HaveRings, Grows, SameNodes, IsFound, IsFirst, Recounts, LinksOne, EmptyRows, EmptyCols, resources, owners, place_at, col_at};
+ghost use Rattle.lock_table.specs.inner.Links.{IsLinked, IsReady, IsWhole, HaveRings, Grows, SameNodes, IsFound, IsLookedUp, IsFirst, IsCrossing, IsMissing, Recounts, LinksOne, EmptyRows, EmptyCols, resources, owners, place_at, col_at};
 
-use crate::asks::{is_held, is_held_at, place_of};
+use crate::asks::{is_held, is_held_at, look_up};
 use crate::copies::{copy, lock_for};
 use crate::links::{Links, Lock};
-use crate::places::{self, Found, Place, find_at};
+use crate::places::{self, Found, Place};
 use crate::rings::{drop_empty_column, drop_empty_place};
 use crate::tables;
 use link_pool::Col;
 use pss_base::{NoMemory, OwnerNo};
 use pss_machine::{Need, Resource};
-use std::alloc::Global;
 use std::slice;
+
+/// Something that an owner needs and has not locked yet.
+#[derive(Clone, Copy, Drop)]
+struct Missing<'a> {
+    need: &'a Need,
+    /// The needs behind it.
+    behind: &'a [Need],
+    /// What was found of its resource, which is not looked for again.
+    found: Option<Found>,
+}
+
+/// Where a lock is linked: a row, whose resource was found, and a column.
+#[derive(Clone, Copy, Drop)]
+struct Crossing {
+    found: Found,
+    col: Col,
+}
 
 // Puts a copy last.
 fn push_lock(locks: &mut Vec<Lock>, owner: OwnerNo, need: &Need) -> Result<(), NoMemory>
@@ -29,68 +45,68 @@ fn push_lock(locks: &mut Vec<Lock>, owner: OwnerNo, need: &Need) -> Result<(), N
     Ok(())
 }
 
-// The first need for which an owner has no lock yet, those behind it, and the place of its resource, which is not looked for again.
-fn first_missing<'a>(
-    links: &Links,
-    owner: OwnerNo,
-    needs: &'a [Need],
-) -> Option<(&'a Need, &'a [Need], Option<Place>)>
+// The first need for which an owner has no lock yet.
+fn first_missing<'a>(links: &Links, owner: OwnerNo, needs: &'a [Need]) -> Option<Missing<'a>>
     requires { IsLinked links.now }
-    ensures some { IfSome result (λ found. missing (held_in links.now.pool) owner needs.now ≡ found.0.now ∷ missing (held_in links.now.pool) owner found.1.now) }
-    ensures place { IfSome result (λ found. found.2 ≡ place_at links.now found.0.now.resource) }
+    ensures some { IfSome result (λ first. missing (held_in links.now.pool) owner needs.now ≡ first.need.now ∷ missing (held_in links.now.pool) owner first.behind.now) }
+    ensures missing { IfSome result (λ first. IsMissing links.now owner first.need.now first.found) }
     ensures none { IfNone result (missing (held_in links.now.pool) owner needs.now ≡ []) }
 {
     let mut left = needs;
-    while let Some((need, rest)) = left.split_first() {
-        let place = place_of(links, &need.resource);
-        if !is_held(links, owner, need, place) {
-            return Some((need, rest, place));
+    while let Some((need, behind)) = left.split_first() {
+        let found = look_up(links, &need.resource);
+        if !is_held(links, owner, need, found) {
+            return Some(Missing {
+                need,
+                behind,
+                found,
+            });
         }
-        left = rest;
+        left = behind;
     }
     None
 }
 
-// The locks for two needs, known to be missing, and for those of the rest that are, as often as they are needed.
+// The locks for two needs, known to be missing, and for those behind the second that are, as often as they are needed.
 fn missing_locks(
-    alloc: Global,
     links: &Links,
     owner: OwnerNo,
-    first: &Need,
-    second: &Need,
-    rest: &[Need],
+    first: &Missing<'_>,
+    second: &Missing<'_>,
 ) -> Result<Vec<Lock>, NoMemory>
     requires { IsLinked links.now }
-    ensures { IfOk result (λ locks. locks.items ≡ map (lock_of owner) (first.now ∷ second.now ∷ missing (held_in links.now.pool) owner rest.now)) }
+    ensures { IfOk result (λ locks. locks.items ≡ map (lock_of owner) (first.now.need.now ∷ second.now.need.now ∷ missing (held_in links.now.pool) owner second.now.behind.now)) }
 {
-    let mut locks = Vec::with_capacity(alloc, 2)?;
-    push_lock(&mut locks, owner, first)?;
-    push_lock(&mut locks, owner, second)?;
-    for need in rest {
-        if !is_held(links, owner, need, place_of(links, &need.resource)) {
+    let mut locks = Vec::with_capacity(links.alloc, 2)?;
+    push_lock(&mut locks, owner, first.need)?;
+    push_lock(&mut locks, owner, second.need)?;
+    for need in second.behind {
+        if !is_held(links, owner, need, look_up(links, &need.resource)) {
             push_lock(&mut locks, owner, need)?;
         }
     }
     Ok(locks)
 }
 
-// Adds an empty row for a resource that has none.
-fn add_place(links: &mut Links, resource: Resource) -> Result<(), NoMemory>
+// Adds an empty row for a resource that has none, and answers where it stands.
+fn add_place(links: &mut Links, resource: Resource) -> Result<Found, NoMemory>
     requires { place_at links.old resource ≡ None }
     ensures grows { Grows links.old links.new }
     ensures ready { (locks : List Lock) → Contains (resources locks) resource → IsReady links.old locks → IsReady links.new locks }
-    ensures ok { OnOk result (IsSome (place_at links.new resource)) }
+    ensures ok { IfOk result (λ found. IsFound links.new resource found) }
 {
     places::reserve(&mut links.places)?;
     let row = links.pool.add_row()?;
-    places::put(&mut links.places, resource, Place { row, locks: 0 });
-    Ok(())
+    let place = Place { row, locks: 0 };
+    let at = places::put(&mut links.places, resource, place);
+    Ok(Found { at, place })
 }
 
 // Adds an empty column for an owner that has none.
 fn add_column(links: &mut Links, owner: OwnerNo) -> Result<Col, NoMemory>
     requires { col_at links.old owner ≡ None }
     ensures grows { Grows links.old links.new }
+    ensures places { links.new.places.table.entries ≡ links.old.places.table.entries }
     ensures ready { (locks : List Lock) → Contains (owners locks) owner → IsReady links.old locks → IsReady links.new locks }
     ensures ok { IfOk result (λ col. col_at links.new owner ≡ Some col) }
 {
@@ -100,29 +116,19 @@ fn add_column(links: &mut Links, owner: OwnerNo) -> Result<Col, NoMemory>
     Ok(col)
 }
 
-// Sees to it that a resource has a row.
-fn make_place(links: &mut Links, resource: &Resource) -> Result<(), NoMemory>
-    ensures grows { Grows links.old links.new }
-    ensures ready { (locks : List Lock) → Contains (resources locks) resource.now → IsReady links.old locks → IsReady links.new locks }
-    ensures ok { OnOk result (IsSome (place_at links.new resource.now)) }
-{
-    let place = place_of(links, resource);
-    make_place_where(links, resource, place)
-}
-
-// Sees to it that a resource has a row, where this is its place.
-fn make_place_where(
+// Sees to it that a resource has a row, where this was found of it, and answers where it stands.
+fn make_place(
     links: &mut Links,
     resource: &Resource,
-    place: Option<Place>,
-) -> Result<(), NoMemory>
-    requires { place ≡ place_at links.old resource.now }
+    found: Option<Found>,
+) -> Result<Found, NoMemory>
+    requires { IsLookedUp links.old resource.now found }
     ensures grows { Grows links.old links.new }
     ensures ready { (locks : List Lock) → Contains (resources locks) resource.now → IsReady links.old locks → IsReady links.new locks }
-    ensures ok { OnOk result (IsSome (place_at links.new resource.now)) }
+    ensures ok { IfOk result (λ found. IsFound links.new resource.now found) }
 {
-    match place {
-        Some(_) => Ok(()),
+    match found {
+        Some(found) => Ok(found),
         None => add_place(links, copy(resource)?),
     }
 }
@@ -130,6 +136,7 @@ fn make_place_where(
 // Sees to it that an owner has a column.
 fn make_column(links: &mut Links, owner: OwnerNo) -> Result<Col, NoMemory>
     ensures grows { Grows links.old links.new }
+    ensures places { links.new.places.table.entries ≡ links.old.places.table.entries }
     ensures ready { (locks : List Lock) → Contains (owners locks) owner → IsReady links.old locks → IsReady links.new locks }
     ensures ok { IfOk result (λ col. col_at links.new owner ≡ Some col) }
 {
@@ -139,60 +146,59 @@ fn make_column(links: &mut Links, owner: OwnerNo) -> Result<Col, NoMemory>
     }
 }
 
-// Sees to it that each lock has its row, where this is the place of the first one's resource.
-fn make_places(links: &mut Links, locks: &[Lock], place: Option<Place>) -> Result<(), NoMemory>
+// Sees to it that each lock has its row, where this was found of the first one's resource.
+fn make_places(links: &mut Links, locks: &[Lock], found: Option<Found>) -> Result<(), NoMemory>
     requires ready { IsReady links.old locks.now }
     requires some { 0 < length locks.now }
-    requires place { IsFirst links.old locks.now place }
+    requires found { IsFirst links.old locks.now found }
     ensures grows { Grows links.old links.new }
     ensures ready { IsReady links.new locks.now }
     ensures ok { OnOk result ((lock : Lock) → Contains locks.now lock → IsSome (place_at links.new lock.resource)) }
 {
-    make_place_where(links, &locks[0].resource, place)?;
+    make_place(links, &locks[0].resource, found)?;
     for at in 1..locks.len() {
-        make_place(links, &locks[at].resource)?;
+        let resource = &locks[at].resource;
+        let found = look_up(links, resource);
+        make_place(links, resource, found)?;
     }
     Ok(())
 }
 
-// Makes rings and room for locks of an owner, where this is the place of the first one's resource, and answers the owner's column.
+// Makes rings and room for locks of an owner, where this was found of the first one's resource, and answers the owner's column.
 // Also without memory there may be empty rings.
 fn make_rings(
     links: &mut Links,
     owner: OwnerNo,
     locks: &[Lock],
-    place: Option<Place>,
+    found: Option<Found>,
 ) -> Result<Col, NoMemory>
     requires ready { IsReady links.old locks.now }
     requires own { (lock : Lock) → Contains locks.now lock → lock.owner ≡ owner }
     requires some { 0 < length locks.now }
-    requires place { IsFirst links.old locks.now place }
+    requires found { IsFirst links.old locks.now found }
     ensures nodes { SameNodes links.old links.new }
     ensures ready { IsReady links.new locks.now }
     ensures rings { IfOk result (λ col. HaveRings links.new col locks.now) }
     ensures room { OnOk result (length locks.now ≤ links.new.pool.room) }
 {
-    make_places(links, locks, place)?;
+    make_places(links, locks, found)?;
     let col = make_column(links, owner)?;
     links.pool.reserve(locks.len())?;
     Ok(col)
 }
 
-// Makes rings and room for a lock, where this is the place of its resource, and answers its owner's column. Also without memory
-// there may be empty rings.
-fn make_ring(links: &mut Links, lock: &Lock, place: Option<Place>) -> Result<Col, NoMemory>
+// Makes rings and room for a lock, where this was found of its resource. Also without memory there may be empty rings.
+fn make_crossing(links: &mut Links, lock: &Lock, found: Option<Found>) -> Result<Crossing, NoMemory>
     requires whole { IsWhole links.old }
-    requires place { place ≡ place_at links.old lock.now.resource }
+    requires found { IsLookedUp links.old lock.now.resource found }
     ensures nodes { SameNodes links.old links.new }
     ensures ready { IsReady links.new (lock.now ∷ []) }
-    ensures place { OnOk result (IsSome (place_at links.new lock.now.resource)) }
-    ensures col { IfOk result (λ col. col_at links.new lock.now.owner ≡ Some col) }
-    ensures room { OnOk result (1 ≤ links.new.pool.room) }
+    ensures crossing { IfOk result (λ at. IsCrossing links.new lock.now at) }
 {
-    make_place_where(links, &lock.resource, place)?;
     let col = make_column(links, lock.owner)?;
+    let found = make_place(links, &lock.resource, found)?;
     links.pool.reserve(1)?;
-    Ok(col)
+    Ok(Crossing { found, col })
 }
 
 // Takes the empty rings away that were made for locks of an owner.
@@ -231,18 +237,16 @@ fn count_up(links: &mut Links, found: Found)
     places::write(&mut links.places, found.at, counted);
 }
 
-// Links a lock in its rings, whose resource was found.
-fn insert(links: &mut Links, col: Col, lock: Lock, found: Found)
+// Links a lock where its rings cross.
+fn insert(links: &mut Links, lock: Lock, at: Crossing)
     requires linked { IsLinked links.old }
-    requires found { IsFound links.old lock.resource found }
-    requires col { col_at links.old lock.owner ≡ Some col }
-    requires room { 0 < links.old.pool.room }
+    requires at { IsCrossing links.old lock at }
     requires new { set.contains (held_by (held_in links.old.pool) lock.owner) (need_of lock) ≡ false }
     ensures linked { IsLinked links.new }
     ensures links { LinksOne links.old links.new lock }
 {
-    count_up(links, found);
-    let _ = links.pool.insert_reserved(found.place.row, col, lock);
+    count_up(links, at.found);
+    let _ = links.pool.insert_reserved(at.found.place.row, at.col, lock);
     links.pool.rings_hold();
     links.held += 1;
 }
@@ -256,10 +260,10 @@ fn link(links: &mut Links, col: Col, lock: Lock)
     ensures linked { IsLinked links.new }
     ensures links { LinksOne links.old links.new lock }
 {
-    match find_at(&links.places, &lock.resource) {
+    match look_up(links, &lock.resource) {
         Some(found) => {
             if !is_held_at(links, found.place, lock.owner, lock.mode) {
-                insert(links, col, lock, found);
+                insert(links, lock, Crossing { found, col });
             }
         }
         None => unreachable!(),
@@ -280,36 +284,31 @@ fn link_all(links: &mut Links, col: Col, locks: Vec<Lock>)
     }
 }
 
-// Locks one thing that an owner needs, where this is the place of its resource.
+// Locks one thing that an owner needs and has not locked.
 //
 // `NoMemory`: the locks are as before.
-fn grant_one(
-    links: &mut Links,
-    owner: OwnerNo,
-    need: &Need,
-    place: Option<Place>,
-) -> Result<(), NoMemory>
+fn grant_one(links: &mut Links, owner: OwnerNo, only: &Missing<'_>) -> Result<(), NoMemory>
     requires whole { IsWhole links.old }
-    requires place { place ≡ place_at links.old need.now.resource }
+    requires missing { IsMissing links.old owner only.now.need.now only.now.found }
     ensures whole { IsWhole links.new }
-    ensures ok { OnOk result (held_in links.new.pool ≡ with_lock (lock_of owner need.now) (held_in links.old.pool)) }
+    ensures ok { OnOk result (held_in links.new.pool ≡ with_lock (lock_of owner only.now.need.now) (held_in links.old.pool)) }
     ensures err { OnErr result (held_in links.new.pool ≡ held_in links.old.pool) }
 {
-    let lock = lock_for(owner, need)?;
-    link_one(links, lock, place)
+    let lock = lock_for(owner, only.need)?;
+    link_one(links, lock, only.found)
 }
 
-// Makes rings for a lock, where this is the place of its resource, and links it there.
-fn link_one(links: &mut Links, lock: Lock, place: Option<Place>) -> Result<(), NoMemory>
+// Makes rings for a lock that its owner has not, where this was found of its resource, and links it there.
+fn link_one(links: &mut Links, lock: Lock, found: Option<Found>) -> Result<(), NoMemory>
     requires whole { IsWhole links.old }
-    requires place { place ≡ place_at links.old lock.resource }
+    requires missing { IsMissing links.old lock.owner (need_of lock) found }
     ensures whole { IsWhole links.new }
     ensures ok { OnOk result (held_in links.new.pool ≡ with_lock lock (held_in links.old.pool)) }
     ensures err { OnErr result (held_in links.new.pool ≡ held_in links.old.pool) }
 {
-    match make_ring(links, &lock, place) {
-        Ok(col) => {
-            link(links, col, lock);
+    match make_crossing(links, &lock, found) {
+        Ok(at) => {
+            insert(links, lock, at);
             Ok(())
         }
         Err(NoMemory) => {
@@ -319,27 +318,23 @@ fn link_one(links: &mut Links, lock: Lock, place: Option<Place>) -> Result<(), N
     }
 }
 
-// Locks two things that an owner needs, where this is the place of the first one's resource, and what it has not locked yet of the
-// rest: the two are not looked for again.
+// Locks two things that an owner needs and has not locked, and what it has not locked of those behind the second.
 //
 // `NoMemory`: the locks are as before.
 fn grant_all(
-    alloc: Global,
     links: &mut Links,
     owner: OwnerNo,
-    first: &Need,
-    second: &Need,
-    rest: &[Need],
-    place: Option<Place>,
+    first: &Missing<'_>,
+    second: &Missing<'_>,
 ) -> Result<(), NoMemory>
     requires whole { IsWhole links.old }
-    requires place { place ≡ place_at links.old first.now.resource }
+    requires first { IsMissing links.old owner first.now.need.now first.now.found }
     ensures whole { IsWhole links.new }
-    ensures ok { OnOk result (held_in links.new.pool ≡ with_all (map (lock_of owner) (first.now ∷ second.now ∷ missing (held_in links.old.pool) owner rest.now)) (held_in links.old.pool)) }
+    ensures ok { OnOk result (held_in links.new.pool ≡ with_all (map (lock_of owner) (first.now.need.now ∷ second.now.need.now ∷ missing (held_in links.old.pool) owner second.now.behind.now)) (held_in links.old.pool)) }
     ensures err { OnErr result (held_in links.new.pool ≡ held_in links.old.pool) }
 {
-    let locks = missing_locks(alloc, links, owner, first, second, rest)?;
-    match make_rings(links, owner, &locks, place) {
+    let locks = missing_locks(links, owner, first, second)?;
+    match make_rings(links, owner, &locks, first.found) {
         Ok(col) => {
             link_all(links, col, locks);
             Ok(())
@@ -354,21 +349,16 @@ fn grant_all(
 /// Locks what an owner needs and has not locked yet: nothing or one thing nearly always, which takes no list.
 ///
 /// `NoMemory`: the locks are as before.
-pub fn grant(
-    alloc: Global,
-    links: &mut Links,
-    owner: OwnerNo,
-    needs: &[Need],
-) -> Result<(), NoMemory>
+pub fn grant(links: &mut Links, owner: OwnerNo, needs: &[Need]) -> Result<(), NoMemory>
     requires { IsWhole links.old }
     ensures whole { IsWhole links.new }
     ensures ok { OnOk result (held_in links.new.pool ≡ granted (held_in links.old.pool) owner needs.now) }
     ensures err { OnErr result (held_in links.new.pool ≡ held_in links.old.pool) }
 {
     match first_missing(links, owner, needs) {
-        Some((first, behind, place)) => match first_missing(links, owner, behind) {
-            Some((second, rest, _)) => grant_all(alloc, links, owner, first, second, rest, place),
-            None => grant_one(links, owner, first, place),
+        Some(first) => match first_missing(links, owner, first.behind) {
+            Some(second) => grant_all(links, owner, &first, &second),
+            None => grant_one(links, owner, &first),
         },
         None => Ok(()),
     }

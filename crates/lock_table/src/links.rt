@@ -5,6 +5,7 @@ use crate::tables::NumberTable;
 use link_pool::{Col, Pool};
 use pss_base::OwnerNo;
 use pss_machine::{Mode, Resource};
+use std::alloc::Global;
 
 /// An owner has locked a resource in a mode.
 #[derive(Drop)]
@@ -17,6 +18,7 @@ pub struct Lock {
 /// The locks, each in the row of its resource and in the column of its owner.
 #[derive(Drop)]
 pub struct Links {
+    pub alloc: Global,
     pub pool: Pool<Lock>,
     pub places: Places,
     pub columns: NumberTable<OwnerNo, Col>,

@@ -26,7 +26,6 @@ use std::sync::ledger::Ledger;
 /// columns are found by hash, and there are none without a lock.
 #[derive(Drop)]
 pub struct LockTable {
-    alloc: Global,
     links: Links,
 }
 
@@ -51,6 +50,7 @@ fn no_links(alloc: Global) -> Links
     ensures whole { IsWhole result }
 {
     Links {
+        alloc,
         pool: Pool::new(alloc),
         places: places::none(alloc),
         columns: tables::empty(alloc),
@@ -64,7 +64,6 @@ impl LockTable {
         ensures { result ≡ map.empty }
     {
         LockTable {
-            alloc,
             links: no_links(alloc),
         }
     }
@@ -87,7 +86,7 @@ impl LockTable {
         ensures ok { OnOk result (self.new ≡ granted self.old owner needs.now) }
         ensures err { OnErr result (self.new ≡ self.old) }
     {
-        grant(self.alloc, &mut self.links, owner, needs.as_slice())?;
+        grant(&mut self.links, owner, needs.as_slice())?;
         Ok(())
     }
 

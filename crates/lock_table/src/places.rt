@@ -1,10 +1,10 @@
 // Where the locks on each resource stand.
-ghost use Rattle.std.specs.Prelude.{◌≡◌, ◌<◌, [], Some, None, true, IfNone, IfSome, OnOk, OnErr};
-ghost use Rattle.std.specs.Option.{option_map};
+ghost use Rattle.std.specs.Prelude.{ℕ, ◌≡◌, ◌<◌, [], Some, None, IfNone, IfSome, OnOk, OnErr};
 ghost use Rattle.indexmap.specs.IndexMap.{spare};
 ghost use Rattle.pss_machine.specs.Needs.{same_resource};
 ghost use Rattle.pss_machine.specs.declared.lock.Resource.{Resource};
 ghost use Rattle.lock_table.specs.inner.Tables.{Turns, entry_at, key_at};
+ghost use Rattle.lock_table.specs.inner.Links.{IsAt};
 
 use crate::tables::{self, Table};
 use link_pool::Row;
@@ -49,25 +49,18 @@ pub fn none(alloc: Global) -> Places
     }
 }
 
-/// The place of a resource, where it has one.
-pub fn find(places: &Places, resource: &Resource) -> Option<Place>
-    ensures { result ≡ entry_at same_resource places.now.table.entries resource.now }
-{
-    match find_at(places, resource) {
-        Some(found) => Some(found.place),
-        None => None,
-    }
-}
-
 /// The place of a resource and where it stands, where it has one. What is written there needs no look-up more.
-pub fn find_at(places: &Places, resource: &Resource) -> Option<Found>
-    ensures place { option_map (λ found. found.place) result ≡ entry_at same_resource places.now.table.entries resource.now }
-    ensures at { IfSome result (λ found. key_at found.at places.now.table.entries ≡ Some resource.now) }
+pub fn find(places: &Places, resource: &Resource) -> Option<Found>
+    ensures some { IfSome result (IsAt places.now.table.entries resource.now) }
+    ensures none { IfNone result (entry_at same_resource places.now.table.entries resource.now ≡ None) }
 {
-    let at = index_of(places, resource)?;
-    match places.table.get_index(at) {
-        Some((_, place)) => Some(Found { at, place: *place }),
-        None => None,
+    let last = last_of(&places.last, &places.extent, resource);
+    match near(&places.table, last.get(), resource) {
+        Some(found) => {
+            last.set(found.at);
+            Some(found)
+        }
+        None => look_up(&places.table, last, resource),
     }
 }
 
@@ -79,34 +72,37 @@ pub fn reserve(places: &mut Places) -> Result<(), NoMemory>
     tables::reserve(&mut places.table)
 }
 
-/// Sets the place of a resource, for which there is room. It takes no memory.
-pub fn put(places: &mut Places, resource: Resource, place: Place)
+/// Sets the place of a resource, for which there is room, and answers where it stands. It takes no memory.
+pub fn put(places: &mut Places, resource: Resource, place: Place) -> usize
     requires { 0 < spare places.old.table }
-    ensures { Turns same_resource places.old.table.entries places.new.table.entries resource (Some place) }
+    ensures turns { Turns same_resource places.old.table.entries places.new.table.entries resource (Some place) }
+    ensures at { key_at result places.new.table.entries ≡ Some resource }
 {
     let last = last_of(&places.last, &places.extent, &resource);
     match places.table.insert_full(resource, place) {
-        Ok((at, _)) => last.set(at),
+        Ok((at, _)) => {
+            last.set(at);
+            at
+        }
         Err(_) => unreachable!(),
     }
 }
 
-/// Sets the place of the resource that stands there.
+/// Sets the place of the resource that stands there. Each resource stands where it stood.
 pub fn write(places: &mut Places, at: usize, place: Place)
-    ensures { (resource : Resource) → key_at at places.old.table.entries ≡ Some resource → Turns same_resource places.old.table.entries places.new.table.entries resource (Some place) }
+    ensures turns { (resource : Resource) → key_at at places.old.table.entries ≡ Some resource → Turns same_resource places.old.table.entries places.new.table.entries resource (Some place) }
+    ensures stand { (n : ℕ) → key_at n places.new.table.entries ≡ key_at n places.old.table.entries }
 {
     if let Some(there) = places.table.get_index_mut(at) {
         *there = place;
     }
 }
 
-/// Takes the place of a resource away, where it has one.
-pub fn remove(places: &mut Places, resource: &Resource)
-    ensures { Turns same_resource places.old.table.entries places.new.table.entries resource.now None }
+/// Takes the place of the resource that stands there away.
+pub fn remove(places: &mut Places, at: usize)
+    ensures { (resource : Resource) → key_at at places.old.table.entries ≡ Some resource → Turns same_resource places.old.table.entries places.new.table.entries resource None }
 {
-    if let Some(at) = index_of(places, resource) {
-        let _ = places.table.swap_remove_index(at);
-    }
+    let _ = places.table.swap_remove_index(at);
 }
 
 // Where the last resource of this kind was found.
@@ -121,58 +117,38 @@ fn last_of<'a>(
     }
 }
 
-// Where in the table a resource stands, where it has a place.
-fn index_of(places: &Places, resource: &Resource) -> Option<usize>
-    ensures at { IfSome result (λ at. key_at at places.now.table.entries ≡ Some resource.now) }
-    ensures none { IfNone result (entry_at same_resource places.now.table.entries resource.now ≡ None) }
+// What stands where the last one was found, or beside it, where that is the resource. It is not hashed.
+fn near(table: &Table<Resource, Place>, last: usize, resource: &Resource) -> Option<Found>
+    ensures { IfSome result (IsAt table.now.entries resource.now) }
 {
-    let last = last_of(&places.last, &places.extent, resource);
-    match near(&places.table, last.get(), resource) {
-        Some(at) => {
-            last.set(at);
-            Some(at)
-        }
-        None => look_up(&places.table, last, resource),
+    if let Some(found) = found_at(table, last, resource) {
+        return Some(found);
     }
+    if let Some(found) = found_at(table, last.wrapping_sub(1), resource) {
+        return Some(found);
+    }
+    found_at(table, last.wrapping_add(1), resource)
 }
 
-// Where a resource stands, where that is where the last one was found, or beside it. It is not hashed.
-fn near(table: &Table<Resource, Place>, last: usize, resource: &Resource) -> Option<usize>
-    ensures { IfSome result (λ at. key_at at table.now.entries ≡ Some resource.now) }
-{
-    if stands_at(table, last, resource) {
-        return Some(last);
-    }
-    let before = last.wrapping_sub(1);
-    if stands_at(table, before, resource) {
-        return Some(before);
-    }
-    let behind = last.wrapping_add(1);
-    if stands_at(table, behind, resource) {
-        return Some(behind);
-    }
-    None
-}
-
-// Whether a resource stands there.
-fn stands_at(table: &Table<Resource, Place>, at: usize, resource: &Resource) -> bool
-    ensures { result ≡ true → key_at at table.now.entries ≡ Some resource.now }
+// What stands there, where that is the resource.
+fn found_at(table: &Table<Resource, Place>, at: usize, resource: &Resource) -> Option<Found>
+    ensures { IfSome result (IsAt table.now.entries resource.now) }
 {
     match table.get_index(at) {
-        Some((there, _)) => there == resource,
-        None => false,
+        Some((there, place)) if *there == *resource => Some(Found { at, place: *place }),
+        _ => None,
     }
 }
 
-// Where a resource stands by its hash. The next one is looked for near it.
-fn look_up(table: &Table<Resource, Place>, last: &Cell<usize>, resource: &Resource) -> Option<usize>
-    ensures at { IfSome result (λ at. key_at at table.now.entries ≡ Some resource.now) }
+// The place of a resource by its hash. The next one is looked for near it.
+fn look_up(table: &Table<Resource, Place>, last: &Cell<usize>, resource: &Resource) -> Option<Found>
+    ensures some { IfSome result (IsAt table.now.entries resource.now) }
     ensures none { IfNone result (entry_at same_resource table.now.entries resource.now ≡ None) }
 {
     match table.get_full(resource) {
-        Some((at, _, _)) => {
+        Some((at, _, place)) => {
             last.set(at);
-            Some(at)
+            Some(Found { at, place: *place })
         }
         None => None,
     }

@@ -4,10 +4,10 @@ ghost use Rattle.std.specs.FinMap as map;
 ghost use Rattle.std.specs.FinSet as set;
 ghost use Rattle.lock_table.specs.Locks.{held_by, released};
 ghost use Rattle.lock_table.specs.inner.Nodes.{held_in};
-ghost use Rattle.lock_table.specs.inner.Links.{IsLinked, IsWhole, IsReleasing, SameNodes, Recounts, Unlinks, place_at, col_at};
+ghost use Rattle.lock_table.specs.inner.Links.{IsLinked, IsWhole, IsReleasing, IsFound, SameNodes, Recounts, Unlinks, place_at, col_at};
 
 use crate::links::{Links, Lock};
-use crate::places::{self, Place};
+use crate::places::{self, Found, Place};
 use crate::rings::{drop_empty_row, remove_column};
 use crate::tables;
 use link_pool::Col;
@@ -16,19 +16,22 @@ use pss_machine::Resource;
 use std::sync::ledger::Ledger;
 
 // Counts one lock fewer on a resource that has a row, and answers what is left.
-fn count_down(links: &mut Links, resource: &Resource) -> Place
+fn count_down(links: &mut Links, resource: &Resource) -> Found
     requires { IsSome (place_at links.old resource.now) }
-    ensures place { place_at links.new resource.now ≡ Some result }
+    ensures found { IsFound links.new resource.now result }
     ensures recounts { Recounts links.old links.new resource.now (λ n. n - 1) }
 {
-    match places::find_at(&links.places, resource) {
+    match places::find(&links.places, resource) {
         Some(found) => {
             let left = Place {
                 row: found.place.row,
                 locks: found.place.locks.saturating_sub(1),
             };
             places::write(&mut links.places, found.at, left);
-            left
+            Found {
+                at: found.at,
+                place: left,
+            }
         }
         None => unreachable!(),
     }
@@ -40,7 +43,7 @@ fn unlink_first<L: Ledger>(
     links: &mut Links,
     col: Col,
     steps: &mut Steps<L>,
-) -> Option<(Lock, Place)>
+) -> Option<(Lock, Found)>
     requires linked { IsLinked links.old }
     requires col { IsSome (map.get links.old.pool.cols col) }
     ensures linked { IsLinked links.new }
@@ -48,9 +51,9 @@ fn unlink_first<L: Ledger>(
     ensures steps { steps.new ≡ steps.old + 1 }
 {
     let (_, lock) = links.pool.take_first_of_col(col, steps)?;
-    let place = count_down(links, &lock.resource);
+    let left = count_down(links, &lock.resource);
     links.held -= 1;
-    Some((lock, place))
+    Some((lock, left))
 }
 
 // Takes the first lock of an owner out of its rings. False where there is none left. One step.
@@ -68,8 +71,9 @@ fn release_first<L: Ledger>(
     ensures steps { steps.new ≡ steps.old + 1 }
 {
     match unlink_first(links, col, steps) {
-        Some((lock, place)) => {
-            drop_empty_row(links, &lock.resource, place);
+        Some((lock, left)) => {
+            drop_empty_row(links, left);
+            drop(lock);
             true
         }
         None => false,

@@ -3,29 +3,25 @@ ghost use Rattle.std.specs.Prelude.{◌≡◌, ◌∷◌, [], List, Some};
 ghost use Rattle.std.specs.FinMap as map;
 ghost use Rattle.pss_machine.specs.declared.lock.Resource.{Resource};
 ghost use Rattle.pss_base.specs.declared.owner.OwnerNo.{OwnerNo};
-ghost use Rattle.lock_table.specs.inner.Links.{IsLinked, SameNodes, EmptyRows, EmptyCols, place_at, row_at, col_at};
+ghost use Rattle.lock_table.specs.inner.Links.{IsLinked, IsFound, IsThere, SameNodes, DropsRow, EmptyRows, EmptyCols, col_at};
 
-use crate::asks::place_of;
+use crate::asks::look_up;
 use crate::links::Links;
-use crate::places::{self, Place};
+use crate::places::{self, Found};
 use crate::tables;
-use link_pool::{Col, Row};
+use link_pool::Col;
 use pss_base::OwnerNo;
 use pss_machine::Resource;
 
-// Takes the row of a resource away, which is empty.
-fn remove_place(links: &mut Links, resource: &Resource, row: Row)
-    requires linked { IsLinked links.old }
-    requires row { row_at links.old resource.now ≡ Some row }
-    requires empty { map.get links.old.pool.rows row ≡ Some [] }
+// Takes the row of a resource away, which was found and is empty.
+fn remove_place(links: &mut Links, found: Found)
+    requires { map.get links.old.pool.rows found.place.row ≡ Some [] }
     ensures nodes { SameNodes links.old links.new }
     ensures columns { links.new.columns.entries ≡ links.old.columns.entries }
-    ensures linked { IsLinked links.new }
-    ensures rows { (keys : List Resource) → EmptyRows links.old (resource.now ∷ keys) → EmptyRows links.new keys }
-    ensures cols { (keys : List OwnerNo) → EmptyCols links.old keys → EmptyCols links.new keys }
+    ensures drops { (resource : Resource) → IsLinked links.old → IsFound links.old resource found → DropsRow links.old links.new resource }
 {
-    places::remove(&mut links.places, resource);
-    links.pool.remove_row(row);
+    places::remove(&mut links.places, found.at);
+    links.pool.remove_row(found.place.row);
 }
 
 /// Takes the column of an owner away, which is empty.
@@ -42,18 +38,16 @@ pub fn remove_column(links: &mut Links, owner: OwnerNo, col: Col)
     links.pool.remove_col(col);
 }
 
-/// Takes the row of a resource away if it is empty, which its place tells.
-pub fn drop_empty_row(links: &mut Links, resource: &Resource, place: Place)
+/// Takes the row of a resource that was found away if it is empty, which its place tells.
+pub fn drop_empty_row(links: &mut Links, found: Found)
     requires linked { IsLinked links.old }
-    requires place { place_at links.old resource.now ≡ Some place }
+    requires there { IsThere links.old found }
     ensures nodes { SameNodes links.old links.new }
     ensures columns { links.new.columns.entries ≡ links.old.columns.entries }
-    ensures linked { IsLinked links.new }
-    ensures rows { (keys : List Resource) → EmptyRows links.old (resource.now ∷ keys) → EmptyRows links.new keys }
-    ensures cols { (keys : List OwnerNo) → EmptyCols links.old keys → EmptyCols links.new keys }
+    ensures drops { (resource : Resource) → IsFound links.old resource found → DropsRow links.old links.new resource }
 {
-    if place.locks == 0 {
-        remove_place(links, resource, place.row);
+    if found.place.locks == 0 {
+        remove_place(links, found);
     }
 }
 
@@ -61,12 +55,10 @@ pub fn drop_empty_row(links: &mut Links, resource: &Resource, place: Place)
 pub fn drop_empty_place(links: &mut Links, resource: &Resource)
     requires { IsLinked links.old }
     ensures nodes { SameNodes links.old links.new }
-    ensures linked { IsLinked links.new }
-    ensures rows { (keys : List Resource) → EmptyRows links.old (resource.now ∷ keys) → EmptyRows links.new keys }
-    ensures cols { (keys : List OwnerNo) → EmptyCols links.old keys → EmptyCols links.new keys }
+    ensures drops { DropsRow links.old links.new resource.now }
 {
-    if let Some(place) = place_of(links, resource) {
-        drop_empty_row(links, resource, place);
+    if let Some(found) = look_up(links, resource) {
+        drop_empty_row(links, found);
     }
 }
 

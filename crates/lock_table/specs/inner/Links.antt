@@ -1,5 +1,5 @@
 -- Locks in rings, with the tables by which rings are found.
-use Rattle.std.specs.Prelude.{ℕ, ◌≡◌, ◌+◌, ◌≤◌, ◌==◌, List, [], ◌∷◌, true, false, map, length, get_or, Option, Some, IsSome, Contains, Bool}
+use Rattle.std.specs.Prelude.{ℕ, ◌≡◌, ◌+◌, ◌≤◌, ◌==◌, List, [], ◌∷◌, true, false, map, length, get_or, Option, Some, None, IsSome, IfSome, IfNone, Contains, Bool}
 use Rattle.std.specs.Option.{option_map}
 use Rattle.std.specs.FinMap as map
 use Rattle.pss_base.specs.declared.owner.OwnerNo.{OwnerNo}
@@ -13,6 +13,8 @@ use Rattle.link_pool.specs.declared.names.Node.{Node}
 use Rattle.lock_table.specs.declared.links.Lock.{Lock}
 use Rattle.lock_table.specs.declared.places.Place.{Place}
 use Rattle.lock_table.specs.declared.places.Found.{Found}
+use Rattle.lock_table.specs.declared.grants.Crossing.{Crossing}
+use Rattle.pss_machine.specs.declared.lock.Need.{Need}
 use Rattle.lock_table.specs.declared.links.Links.{Links}
 use Rattle.std.specs.FinSet as set
 use Rattle.lock_table.specs.Locks.{held_by}
@@ -58,14 +60,28 @@ col_at links owner = entry_at same_owner links.columns.entries owner
 abbrev pub IsAlone : Links → OwnerNo → Type 0
 IsAlone links owner = (n : OwnerNo) (col : Col) → col_at links n ≡ Some col → n ≡ owner
 
--- a resource was found there, with this place
-pub record IsFound (links : Links) (r : Resource) (found : Found) : Type 0 where
-  pub at : key_at found.at links.places.table.entries ≡ Some r
-  pub place : place_at links r ≡ Some found.place
+-- a resource stands there, with this place
+pub record IsAt (places : List (Resource × Place)) (r : Resource) (found : Found) : Type 0 where
+  pub at : key_at found.at places ≡ Some r
+  pub place : entry_at same_resource places r ≡ Some found.place
 
--- this is the place of the first lock's resource
-abbrev pub IsFirst : Links → List Lock → Option Place → Type 0
-IsFirst links locks place = (lock : Lock) → get_or locks 0 lock ≡ lock → place ≡ place_at links lock.resource
+-- a resource was found there
+abbrev pub IsFound : Links → Resource → Found → Type 0
+IsFound links r found = IsAt links.places.table.entries r found
+
+-- a resource was found there, whichever that is
+pub record IsThere (links : Links) (found : Found) : Type 0 where
+  pub resource : Resource
+  pub is : IsFound links resource found
+
+-- this was found of a resource
+pub record IsLookedUp (links : Links) (r : Resource) (found : Option Found) : Type 0 where
+  pub some : IfSome found (IsFound links r)
+  pub none : IfNone found (place_at links r ≡ None)
+
+-- this was found of the first lock's resource
+abbrev pub IsFirst : Links → List Lock → Option Found → Type 0
+IsFirst links locks found = (lock : Lock) → get_or locks 0 lock ≡ lock → IsLookedUp links lock.resource found
 
 -- what holds whenever a lock is linked or unlinked
 pub record IsLinked (links : Links) : Type 0 where
@@ -118,12 +134,18 @@ pub record Grows (old new : Links) : Type 0 where
 abbrev pub SameNodes : Links → Links → Type 0
 SameNodes old new = new.pool.nodes ≡ old.pool.nodes
 
+-- the row of a resource went if it was empty, and all others stay
+pub record DropsRow (old new : Links) (r : Resource) : Type 0 where
+  pub linked : IsLinked new
+  pub rows : (keys : List Resource) → EmptyRows old (r ∷ keys) → EmptyRows new keys
+  pub cols : (keys : List OwnerNo) → EmptyCols old keys → EmptyCols new keys
+
 -- a lock went out of its rings, and its row may be empty now
-pub record Unlinks (old new : Links) (col : Col) (lock : Lock) (left : Place) : Type 0 where
+pub record Unlinks (old new : Links) (col : Col) (lock : Lock) (left : Found) : Type 0 where
   pub own : col_at old lock.owner ≡ Some col
   pub had : set.contains (held_by (held_in old.pool) lock.owner) (need_of lock) ≡ true
   pub held : held_in new.pool ≡ without_lock lock (held_in old.pool)
-  pub place : place_at new lock.resource ≡ Some left
+  pub found : IsFound new lock.resource left
   pub columns : new.columns.entries ≡ old.columns.entries
   pub rows : (keys : List Resource) → EmptyRows old keys → EmptyRows new (lock.resource ∷ keys)
   pub cols : (keys : List OwnerNo) → EmptyCols old keys → EmptyCols new (lock.owner ∷ keys)
@@ -135,6 +157,17 @@ pub record Recounts (old new : Links) (r : Resource) (locks : ℕ → ℕ) : Typ
   pub pool : new.pool ≡ old.pool
   pub columns : new.columns.entries ≡ old.columns.entries
   pub held : new.held ≡ old.held
+
+-- an owner has not locked what it needs, and this was found of its resource
+pub record IsMissing (links : Links) (owner : OwnerNo) (need : Need) (found : Option Found) : Type 0 where
+  pub new : set.contains (held_by (held_in links.pool) owner) need ≡ false
+  pub looked : IsLookedUp links need.resource found
+
+-- the rings of a lock cross there, and there is room for it
+pub record IsCrossing (links : Links) (lock : Lock) (at : Crossing) : Type 0 where
+  pub found : IsFound links lock.resource at.found
+  pub col : col_at links lock.owner ≡ Some at.col
+  pub room : 1 ≤ links.pool.room
 
 -- a lock came into its rings, or stands there already
 pub record LinksOne (old new : Links) (lock : Lock) : Type 0 where

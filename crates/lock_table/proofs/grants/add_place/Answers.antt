@@ -13,9 +13,12 @@ returns-in_err-row-clause-ready c locks among ready = ready_same c.args.links.no
 pub returns-clause-grows : goal.returns-clause-grows
 returns-clause-grows c =
     place_grows c.args.links.now _ c.args.resource c.in_ok-row.row c.requires c.in_ok-row.ensures.new
-    (subst (λ es. Turns same_resource es c.put.new.places.table.entries c.args.resource (Some (record { row = c.in_ok-row.row; locks = 0 }))) c.in_ok-reserve.ensures.entries c.put.ensures) c.in_ok-row.ensures.ok refl refl c.in_ok-row.ensures.rings
+    (subst (λ es. Turns same_resource es c.put-at.new.places.table.entries c.args.resource (Some (record { row = c.in_ok-row.row; locks = 0 }))) c.in_ok-reserve.ensures.entries c.put-at.ensures.turns) c.in_ok-row.ensures.ok refl refl c.in_ok-row.ensures.rings
 
 pub returns-clause-ready : goal.returns-clause-ready
 returns-clause-ready c =
     place_added c.args.links.now _ c.args.resource c.in_ok-row.row c.requires c.in_ok-row.ensures.new
-    (subst (λ es. Turns same_resource es c.put.new.places.table.entries c.args.resource (Some (record { row = c.in_ok-row.row; locks = 0 }))) c.in_ok-reserve.ensures.entries c.put.ensures) c.in_ok-row.ensures.ok refl refl c.in_ok-row.ensures.rings
+    (subst (λ es. Turns same_resource es c.put-at.new.places.table.entries c.args.resource (Some (record { row = c.in_ok-row.row; locks = 0 }))) c.in_ok-reserve.ensures.entries c.put-at.ensures.turns) c.in_ok-row.ensures.ok refl refl c.in_ok-row.ensures.rings
+
+pub returns-clause-ok : goal.returns-clause-ok
+returns-clause-ok c = record { at = c.put-at.ensures.at; place = c.put-at.ensures.turns.here }

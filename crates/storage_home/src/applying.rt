@@ -92,7 +92,7 @@ impl Parts {
         lower(&mut self.counts, home);
         let stays = is_reserved(&self.rows, serial);
         release_in(&mut self.extents, home, serial, stays);
-        take(&mut self.rows, serial);
+        take(&mut self.rows, serial, stays);
         take_all(&mut self.keys, keys);
     }
 

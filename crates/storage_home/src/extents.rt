@@ -123,7 +123,9 @@ fn release(extent: &mut Extent, serial: u64, stays: bool)
     ensures entered { TurnsEntered extent.old.entries extent.new.entries serial stays }
 {
     write(extent, serial, stays, false);
-    end(extent, serial);
+    if !stays {
+        end(extent, serial);
+    }
 }
 
 // Says of a serial that was entered whether it still is, and whether its object is there.

@@ -75,15 +75,10 @@ pub fn reserve(alloc: Global, rows: &mut Rows, serial: u64) -> Result<(), NoMemo
     ensures ok { OnOk result (TurnsReserved rows.old.chunks.entries rows.new.chunks.entries serial true) }
     ensures err { OnErr result (KeepsReserved rows.old.chunks.entries rows.new.chunks.entries) }
 {
-    if has_row(rows, serial) {
-        mark(rows, serial);
-        return Ok(());
+    match place_of(rows, serial / WIDTH) {
+        Some(place) => reserve_at(rows, place, serial),
+        None => begin(alloc, rows, serial, reserved()),
     }
-    let row = Row {
-        object: None,
-        is_reserved: true,
-    };
-    add(alloc, rows, serial, row)
 }
 
 /// Puts an object in the place of a reservation.
@@ -99,17 +94,14 @@ pub fn put(rows: &mut Rows, serial: u64, object: Stored)
     write(rows, serial, row);
 }
 
-/// Takes the object with a serial away. A reserved serial keeps its row.
-pub fn take(rows: &mut Rows, serial: u64)
+/// Takes the object with a serial away. A serial that stays reserved keeps its row.
+pub fn take(rows: &mut Rows, serial: u64, stays: bool)
+    requires { stays ≡ is_reserved_at serial rows.old.chunks.entries }
     ensures objects { TurnsObject rows.old.chunks.entries rows.new.chunks.entries serial None }
     ensures reserved { KeepsReserved rows.old.chunks.entries rows.new.chunks.entries }
 {
-    if is_reserved(rows, serial) {
-        let row = Row {
-            object: None,
-            is_reserved: true,
-        };
-        write(rows, serial, row);
+    if stays {
+        write(rows, serial, reserved());
     } else if has_row(rows, serial) {
         remove(rows, serial);
     }
@@ -162,7 +154,7 @@ fn look_up(rows: &Rows, number: u64) -> Option<&Chunk>
     }
 }
 
-// The place of a chunk, where there is one.
+// The place of a chunk, where there is one. Where it is that of the one that was found last, or stands behind it, it is not hashed.
 fn place_of(rows: &Rows, number: u64) -> Option<usize>
     ensures at { IfSome result (λ place. number_at place rows.now.chunks.entries ≡ Some number) }
     ensures none { IfNone result (chunk_at number rows.now.chunks.entries ≡ None) }
@@ -171,7 +163,20 @@ fn place_of(rows: &Rows, number: u64) -> Option<usize>
     if stands_at(&rows.chunks, last, number) {
         Some(last)
     } else {
-        find_place(&rows.chunks, number)
+        place_ahead(rows, last.wrapping_add(1), number)
+    }
+}
+
+// The place of a chunk, which is looked for at a place first.
+fn place_ahead(rows: &Rows, place: usize, number: u64) -> Option<usize>
+    ensures at { IfSome result (λ place. number_at place rows.now.chunks.entries ≡ Some number) }
+    ensures none { IfNone result (chunk_at number rows.now.chunks.entries ≡ None) }
+{
+    if stands_at(&rows.chunks, place, number) {
+        rows.last.set(place);
+        Some(place)
+    } else {
+        find_place(rows, number)
     }
 }
 
@@ -196,13 +201,16 @@ fn stands_at(chunks: &Chunks, place: usize, number: u64) -> bool
     }
 }
 
-// The place of a number by its hash.
-fn find_place(chunks: &Chunks, number: u64) -> Option<usize>
-    ensures at { IfSome result (λ place. number_at place chunks.now.entries ≡ Some number) }
-    ensures none { IfNone result (chunk_at number chunks.now.entries ≡ None) }
+// The place of a number by its hash. The next one is looked for there first.
+fn find_place(rows: &Rows, number: u64) -> Option<usize>
+    ensures at { IfSome result (λ place. number_at place rows.now.chunks.entries ≡ Some number) }
+    ensures none { IfNone result (chunk_at number rows.now.chunks.entries ≡ None) }
 {
-    match chunks.get_full(&number) {
-        Some((place, _, _)) => Some(place),
+    match rows.chunks.get_full(&number) {
+        Some((place, _, _)) => {
+            rows.last.set(place);
+            Some(place)
+        }
         None => None,
     }
 }
@@ -226,12 +234,47 @@ fn has_row(rows: &Rows, serial: u64) -> bool
     }
 }
 
-// Reserves the serial of a row.
-fn mark(rows: &mut Rows, serial: u64)
-    requires { IsSome (row_at serial rows.old.chunks.entries) }
+// A serial without an object that is reserved.
+fn reserved() -> Row
+    ensures { result ≡ record { object = None; is_reserved = true } }
+{
+    Row {
+        object: None,
+        is_reserved: true,
+    }
+}
+
+// Reserves a serial of the chunk at a place.
+fn reserve_at(rows: &mut Rows, place: usize, serial: u64) -> Result<(), NoMemory>
+    requires { number_at place rows.old.chunks.entries ≡ Some (serial / 64) }
+    ensures objects { KeepsObjects rows.old.chunks.entries rows.new.chunks.entries }
+    ensures ok { OnOk result (TurnsReserved rows.old.chunks.entries rows.new.chunks.entries serial true) }
+    ensures err { OnErr result (KeepsReserved rows.old.chunks.entries rows.new.chunks.entries) }
+{
+    if has_row_at(rows, place, serial) {
+        mark(rows, place, serial);
+        return Ok(());
+    }
+    insert(rows, place, serial, reserved())
+}
+
+// Whether a serial of the chunk at a place has a row.
+fn has_row_at(rows: &Rows, place: usize, serial: u64) -> bool
+    requires { number_at place rows.now.chunks.entries ≡ Some (serial / 64) }
+    ensures { result ≡ is_some (row_at serial rows.now.chunks.entries) }
+{
+    match rows.chunks.get_index(place) {
+        Some((_, chunk)) => chunk.get(serial % WIDTH).is_some(),
+        None => unreachable!(),
+    }
+}
+
+// Reserves the serial of a row of the chunk at a place.
+fn mark(rows: &mut Rows, place: usize, serial: u64)
+    requires place { number_at place rows.old.chunks.entries ≡ Some (serial / 64) }
+    requires there { IsSome (row_at serial rows.old.chunks.entries) }
     ensures { TurnsRow rows.old.chunks.entries rows.new.chunks.entries serial (option_map with_reservation (row_at serial rows.old.chunks.entries)) }
 {
-    let place = known_place(rows, serial / WIDTH);
     if let Some(chunk) = rows.chunks.get_index_mut(place) {
         chunk.reserve(serial % WIDTH);
     }
@@ -245,18 +288,6 @@ fn write(rows: &mut Rows, serial: u64, row: Row)
     let place = known_place(rows, serial / WIDTH);
     if let Some(chunk) = rows.chunks.get_index_mut(place) {
         chunk.write(serial % WIDTH, row);
-    }
-}
-
-// Puts the row of a serial that has none.
-fn add(alloc: Global, rows: &mut Rows, serial: u64, row: Row) -> Result<(), NoMemory>
-    requires { row_at serial rows.old.chunks.entries ≡ None }
-    ensures ok { OnOk result (TurnsRow rows.old.chunks.entries rows.new.chunks.entries serial (Some row)) }
-    ensures err { OnErr result (KeepsRows rows.old.chunks.entries rows.new.chunks.entries) }
-{
-    match place_of(rows, serial / WIDTH) {
-        Some(place) => insert(rows, place, serial, row),
-        None => begin(alloc, rows, serial, row),
     }
 }
 

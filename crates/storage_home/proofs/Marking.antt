@@ -1,10 +1,11 @@
 -- Places that are marked in a word, and the blocks of an extent where one of them changes.
-use Rattle.std.proofs.Common.{ℕ, ◌≡◌, ◌<◌, ◌≤◌, ◌+◌, ◌-◌, ◌*◌, ◌^◌, ◌==◌, ◌/◌, ◌%◌, Option, Some, None, Bool, true, false, cond, refl, sym, ap, subst, ◌∙◌, arith, zero, suc, inl, inr, w64, eq-eqb}
+use Rattle.std.proofs.Common.{ℕ, ◌≡◌, ◌<◌, ◌≤◌, ◌+◌, ◌-◌, ◌*◌, ◌^◌, ◌==◌, ◌/◌, ◌%◌, List, [], ◌∷◌, slice_get, Option, Some, None, Bool, true, false, cond, refl, sym, ap, subst, ◌∙◌, arith, zero, suc, inl, inr, w64, eq-eqb}
 use Rattle.std.specs.Prelude.{◌||◌}
 use Rattle.std.specs.Int.{bit_at, bit_not, trailing_zeros}
 use Rattle.std.specs.Int.RustNames.{bit_and, bit_or}
+use Rattle.std.specs.Option.{unwrap_or, option_map}
 use Rattle.std.specs.Ordering.{nat_cmp}
-use Rattle.std.specs.Map.{lookup}
+use Rattle.std.specs.Map.{lookup, keys_of}
 use Rattle.std.specs.BTreeMap.{is_at}
 use Rattle.std.specs.Cmp.{unsigned_ties}
 use Rattle.std.proofs.lemmas.Bool.{lt-ltb, ltb-true}
@@ -202,6 +203,23 @@ module _ (old new : Blocks) (s : ℕ) (fits : s < 2 ^ 64) where
         none_held : (o : Option Block) (p : ℕ) → enters_in o p ≡ false → holds_in o p ≡ false
         none_held None p e = refl
         none_held (Some b) p e = second (has_bit p b.entered) (has_bit p b.held) e
+
+-- the last block, which is reached without a search
+pub key_there : {X : Type 0} (es : List (ℕ × X)) (i : ℕ) (e : ℕ × X) → slice_get es i ≡ Some e → slice_get (keys_of es) i ≡ Some e.0
+key_there [] i e is = cc
+key_there (x ∷ xs) zero e is = ap (option_map (λ p. p.0)) is
+key_there (x ∷ xs) (suc i) e is = key_there xs i e is
+
+pub last_is : {o : Option ℕ} (key n : ℕ) → Some key ≡ o → o ≡ Some n → key ≡ n
+last_is key n at is = ap (λ o. unwrap_or o 0) (at ∙ is)
+
+pub found_last : (es : Blocks) (key s : ℕ) (block : Block) (o : Option Block) → key ≡ s / 64 → o ≡ Some block → o ≡ lookup (is_at (nat_cmp key)) es → Some block ≡ lookup (is_at (nat_cmp (s / 64))) es
+found_last es key s block o same is at = sym is ∙ at ∙ ap (λ (n : ℕ). lookup (is_at (nat_cmp n)) es) same
+
+pub updated_last :
+    (old new : Blocks) (key n : ℕ) (w : Option Block) → key ≡ n
+    → ((q : ℕ) → lookup (is_at (nat_cmp q)) new ≡ cond (is_at (nat_cmp key) q) w (lookup (is_at (nat_cmp q)) old)) → (q : ℕ) → lookup (is_at (nat_cmp q)) new ≡ cond (is_at (nat_cmp n) q) w (lookup (is_at (nat_cmp q)) old)
+updated_last old new key n w same updates q = updates q ∙ ap (λ (k : ℕ). cond (is_at (nat_cmp k) q) w (lookup (is_at (nat_cmp q)) old)) same
 
 pub unmarked_words : (b : Block) → b.entered ≡ 0 → b.held ≡ 0 → (q : ℕ) → enters_in (Some b) q ≡ false
 unmarked_words b entered held q = λ i. (ap (has_bit q) entered ∙ no_bit q) i || (ap (has_bit q) held ∙ no_bit q) i

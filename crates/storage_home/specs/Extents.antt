@@ -1,6 +1,6 @@
 -- The serials of a home whose objects are there, and those that are entered.
-use Rattle.std.specs.Prelude.{ℕ, ◌≡◌, ◌<◌, ◌≤◌, ◌/◌, ◌%◌, List, Option, None, Some, Bool, true, false, cond, ◌==◌, ◌&&◌}
-use Rattle.std.specs.BTreeMap.{BTreeMap}
+use Rattle.std.specs.Prelude.{ℕ, ◌≡◌, ◌<◌, ◌≤◌, ◌-◌, ◌/◌, ◌%◌, List, Option, None, Some, Bool, true, false, cond, slice_get, ◌==◌, ◌&&◌}
+use Rattle.std.specs.BTreeMap.{BTreeMap, keys, btree_map_len}
 use Rattle.type_layout.specs.Schemas.{given, nth}
 use Rattle.storage_home.specs.declared.extents.Block.{Block}
 use Rattle.storage_home.specs.Blocks.{Blocks, block_at, holds_in, enters_in}
@@ -15,6 +15,10 @@ is_entered_at s es = enters_in (block_at (s / 64) es) (s % 64)
 abbrev pub IsNext : Blocks → ℕ → Option ℕ → Type 0
 IsNext es from None = (t : ℕ) → from ≤ t → is_held_at t es ≡ false
 IsNext es from (Some s) = (from ≤ s) × (is_held_at s es ≡ true) × ((t : ℕ) → from ≤ t → t < s → is_held_at t es ≡ false)
+
+-- the number of the last block
+abbrev pub last_number : BTreeMap ℕ Block → Option ℕ
+last_number extent = slice_get (keys extent) (btree_map_len extent - 1)
 
 -- what the entries of one extent become
 abbrev pub TurnsHeld : Blocks → Blocks → ℕ → Bool → Type 0

@@ -1,7 +1,7 @@
 // The serials of each storage home in their order.
-ghost use Rattle.std.specs.Prelude.{◌≡◌, ◌+◌, ◌*◌, ◌<◌, ◌≤◌, ◌/◌, ◌||◌, ℕ, None, true, false, length, OnOk, OnErr};
+ghost use Rattle.std.specs.Prelude.{◌≡◌, ◌+◌, ◌*◌, ◌<◌, ◌≤◌, ◌/◌, ◌||◌, ℕ, None, Some, true, false, length, OnOk, OnErr};
 ghost use Rattle.storage_home.specs.Blocks.{block_at, enters_in, IsLeastIn, IsFirstHeld};
-ghost use Rattle.storage_home.specs.Extents.{is_entered_at, is_entered_in, IsNear, IsNext, IsNextIn, TurnsHeld, KeepsHeld, TurnsEntered, KeepsEntered, TurnsHeldIn, KeepsHeldIn, TurnsEnteredIn, KeepsEnteredIn};
+ghost use Rattle.storage_home.specs.Extents.{is_entered_at, is_entered_in, last_number, IsNear, IsNext, IsNextIn, TurnsHeld, KeepsHeld, TurnsEntered, KeepsEntered, TurnsHeldIn, KeepsHeldIn, TurnsEnteredIn, KeepsEnteredIn};
 
 use crate::chunk::WIDTH;
 use crate::marks::{least_from, with_bit, with_mark};
@@ -24,6 +24,9 @@ pub type Extent = BTreeMap<u64, Block>;
 
 /// The greatest number of a block.
 const LAST: u64 = u64::MAX / WIDTH;
+
+// Among so many blocks one is soon found by a search.
+const FEW: usize = 4;
 
 /// Enters a serial of a home, whose object may come. One that is there stays there.
 pub fn enter_in(extents: &mut [Extent], home: HomeNo, serial: u64) -> Result<(), NoMemory>
@@ -84,12 +87,42 @@ fn enter(extent: &mut Extent, serial: u64) -> Result<(), NoMemory>
     ensures ok { OnOk result (TurnsEntered extent.old.entries extent.new.entries serial true) }
     ensures err { OnErr result (extent.new.entries ≡ extent.old.entries) }
 {
+    if ends_with(extent, serial / WIDTH) {
+        enter_last(extent, serial);
+        return Ok(());
+    }
     match extent.get_mut(&(serial / WIDTH)) {
         Some(block) => {
             block.entered = with_bit(block.entered, serial % WIDTH);
             Ok(())
         }
         None => begin(extent, serial),
+    }
+}
+
+// Whether the last block of many has this number. Serials are given one after the other, so that a new one is of the last block as
+// a rule, which is reached without a search; among a few a search takes no longer.
+fn ends_with(extent: &Extent, number: u64) -> bool
+    ensures { result ≡ true → last_number extent.now ≡ Some number }
+{
+    if extent.len() <= FEW {
+        return false;
+    }
+    match extent.last_key_value() {
+        Some((last, _)) => *last == number,
+        None => false,
+    }
+}
+
+// Enters a serial of the last block.
+fn enter_last(extent: &mut Extent, serial: u64)
+    requires { last_number extent.old ≡ Some (serial / 64) }
+    ensures held { KeepsHeld extent.old.entries extent.new.entries }
+    ensures entered { TurnsEntered extent.old.entries extent.new.entries serial true }
+{
+    if let Some(entry) = extent.last_entry() {
+        let block = entry.into_mut();
+        block.entered = with_bit(block.entered, serial % WIDTH);
     }
 }
 
@@ -130,6 +163,32 @@ fn release(extent: &mut Extent, serial: u64, stays: bool)
 
 // Says of a serial that was entered whether it still is, and whether its object is there.
 fn write(extent: &mut Extent, serial: u64, enters: bool, holds: bool)
+    requires { is_entered_at serial extent.old.entries ≡ true }
+    ensures held { TurnsHeld extent.old.entries extent.new.entries serial holds }
+    ensures entered { TurnsEntered extent.old.entries extent.new.entries serial (enters || holds) }
+{
+    if ends_with(extent, serial / WIDTH) {
+        write_last(extent, serial, enters, holds);
+    } else {
+        write_found(extent, serial, enters, holds);
+    }
+}
+
+// The same of a serial of the last block.
+fn write_last(extent: &mut Extent, serial: u64, enters: bool, holds: bool)
+    requires { last_number extent.old ≡ Some (serial / 64) }
+    ensures held { TurnsHeld extent.old.entries extent.new.entries serial holds }
+    ensures entered { TurnsEntered extent.old.entries extent.new.entries serial (enters || holds) }
+{
+    if let Some(entry) = extent.last_entry() {
+        let block = entry.into_mut();
+        block.entered = with_mark(block.entered, serial % WIDTH, enters);
+        block.held = with_mark(block.held, serial % WIDTH, holds);
+    }
+}
+
+// The same by a search for its block.
+fn write_found(extent: &mut Extent, serial: u64, enters: bool, holds: bool)
     requires { is_entered_at serial extent.old.entries ≡ true }
     ensures held { TurnsHeld extent.old.entries extent.new.entries serial holds }
     ensures entered { TurnsEntered extent.old.entries extent.new.entries serial (enters || holds) }

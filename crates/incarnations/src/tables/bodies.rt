@@ -1,7 +1,8 @@
 // The bodies by object and view.
-ghost use Rattle.std.specs.Prelude.{◌≡◌, ◌<◌, ◌^◌, Some, None, IsSome, IfSome, OnOk, OnErr, option_copied};
+ghost use Rattle.std.specs.Prelude.{◌≡◌, ◌<◌, ◌^◌, true, Some, None, IsSome, IfSome, OnOk, OnErr, option_copied, slice_get};
 ghost use Rattle.std.specs.Option.{option_map};
 ghost use Rattle.std.specs.FinMap as map;
+ghost use Rattle.incarnations.specs.Keys.{body_cmp};
 ghost use Rattle.incarnations.specs.Maps.{IsWith};
 ghost use Rattle.incarnations.specs.Meaning.{same_body};
 ghost use Rattle.incarnations.specs.Records.{with_entries, with_value};
@@ -18,10 +19,12 @@ use std::marker::Model;
 use table_hash::NumberHasher;
 use type_layout::Record;
 
+type Table = IndexMap<BodyName, BodyRecord, BuildHasherDefault<NumberHasher>>;
+
 /// A finite map from names of bodies to bodies.
 #[derive(Drop)]
 pub struct BodyTable {
-    table: IndexMap<BodyName, BodyRecord, BuildHasherDefault<NumberHasher>>,
+    table: Table,
     // The place of the body found last, where the next one is looked for first: one command asks for its body several times. It
     // may be any number.
     last: Cell<usize>,
@@ -61,6 +64,28 @@ fn is_name(there: &BodyName, name: BodyName) -> bool
     there.pid.home == name.pid.home
         && there.pid.serial == name.pid.serial
         && is_view(there.view, name.view)
+}
+
+// Whether the body of this name stands at a place of the table.
+#[inline(always)]
+fn stands_at(table: &Table, place: usize, name: BodyName) -> bool
+    ensures { result ≡ true → option_map (λ e. e.0) (slice_get table.now.entries place) ≡ Some name }
+{
+    match table.get_index(place) {
+        Some((there, _)) => is_name(there, name),
+        None => false,
+    }
+}
+
+// The body of a name goes, which is hashed only where it does not stand at the place.
+fn remove_from(table: &mut Table, place: usize, name: BodyName)
+    ensures { map.from_entries {R = body_cmp} table.new.entries ≡ map.remove (map.from_entries {R = body_cmp} table.old.entries) name }
+{
+    if stands_at(table, place, name) {
+        let _ = table.swap_remove_index(place);
+    } else {
+        let _ = table.swap_remove(&name);
+    }
 }
 
 impl BodyTable {
@@ -168,9 +193,10 @@ impl BodyTable {
         }
     }
 
+    /// Takes the body of a name away, which is hashed only where it was not the one found last.
     pub fn remove(&mut self, name: BodyName)
         ensures { self.new ≡ map.remove self.old name }
     {
-        let _ = self.table.swap_remove(&name);
+        remove_from(&mut self.table, self.last.get(), name);
     }
 }

@@ -1,6 +1,7 @@
 // The entries by session and number.
-ghost use Rattle.std.specs.Prelude.{◌≡◌, ◌<◌, ◌^◌, Some, None, IsSome, IfSome, OnOk, OnErr, option_copied};
+ghost use Rattle.std.specs.Prelude.{◌≡◌, ◌<◌, ◌^◌, true, Some, None, IsSome, IfSome, OnOk, OnErr, option_copied, slice_get};
 ghost use Rattle.std.specs.Map.{lookup};
+ghost use Rattle.std.specs.Option.{option_map};
 ghost use Rattle.std.specs.FinMap as map;
 ghost use Rattle.incarnations.specs.Meaning.{same_slot};
 
@@ -73,6 +74,17 @@ fn record_of<'a>(table: &'a Table, last: &Cell<usize>, slot: Slot) -> Option<&'a
     }
 }
 
+// Whether the record of this slot stands at a place of the table.
+#[inline(always)]
+fn stands_at(table: &Table, place: usize, slot: Slot) -> bool
+    ensures { result ≡ true → option_map (λ e. e.0) (slice_get table.now.entries place) ≡ Some slot }
+{
+    match table.get_index(place) {
+        Some((there, _)) => *there == slot,
+        None => false,
+    }
+}
+
 impl EntryTable {
     pub fn new(alloc: Global) -> EntryTable
         ensures { result ≡ map.empty }
@@ -125,9 +137,15 @@ impl EntryTable {
         }
     }
 
+    /// Takes the record of a slot away, which is hashed only where it was not the one found last.
     pub fn remove(&mut self, slot: Slot)
         ensures { self.new ≡ map.remove self.old slot }
     {
-        let _ = self.table.swap_remove(&slot);
+        let last = self.last.get();
+        if stands_at(&self.table, last, slot) {
+            let _ = self.table.swap_remove_index(last);
+        } else {
+            let _ = self.table.swap_remove(&slot);
+        }
     }
 }

@@ -162,12 +162,14 @@ impl BodyTable {
         }
     }
 
-    /// Puts a body at a name that has none. `NoMemory`: the table is as before.
+    /// Puts a body at a name that has none, where the next one is looked for first. `NoMemory`: the table is as before.
     pub fn add(&mut self, name: BodyName, put: BodyRecord) -> Result<(), NoMemory>
         ensures ok { OnOk result (self.new ≡ map.insert self.old name put) }
         ensures err { OnErr result (self.new ≡ self.old) }
     {
+        let place = self.table.len();
         self.table.insert(name, put)?;
+        self.last.set(place);
         Ok(())
     }
 

@@ -117,12 +117,14 @@ impl EntryTable {
         self.find(slot).copied()
     }
 
-    /// Puts a record at a slot that has none. `NoMemory`: the table is as before.
+    /// Puts a record at a slot that has none, where the next one is looked for first. `NoMemory`: the table is as before.
     pub fn add(&mut self, slot: Slot, put: EntryRecord) -> Result<(), NoMemory>
         ensures ok { OnOk result (self.new ≡ map.insert self.old slot put) }
         ensures err { OnErr result (self.new ≡ self.old) }
     {
+        let place = self.table.len();
         self.table.insert(slot, put)?;
+        self.last.set(place);
         Ok(())
     }
 

@@ -77,6 +77,31 @@ fn stands_at(table: &Table, place: usize, name: BodyName) -> bool
     }
 }
 
+// The place of a body by the hash of its name.
+#[inline(never)]
+fn find_place(table: &Table, name: BodyName) -> usize
+    requires { IsSome (map.get (map.from_entries {R = body_cmp} table.now.entries) name) }
+    ensures { option_map (λ e. e.0) (slice_get table.now.entries result) ≡ Some name }
+{
+    match table.get_full(&name) {
+        Some((place, _, _)) => place,
+        None => unreachable!(),
+    }
+}
+
+// The place of the body of a name, looked for first at this one.
+#[inline(always)]
+fn place_of(table: &Table, last: usize, name: BodyName) -> usize
+    requires { IsSome (map.get (map.from_entries {R = body_cmp} table.now.entries) name) }
+    ensures { option_map (λ e. e.0) (slice_get table.now.entries result) ≡ Some name }
+{
+    if stands_at(table, last, name) {
+        last
+    } else {
+        find_place(table, name)
+    }
+}
+
 // The body of a name goes, which is hashed only where it does not stand at the place.
 fn remove_from(table: &mut Table, place: usize, name: BodyName)
     ensures { map.from_entries {R = body_cmp} table.new.entries ≡ map.remove (map.from_entries {R = body_cmp} table.old.entries) name }
@@ -173,23 +198,25 @@ impl BodyTable {
         Ok(())
     }
 
-    /// A body has this many entries now.
+    /// A body has this many entries now. Its name is hashed only where it was not the one found last.
     pub fn set_entries(&mut self, name: BodyName, entries: u64)
         requires { IsSome (map.get self.old name) }
         ensures { IsWith self.old self.new name (with_entries entries) }
     {
-        match self.table.get_mut(&name) {
+        let place = place_of(&self.table, self.last.get(), name);
+        match self.table.get_index_mut(place) {
             Some(body) => body.place.entries = entries,
             None => unreachable!(),
         }
     }
 
-    /// A body has this value now.
+    /// A body has this value now. Its name is hashed only where it was not the one found last.
     pub fn set_value(&mut self, name: BodyName, value: Record)
         requires { IsSome (map.get self.old name) }
         ensures { IsWith self.old self.new name (with_value value) }
     {
-        match self.table.get_mut(&name) {
+        let place = place_of(&self.table, self.last.get(), name);
+        match self.table.get_index_mut(place) {
             Some(body) => body.value = value,
             None => unreachable!(),
         }

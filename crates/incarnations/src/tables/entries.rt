@@ -85,6 +85,31 @@ fn stands_at(table: &Table, place: usize, slot: Slot) -> bool
     }
 }
 
+// The place of a record by the hash of its slot.
+#[inline(never)]
+fn find_place(table: &Table, slot: Slot) -> usize
+    requires { IsSome (lookup (same_slot slot) table.now.entries) }
+    ensures { option_map (λ e. e.0) (slice_get table.now.entries result) ≡ Some slot }
+{
+    match table.get_full(&slot) {
+        Some((place, _, _)) => place,
+        None => unreachable!(),
+    }
+}
+
+// The place of the record of a slot, looked for first at this one.
+#[inline(always)]
+fn place_of(table: &Table, last: usize, slot: Slot) -> usize
+    requires { IsSome (lookup (same_slot slot) table.now.entries) }
+    ensures { option_map (λ e. e.0) (slice_get table.now.entries result) ≡ Some slot }
+{
+    if stands_at(table, last, slot) {
+        last
+    } else {
+        find_place(table, slot)
+    }
+}
+
 impl EntryTable {
     pub fn new(alloc: Global) -> EntryTable
         ensures { result ≡ map.empty }
@@ -128,13 +153,14 @@ impl EntryTable {
         Ok(())
     }
 
-    /// Puts another record at a slot that has one.
+    /// Puts another record at a slot that has one, which is hashed only where it was not the one found last.
     pub fn set(&mut self, slot: Slot, put: EntryRecord)
         requires { IsSome (map.get self.old slot) }
         ensures { self.new ≡ map.insert self.old slot put }
     {
-        match self.table.get_mut(&slot) {
-            Some(place) => *place = put,
+        let place = place_of(&self.table, self.last.get(), slot);
+        match self.table.get_index_mut(place) {
+            Some(there) => *there = put,
             None => unreachable!(),
         }
     }

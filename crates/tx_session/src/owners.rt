@@ -235,15 +235,14 @@ fn begun(ended: &mut Option<Owned>, alloc: Global, level: Level) -> Owned
     ensures { IsNew level result }
 {
     match ended.take() {
-        Some(owned) => again(owned, level),
+        Some(owned) => begun_with_memory_of(owned, level),
         None => Owned::new(alloc, level),
     }
 }
 
-fn again(owned: Owned, level: Level) -> Owned
+fn begun_with_memory_of(mut owned: Owned, level: Level) -> Owned
     ensures { IsNew level result }
 {
-    let mut owned = owned;
     owned.clear();
     owned.level = level;
     owned

@@ -1,5 +1,5 @@
 -- What an owner's step makes of what is kept.
-use Rattle.std.specs.Prelude.{ℕ, ◌≡◌, ◌<◌, List, Option, Some, None}
+use Rattle.std.specs.Prelude.{◌≡◌, ◌<◌, Option, Some, None, Result, Ok, Err}
 use Rattle.std.specs.FinMap.{len}
 use Rattle.std.specs.FinSet as set
 use Rattle.pss_base.specs.declared.owner.OwnerNo.{OwnerNo}
@@ -12,8 +12,8 @@ use Rattle.owner_view.specs.declared.owned.Owned.{Owned}
 use Rattle.tx_session.specs.declared.parts.Parts.{Parts}
 use Rattle.owner_view.specs.declared.step.Step.{Step}
 use Rattle.owner_view.specs.declared.step.Put.{Put}
-use Rattle.owner_view.specs.Owned.{changed_by, MayPutIn, HasPut}
-use Rattle.tx_session.specs.Kept.{owned_at, TurnsBy}
+use Rattle.owner_view.specs.Owned.{changed_by, IsCounted, IsUnder, IsSame, MayPutIn, HasPut}
+use Rattle.tx_session.specs.Kept.{owned_at}
 use Rattle.tx_session.specs.Owners.{Under, AreOwners}
 use Rattle.owner_view.specs.Steps.{MayBePut, changes_put}
 use Rattle.owner_view.specs.Views.{seen_with}
@@ -34,12 +34,35 @@ pub record MayTake (S : Schema) (parts : Parts) (n : OwnerNo) (step : Step) : Ty
   pub owners : AreOwners parts
   pub under : Under S parts
 
+-- an owner may put what a step on its view puts, and may change one object more
+pub record MayChange (owned : Owned) (put : Option Put) : Type 0 where
+  pub schema : Schema
+  pub catalog : Catalog
+  pub sound : IsSoundSchema schema
+  pub unique : IsUnique schema (seen_with catalog (changed_by owned))
+  pub under : IsUnder schema owned
+  pub may : MayBePut schema (seen_with catalog (changed_by owned)) put
+  pub counted : IsCounted owned
+  pub few : len (changed_by owned) < 4294967295
+
+-- it has put it
+pub record HasStepped (put : Option Put) (old new : Owned) : Type 0 where
+  pub level : new.level ≡ old.level
+  pub changes : changed_by new ≡ with_changes (changed_by old) (changes_put put)
+  pub counted : IsCounted new
+  pub under : (may : MayChange old put) → IsUnder may.schema new
+
+-- or memory lacked, and all that can be told of it is as before
+abbrev pub HasTaken : {A E : Type 0} → Result A E → Option Put → Owned → Owned → Type 0
+HasTaken (Ok a) put old new = HasStepped put old new
+HasTaken (Err e) put old new = IsSame old new
+
 -- what a step puts, where it puts something, may be put
-abbrev pub MaySettle : List (ℕ × Owned) → OwnerNo → Option Put → Type 0
-MaySettle es n None = Unit {0}
-MaySettle es n (Some put) = (owned : Owned) → owned_at n.0 es ≡ Some owned → MayPutIn owned put
+abbrev pub MaySettle : Owned → Option Put → Type 0
+MaySettle owned None = Unit {0}
+MaySettle owned (Some put) = MayPutIn owned put
 
 -- it has been put
-abbrev pub HasSettled : List (ℕ × Owned) → List (ℕ × Owned) → OwnerNo → Option Put → Type 0
-HasSettled old new n None = new ≡ old
-HasSettled old new n (Some put) = TurnsBy (λ before after. HasPut before after put) old new n.0
+abbrev pub HasSettled : Owned → Owned → Option Put → Type 0
+HasSettled old new None = new ≡ old
+HasSettled old new (Some put) = HasPut old new put

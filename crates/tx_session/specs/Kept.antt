@@ -5,8 +5,7 @@ use Rattle.std.specs.FinMap.{empty}
 use Rattle.type_layout.specs.declared.schema.Schema.{Schema}
 use Rattle.pss_machine.specs.declared.level.Level.{Level}
 use Rattle.owner_view.specs.declared.owned.Owned.{Owned}
-use Rattle.owner_view.specs.declared.step.Put.{Put}
-use Rattle.owner_view.specs.Owned.{changed_by, IsCounted, IsUnder, IsReadyFor}
+use Rattle.owner_view.specs.Owned.{changed_by, IsCounted, IsUnder}
 
 -- an owner of this level that has changed nothing
 pub record IsNew (level : Level) (owned : Owned) : Type 0 where
@@ -37,7 +36,3 @@ TurnsOwned old new n owned = (q : ℕ) → owned_at q new ≡ cond (n == q) owne
 pub record TurnsBy (Turns : Owned → Owned → Type 0) (old new : List (ℕ × Owned)) (n : ℕ) : Type 0 where
   pub here : Both Turns (owned_at n old) (owned_at n new)
   pub others : (q : ℕ) → (n == q) ≡ false → owned_at q new ≡ owned_at q old
-
--- what is put may be put by the owner with this number without memory
-abbrev pub IsReadyIn : ℕ → Option Put → List (ℕ × Owned) → Type 0
-IsReadyIn n put es = (owned : Owned) → owned_at n es ≡ Some owned → IsReadyFor put owned

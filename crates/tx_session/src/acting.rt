@@ -1,19 +1,21 @@
 // An owner acts: the step of an operation on its view, room for it, and what becomes of locks and changes.
-ghost use Rattle.std.specs.Prelude.{◌≡◌, None, IfOk, OnOk, OnErr, length};
+ghost use Rattle.std.specs.Prelude.{◌≡◌, Some, None, IsSome, IfOk, OnOk, OnErr, length};
 ghost use Rattle.type_layout.specs.declared.schema.Schema.{Schema as PlainSchema};
 ghost use Rattle.pss_machine.specs.Maps.{with_at};
 ghost use Rattle.pss_machine.specs.Operations.{plain_op};
 ghost use Rattle.pss_machine.specs.Owners.{view};
 ghost use Rattle.lock_table.specs.Locks.{blocker, granted};
 ghost use Rattle.owner_view.specs.Steps.{IsStep};
-ghost use Rattle.owner_view.specs.Owned.{IsSame};
-ghost use Rattle.tx_session.specs.Kept.{IsReadyIn, TurnsBy};
+ghost use Rattle.owner_view.specs.declared.owned.Owned.{Owned as One};
+ghost use Rattle.owner_view.specs.Owned.{IsSame, IsReadyFor};
+ghost use Rattle.tx_session.specs.Kept.{owned_at, TurnsBy};
 ghost use Rattle.tx_session.specs.Owners.{owners_in, Under, AreOwners, MayAct};
-ghost use Rattle.tx_session.specs.Acting.{MayTake, MaySettle, HasSettled, with_step};
+ghost use Rattle.tx_session.specs.Acting.{MayTake, MayChange, MaySettle, HasSettled, HasTaken, with_step};
 
 use crate::parts::Parts;
-use crate::table::{find, put_in, reserve_in};
-use owner_view::Step;
+use crate::table::{Table, find};
+use lock_table::LockTable;
+use owner_view::{Owned, Step};
 use pss_base::{NoMemory, OwnerNo};
 use pss_machine::{Answer, Op};
 use storage_home::Homes;
@@ -50,35 +52,76 @@ impl Parts {
         ensures under { Under schema.now self.new }
         ensures owners { AreOwners self.new }
     {
-        match self.prepare(owner, &step) {
-            Ok(()) => Ok(self.settle(owner, step)),
-            Err(NoMemory) => Err(NoMemory),
-        }
+        take_in(&mut self.table, &mut self.locks, owner, step)
     }
+}
 
-    // Room for what a step puts, and the locks that it needs.
-    fn prepare(&mut self, owner: OwnerNo, step: &Step) -> Result<(), NoMemory>
-        requires free { blocker self.old.locks owner step.now.needs ≡ None }
-        ensures same { TurnsBy IsSame self.old.table.entries self.new.table.entries owner.0 }
-        ensures ready { OnOk result (IsReadyIn owner.0 step.now.put self.new.table.entries) }
-        ensures granted { OnOk result (self.new.locks ≡ granted self.old.locks owner step.now.needs) }
-        ensures err { OnErr result (self.new.locks ≡ self.old.locks) }
-    {
-        reserve_in(&mut self.table, owner, &step.put)?;
-        self.locks.grant(owner, &step.needs)
+// The owner is looked up once.
+fn take_in(
+    table: &mut Table,
+    locks: &mut LockTable,
+    owner: OwnerNo,
+    step: Step,
+) -> Result<Answer, NoMemory>
+    requires there { IsSome (owned_at owner.0 table.old.entries) }
+    requires may { (owned : One) → owned_at owner.0 table.old.entries ≡ Some owned → MayChange owned step.put }
+    requires free { blocker locks.old owner step.needs ≡ None }
+    ensures answer { IfOk result (λ answer. answer ≡ step.answer) }
+    ensures turned { TurnsBy (HasTaken result step.put) table.old.entries table.new.entries owner.0 }
+    ensures granted { OnOk result (locks.new ≡ granted locks.old owner step.needs) }
+    ensures err { OnErr result (locks.new ≡ locks.old) }
+{
+    match table.get_mut(&owner.0) {
+        Some(owned) => take_with(owned, locks, owner, step),
+        None => unreachable!(),
     }
+}
 
-    // Puts what a step puts, for which there is room.
-    fn settle(&mut self, owner: OwnerNo, step: Step) -> Answer
-        requires { MaySettle self.old.table.entries owner step.put }
-        ensures answer { result ≡ step.answer }
-        ensures locks { self.new.locks ≡ self.old.locks }
-        ensures put { HasSettled self.old.table.entries self.new.table.entries owner step.put }
-    {
-        let Step { answer, put, .. } = step;
-        if let Some(put) = put {
-            put_in(&mut self.table, owner, put);
-        }
-        answer
+fn take_with(
+    owned: &mut Owned,
+    locks: &mut LockTable,
+    owner: OwnerNo,
+    step: Step,
+) -> Result<Answer, NoMemory>
+    requires may { MayChange owned.old step.put }
+    requires free { blocker locks.old owner step.needs ≡ None }
+    ensures answer { IfOk result (λ answer. answer ≡ step.answer) }
+    ensures turned { HasTaken result step.put owned.old owned.new }
+    ensures granted { OnOk result (locks.new ≡ granted locks.old owner step.needs) }
+    ensures err { OnErr result (locks.new ≡ locks.old) }
+{
+    match prepare(owned, locks, owner, &step) {
+        Ok(()) => Ok(settle(owned, step)),
+        Err(NoMemory) => Err(NoMemory),
     }
+}
+
+// Room for what a step puts, and the locks that it needs.
+fn prepare(
+    owned: &mut Owned,
+    locks: &mut LockTable,
+    owner: OwnerNo,
+    step: &Step,
+) -> Result<(), NoMemory>
+    requires free { blocker locks.old owner step.now.needs ≡ None }
+    ensures same { IsSame owned.old owned.new }
+    ensures ready { OnOk result (IsReadyFor step.now.put owned.new) }
+    ensures granted { OnOk result (locks.new ≡ granted locks.old owner step.now.needs) }
+    ensures err { OnErr result (locks.new ≡ locks.old) }
+{
+    owned.reserve(&step.put)?;
+    locks.grant(owner, &step.needs)
+}
+
+// Puts what a step puts, for which there is room.
+fn settle(owned: &mut Owned, step: Step) -> Answer
+    requires { MaySettle owned.old step.put }
+    ensures answer { result ≡ step.answer }
+    ensures put { HasSettled owned.old owned.new step.put }
+{
+    let Step { answer, put, .. } = step;
+    if let Some(put) = put {
+        owned.put(put);
+    }
+    answer
 }

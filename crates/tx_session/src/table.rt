@@ -1,12 +1,10 @@
 // Owners by their numbers.
 ghost use Rattle.std.specs.Prelude.{◌≡◌, [], Some, None, IfSome, OnOk, OnErr};
 ghost use Rattle.std.specs.Option.{option_map};
-ghost use Rattle.owner_view.specs.declared.owned.Owned.{Owned as One};
-ghost use Rattle.owner_view.specs.Owned.{IsSame, MayPutIn, HasPut};
-ghost use Rattle.tx_session.specs.Kept.{owned_at, TurnsOwned, TurnsBy, IsReadyIn, IsCleared};
+ghost use Rattle.tx_session.specs.Kept.{owned_at, TurnsOwned, TurnsBy, IsCleared};
 
 use indexmap::IndexMap;
-use owner_view::{Owned, Put};
+use owner_view::Owned;
 use pss_base::{NoMemory, OwnerNo};
 use std::alloc::Global;
 use std::hash::BuildHasherDefault;
@@ -61,26 +59,5 @@ pub fn clear(table: &mut Table, owner: OwnerNo)
 {
     if let Some(owned) = table.get_mut(&owner.0) {
         owned.clear();
-    }
-}
-
-/// Sees to it that what a step puts may be put without memory.
-pub fn reserve_in(table: &mut Table, owner: OwnerNo, put: &Option<Put>) -> Result<(), NoMemory>
-    ensures same { TurnsBy IsSame table.old.entries table.new.entries owner.0 }
-    ensures ready { OnOk result (IsReadyIn owner.0 put.now table.new.entries) }
-{
-    match table.get_mut(&owner.0) {
-        Some(owned) => owned.reserve(put),
-        None => Ok(()),
-    }
-}
-
-/// Puts what a step puts. It takes no memory.
-pub fn put_in(table: &mut Table, owner: OwnerNo, put: Put)
-    requires { (owned : One) → owned_at owner.0 table.old.entries ≡ Some owned → MayPutIn owned put }
-    ensures { TurnsBy (λ old new. HasPut old new put) table.old.entries table.new.entries owner.0 }
-{
-    if let Some(owned) = table.get_mut(&owner.0) {
-        owned.put(put);
     }
 }

@@ -73,22 +73,24 @@ impl Overlay {
         indexes::reserve_all(self.alloc, &mut self.indexes, pairs)
     }
 
-    /// Puts a state at a serial. The keys that its object had go, and those that it has come. It takes
-    /// no memory.
+    /// Puts a state at a serial, and tells whether one stood there. The keys that its object had go, and those that it has
+    /// come. It takes no memory.
     pub fn put_reserved(
         &mut self,
         serial: u64,
         slot: Slot,
         had: &[(KeyNo, Bytes)],
         has: &[(KeyNo, Bytes)],
-    )
+    ) -> bool
         requires there { IsSome (slot_at serial self.old.states.table.entries) }
         requires has { (between : Table) → TurnsFound (indexes_in self.old) between had.now None → KeepsKeysReserved (indexes_in self.old) between → MayPut between has.now }
+        ensures before { result ≡ map.contains_key (changes_in self.old) serial }
         ensures changes { changes_in self.new ≡ with_told (slot_state slot) serial (changes_in self.old) }
         ensures found { FoundAfter (indexes_in self.old) (indexes_in self.new) serial had.now has.now }
     {
-        states::put(&mut self.states, serial, slot);
+        let before = states::put(&mut self.states, serial, slot);
         indexes::take_all(&mut self.indexes, had);
         indexes::put_all(&mut self.indexes, has, serial);
+        before
     }
 }

@@ -147,14 +147,15 @@ impl Owned {
         requires { MayPutIn self.old put }
         ensures { HasPut self.old self.new put }
     {
-        self.count(put.serial);
         let Put {
             serial,
             slot,
             pairs,
         } = put;
-        self.overlay
+        let before = self
+            .overlay
             .put_reserved(serial, slot, &pairs.had, &pairs.has);
+        self.changed = count_with(self.changed, before);
     }
 
     /// Takes all that was changed away. It takes no memory, and may keep a little for what is changed next.
@@ -167,16 +168,12 @@ impl Owned {
         self.overlay.clear();
         self.changed = 0;
     }
+}
 
-    // Counts the object with a serial, unless it was changed before.
-    fn count(&mut self, serial: u64)
-        requires { self.old.changed < 4294967295 }
-        ensures level { self.new.level ≡ self.old.level }
-        ensures overlay { self.new.overlay ≡ self.old.overlay }
-        ensures changed { self.new.changed ≡ (if map.contains_key (changed_by self.old) serial then self.old.changed else self.old.changed + 1) }
-    {
-        if !self.has_changed(serial) {
-            self.changed += 1;
-        }
-    }
+// How many objects are changed with one more, unless it was changed before.
+fn count_with(changed: u32, before: bool) -> u32
+    requires { changed < 4294967295 }
+    ensures { result ≡ (if before then changed else changed + 1) }
+{
+    if before { changed } else { changed + 1 }
 }

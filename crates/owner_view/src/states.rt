@@ -1,5 +1,5 @@
 // The states to which objects were changed, by serial.
-ghost use Rattle.std.specs.Prelude.{◌≡◌, [], Some, None, nat_eq, IfOk, IfSome, OnOk, IsSome};
+ghost use Rattle.std.specs.Prelude.{◌≡◌, [], Some, None, nat_eq, is_some, IfOk, IfSome, OnOk, IsSome};
 ghost use Rattle.std.specs.Option.{option_map};
 ghost use Rattle.owner_view.specs.States.{slot_at, slot_state, state_at, told_state, KeepsStates, TurnsState, AreInOrder};
 ghost use Rattle.std.specs.List.{IsDistinct};
@@ -168,13 +168,30 @@ fn add(states: &mut States, serial: u64) -> Result<(), NoMemory>
     Ok(())
 }
 
-/// Puts a state at a serial.
-pub fn put(states: &mut States, serial: u64, slot: Slot)
+/// Puts a state at a serial, and tells whether one stood there.
+pub fn put(states: &mut States, serial: u64, slot: Slot) -> bool
     requires { IsSome (slot_at serial states.old.table.entries) }
-    ensures { TurnsState states.old.table.entries states.new.table.entries serial (slot_state slot) }
+    ensures before { result ≡ is_some (state_at serial states.old.table.entries) }
+    ensures turned { TurnsState states.old.table.entries states.new.table.entries serial (slot_state slot) }
 {
-    if let Some(place) = states.table.get_mut(&serial) {
-        *place = slot;
+    match states.table.get_mut(&serial) {
+        Some(place) => {
+            let before = stands(place);
+            *place = slot;
+            before
+        }
+        None => unreachable!(),
+    }
+}
+
+// Whether a state stands in a slot.
+fn stands(slot: &Slot) -> bool
+    ensures { result ≡ is_some (slot_state slot.now) }
+{
+    match slot {
+        Slot::Reserved => false,
+        Slot::Gone => true,
+        Slot::There(_) => true,
     }
 }
 

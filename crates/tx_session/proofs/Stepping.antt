@@ -16,7 +16,7 @@ use Rattle.owner_view.specs.declared.step.Put.{Put}
 use Rattle.owner_view.specs.declared.step.Step.{Step}
 use Rattle.owner_view.specs.Views.{seen_with}
 use Rattle.owner_view.specs.Steps.{IsPut, state_put}
-use Rattle.owner_view.specs.Owned.{changed_by, IsCounted, IsUnder, IsSame, IsReadyFor, MayPutIn, HasPut}
+use Rattle.owner_view.specs.Owned.{IsCounted, IsUnder, IsSame, IsReadyFor, MayPutIn}
 use Rattle.tx_session.specs.Kept.{owned_at, TurnsBy}
 use Rattle.tx_session.specs.Owners.{plain_owner, owners_of, owners_in}
 use Rattle.tx_session.specs.Acting.{with_step, MayTake, MayChange, MaySettle, HasSettled, HasStepped, HasTaken}

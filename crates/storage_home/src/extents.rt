@@ -25,9 +25,6 @@ pub type Extent = BTreeMap<u64, Block>;
 /// The greatest number of a block.
 const LAST: u64 = u64::MAX / WIDTH;
 
-// Among so many blocks one is soon found by a search.
-const FEW: usize = 4;
-
 /// Enters a serial of a home, whose object may come. One that is there stays there.
 pub fn enter_in(extents: &mut [Extent], home: HomeNo, serial: u64) -> Result<(), NoMemory>
     requires some { 1 ≤ home.0 }
@@ -100,14 +97,11 @@ fn enter(extent: &mut Extent, serial: u64) -> Result<(), NoMemory>
     }
 }
 
-// Whether the last block of many has this number. Serials are given one after the other, so that a new one is of the last block as
-// a rule, which is reached without a search; among a few a search takes no longer.
+// Whether the last block has this number. Serials are given one after the other, so that a new one is of the last block as a
+// rule, which is reached without a search.
 fn ends_with(extent: &Extent, number: u64) -> bool
     ensures { result ≡ true → last_number extent.now ≡ Some number }
 {
-    if extent.len() <= FEW {
-        return false;
-    }
     match extent.last_key_value() {
         Some((last, _)) => *last == number,
         None => false,

@@ -18,7 +18,7 @@ use Rattle.pss_catalog.specs.Catalog.{Object, Catalog, EachObject, object_spelli
 use Rattle.pss_catalog.specs.Changes.{Change as Step}
 use Rattle.storage_home.specs.declared.change.Change.{Change}
 use Rattle.storage_home.specs.Applied.{IsState, AreKeysOf, IsChange, AreChanges}
-use Rattle.storage_home.specs.Keys.{IsOnce}
+use Rattle.storage_home.specs.Indexes.{IsOnce}
 use Rattle.pss_machine.specs.Changes.{Changes, change_of, listed}
 use Rattle.pss_machine.proofs.Found.{first, second}
 use Rattle.pss_machine.specs.Homes.{keys_at}

@@ -20,8 +20,7 @@ use Rattle.pss_machine.specs.Alone.{is_taken, first_taken}
 use Rattle.pss_laws.proofs.Listing.{no_others}
 use Rattle.pss_laws.proofs.Logic.{and_left, and_right}
 use Rattle.owner_view.specs.Keyed.{Pair, keyed, all_keyed, keys_of}
-use Rattle.storage_home.specs.Keys.{lists}
-use Rattle.owner_view.specs.Indexes.{Indexes, found_at, is_key_reserved, TurnsFound, MayPut}
+use Rattle.storage_home.specs.Indexes.{Indexes, found_at, is_key_reserved, lists, TurnsFound, MayPut}
 use Rattle.owner_view.specs.Overlay.{HasHolders}
 use Rattle.owner_view.specs.Views.{seen_with, IsOwnHolder}
 use Rattle.owner_view.proofs.Owning.{own_seen, not_held, contrary, lists_keyed}

@@ -3,7 +3,6 @@ pub mod Holding
 pub mod Numbers
 pub mod Showing
 pub mod Tests
-pub mod Indexing
 pub mod Stating
 pub mod Owning
 pub mod Freeing

@@ -7,7 +7,7 @@ use Rattle.type_layout.specs.Schemas.{given}
 use Rattle.pss_catalog.specs.Catalog.{Object}
 use Rattle.pss_machine.specs.Changes.{Changes}
 use Rattle.owner_view.specs.declared.owned.Owned.{Owned}
-use Rattle.owner_view.specs.Indexes.{index_at, found_at, KeepsFound}
+use Rattle.storage_home.specs.Indexes.{index_at, found_at, KeepsFound}
 use Rattle.owner_view.specs.Overlay.{indexes_in}
 use Rattle.owner_view.specs.Owned.{changed_by, IsCounted, IsUnder, IsSame}
 use Rattle.owner_view.specs.Views.{IsOwnHolder}

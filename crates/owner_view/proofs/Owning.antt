@@ -19,8 +19,7 @@ use Rattle.pss_catalog.proofs.Listing.{tie}
 use Rattle.pss_machine.specs.Changes.{Changes}
 use Rattle.pss_machine.specs.Homes.{keys_at}
 use Rattle.owner_view.specs.Keyed.{keyed, all_keyed, keys_of}
-use Rattle.storage_home.specs.Keys.{lists}
-use Rattle.owner_view.specs.Indexes.{Indexes, found_at}
+use Rattle.storage_home.specs.Indexes.{Indexes, found_at, lists}
 use Rattle.owner_view.specs.Overlay.{HasHolders, FoundAfter}
 use Rattle.owner_view.specs.Views.{seen_with, IsOwnHolder}
 use Rattle.owner_view.proofs.Holding.{seen_at}

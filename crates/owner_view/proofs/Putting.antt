@@ -10,8 +10,7 @@ use Rattle.owner_view.specs.declared.owned.Owned.{Owned}
 use Rattle.owner_view.specs.declared.states.Slot.{Slot}
 use Rattle.owner_view.specs.declared.states.Slot.TheVariants as slot
 use Rattle.owner_view.specs.declared.step.Put.{Put}
-use Rattle.storage_home.specs.Keys.{lists}
-use Rattle.owner_view.specs.Indexes.{Indexes, TurnsFound, KeepsKeysReserved, MayPut}
+use Rattle.storage_home.specs.Indexes.{Indexes, lists, TurnsFound, KeepsKeysReserved, MayPut}
 use Rattle.owner_view.specs.Keyed.{Pair, keys_of}
 use Rattle.owner_view.specs.Overlay.{changes_in, indexes_in, FoundAfter, HasHolders}
 use Rattle.owner_view.specs.Owned.{MayPutIn}

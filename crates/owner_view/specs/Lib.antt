@@ -3,7 +3,6 @@ pub mod Seen
 pub mod Keyed
 pub mod Net
 pub mod States
-pub mod Indexes
 pub mod Overlay
 pub mod Stored
 pub mod Refusal

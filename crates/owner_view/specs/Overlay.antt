@@ -5,8 +5,7 @@ use Rattle.type_layout.specs.declared.schema.Schema.{Schema}
 use Rattle.pss_machine.specs.Changes.{Changes}
 use Rattle.owner_view.specs.declared.overlay.Overlay.{Overlay}
 use Rattle.owner_view.specs.States.{slot_at, changes_of}
-use Rattle.storage_home.specs.Keys.{lists}
-use Rattle.owner_view.specs.Indexes.{Indexes, found_at, is_key_reserved}
+use Rattle.storage_home.specs.Indexes.{Indexes, found_at, is_key_reserved, lists}
 use Rattle.owner_view.specs.Keyed.{Pair}
 use Rattle.owner_view.specs.Views.{IsOwnHolder}
 

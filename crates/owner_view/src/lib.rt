@@ -15,7 +15,6 @@ mod extent;
 mod first;
 mod follow;
 mod gone;
-mod indexes;
 mod keyed;
 mod needs;
 mod net;

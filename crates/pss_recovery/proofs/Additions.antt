@@ -3,7 +3,6 @@ use Rattle.std.proofs.Common.{ℕ, zero, suc, ◌≡◌, ◌⊎◌, inl, inr, �
 use Rattle.std.specs.List.{slice_get}
 use Rattle.std.specs.FinMap.{get, insert}
 use Rattle.pss_base.specs.declared.put.Put.{Put}
-use Rattle.type_layout.specs.declared.key.Key.{Key}
 use Rattle.type_layout.specs.declared.key.KeyNo.{KeyNo}
 use Rattle.type_layout.specs.declared.schema.Schema.{Schema}
 use Rattle.type_layout.specs.declared.schema.Home.{Home}
@@ -12,12 +11,10 @@ use Rattle.pss_catalog.specs.Catalog.{Catalog, IsUnique, Object, holds, total, w
 use Rattle.pss_catalog.specs.Changes.{over}
 use Rattle.storage_home.specs.declared.change.Change.{Change}
 use Rattle.storage_home.specs.declared.homes.Homes.{Homes}
-use Rattle.storage_home.specs.Applied.{AreKeysNamed, AreKeysOf, AreNamed, AreReserved, IsNamed, IsState, MayApply}
-use Rattle.storage_home.specs.Keys.{AreThere}
+use Rattle.storage_home.specs.Applied.{AreKeysOf, AreNamed, AreReserved, IsNamed, IsState, MayApply}
 use Rattle.storage_home.specs.Kept.{IsKept, most}
 use Rattle.storage_home.proofs.Keeping.{come, others, same_or_not, sum_with}
 use Rattle.storage_home.proofs.Naming.{placed}
-use Rattle.storage_home.proofs.Taking.{keys_there}
 use Rattle.pss_recovery.specs.Loading.{IsFree}
 use Rattle.pss_recovery.specs.inner.Adding.{IsAddable, MayAdd, MayCome, MayMake, addition}
 use Rattle.pss_recovery.specs.Bodies.{record_octets}
@@ -37,19 +34,6 @@ module _ (S : Schema) (M : Catalog) (s : ℕ) (object : Object) (free : IsFree S
       ⊎_elim (λ q. absurd (free key bytes a x p holds_x (subst (λ (o : Object). IsTrue (holds S key bytes o)) q.1 holds_y)))
       (λ q. unique key bytes a b x y p q holds_x holds_y) (there b y at_b)) (there a x at_a)
 
-some_within : (keys : List Key) (k : ℕ) → k < length keys → IsSome (slice_get keys k)
-some_within [] k lt = absurd (omega (arith, lt))
-some_within (key ∷ keys) zero lt = refl
-some_within (key ∷ keys) (suc k) lt = some_within keys k (omega (arith, lt))
-
-module _ (S : Schema) (M : Catalog) (homes : Homes) (kept : IsKept S M homes) where
-  named : (pairs : List (KeyNo × List ℕ)) → AreThere homes.keys.items pairs → AreKeysNamed S pairs
-  named [] there_ = tt
-  named (pair ∷ pairs) there_ = (some_within S.keys pair.0.0 (subst (λ (n : ℕ). pair.0.0 < n) kept.keys_size there_.0), named pairs there_.1)
-
-  pub keys_named : (object : Object) (pairs : List (KeyNo × List ℕ)) → AreKeysOf S (Some object) pairs → AreKeysNamed S pairs
-  keys_named object pairs keys = named pairs (keys_there S M homes kept (Some object) pairs keys)
-
 some_home : (homes : List Home) (h : ℕ) → 1 ≤ h → h ≤ length homes → IsSome (nth homes h)
 some_home homes zero some few = absurd (omega (arith, some))
 some_home homes (suc h) some few = within homes h (omega (arith, few))
@@ -62,11 +46,7 @@ some_home homes (suc h) some few = within homes h (omega (arith, few))
 -- what is named in one schema of homes is named in each
 module _ (S T : Schema) (M N : Catalog) (homes : Homes) (kept : IsKept S M homes) (other : IsKept T N homes) where
   named_too : (change : Change) → IsNamed S change → IsNamed T change
-  named_too change named_ =
-      let at = placed S M homes kept change named_ in (
-        (λ some. some_home T.homes change.put.home (at.0 some).0 (subst (λ (n : ℕ). change.put.home ≤ n) other.extents_size (at.0 some).1)),
-        named T N homes other change.new_keys at.1,
-      )
+  named_too change named_ some = let at = placed S M homes kept change named_ some in some_home T.homes change.put.home at.0 (subst (λ (n : ℕ). change.put.home ≤ n) other.extents_size at.1)
 
   pub all_named_too : (changes : List Change) → AreNamed S changes → AreNamed T changes
   all_named_too [] named_ = tt
@@ -86,7 +66,7 @@ may_make homes row keys m = record {
   catalog = m.catalog;
   steps = record { serial = row.serial; state = Some m.object } ∷ [];
   kept = m.kept;
-  named = (((λ some. home_there m.schema row m.object m.stored), keys_named m.schema m.catalog homes m.kept m.object keys m.keys_), tt);
+  named = ((λ some. home_there m.schema row m.object m.stored), tt);
   are = (record { step_is = (refl, m.stored); old_keys = subst (λ (o : Option Object). AreKeysOf m.schema o []) (sym m.none) (record { listed = λ key bytes. refl; once = tt }); new_keys = m.keys_ }, tt);
   unique = unique_with m.schema m.catalog row.serial m.object m.free m.unique;
   bounded = omega (arith, m.bounded, sum_with m.schema m.catalog row.serial m.object m.none);

@@ -2,13 +2,12 @@
 use Rattle.std.proofs.Common.{ℕ, ◌≡◌, ◌+◌, ◌≤◌, List, [], ◌∷◌, ◌++◌, Option, None, Some, IsSome, refl, sym, ap, ◌∙◌, subst, arith, append_assoc, append-nil}
 use Rattle.pss_base.specs.declared.put.Put.{Put}
 use Rattle.std.specs.FinMap.{get}
-use Rattle.type_layout.specs.declared.key.KeyNo.{KeyNo}
 use Rattle.type_layout.specs.declared.schema.Schema.{Schema}
 use Rattle.pss_catalog.specs.Catalog.{Catalog, IsUnique, Object, total}
 use Rattle.pss_catalog.specs.Changes.{Change as Step, over}
 use Rattle.storage_home.specs.declared.change.Change.{Change}
 use Rattle.storage_home.specs.declared.homes.Homes.{Homes}
-use Rattle.storage_home.specs.Applied.{AreChanges, AreKeysNamed, AreKeysOf, AreNamed, IsChange, IsNamed, IsState}
+use Rattle.storage_home.specs.Applied.{AreChanges, AreKeysOf, AreNamed, IsChange, IsNamed, IsState, IsStep}
 use Rattle.storage_home.specs.Changes.{least_next}
 use Rattle.storage_home.specs.Kept.{IsKept}
 use Rattle.pss_recovery.specs.Loading.{most_octets}
@@ -17,9 +16,8 @@ use Rattle.pss_recovery.specs.declared.body.Body.{Body}
 use Rattle.pss_recovery.specs.inner.Adding.{MayMake}
 use Rattle.pss_recovery.specs.inner.Altering.{HasNewKeys, HasState, IsKeptSound, MayAlter}
 use Rattle.pss_recovery.specs.inner.Remaking.{AreApplied, AreJoined, IsMadeOf, IsOrdered, MakeSteps, MakesStep, StaysWithin}
-use Rattle.pss_recovery.proofs.Additions.{home_there, keys_named}
+use Rattle.pss_recovery.proofs.Additions.{home_there}
 use Rattle.pss_recovery.proofs.Rows.{one_object}
-use Rattle.pss_recovery.proofs.Takers.{none_listed}
 
 abbrev pub kept_sound : (S : Schema) (M : Catalog) (homes : Homes) → IsKept S M homes → IsKeptSound S M homes
 kept_sound S M homes kept = record { kept = kept; sound = kept.each }
@@ -126,28 +124,25 @@ pub all_joined : (S : Schema) (homes : Homes) (next : ℕ) (all rest : List Put)
 all_joined S homes next all rest changes none so_far M kept =
     subst (λ (l : List Put). MakeSteps S M next l changes) (sym (append-nil so_far.front) ∙ ap (λ l. so_far.front ++ l) (sym none) ∙ so_far.split) (so_far.made M kept)
 
--- ---- their homes and keys are those of the schema
+-- ---- their homes are those of the schema
 
-module _ (S : Schema) (M : Catalog) (homes : Homes) (kept : IsKept S M homes) where
-  is_named : (O : Catalog) (change : Change) (step : Step) → IsChange S O change step → IsNamed S change
-  is_named O change step is = by step.state is.step_is.1 is.new_keys
+module _ (S : Schema) (M : Catalog) where
+  is_named : (change : Change) (step : Step) → IsStep S change.put step → IsNamed S change
+  is_named change step is = by step.state is.1
     where
-      by : (state : Option Object) → IsState S change.put.home change.put.bytes state → AreKeysOf S state change.new_keys → IsNamed S change
-      by (Some x) told keys = ((λ some. home_there S change.put x told), keys_named S M homes kept x change.new_keys keys)
-      by None told keys = ((λ some. absurd (removed change.put.bytes told some)), no_keys_named change.new_keys keys)
+      by : (state : Option Object) → IsState S change.put.home change.put.bytes state → IsNamed S change
+      by (Some x) told some = home_there S change.put x told
+      by None told some = absurd (removed change.put.bytes told some)
         where
           removed : (bytes : Option (List ℕ)) → IsState S change.put.home bytes None → IsSome bytes → ⊥
           removed None told some = cc
           removed (Some octets) told some = told
 
-          no_keys_named : (pairs : List (KeyNo × List ℕ)) → AreKeysOf S None pairs → AreKeysNamed S pairs
-          no_keys_named pairs keys = subst (AreKeysNamed S) (sym (none_listed pairs keys.listed)) tt
-
   pub are_named : (changes : List Change) (steps : List Step) → AreChanges S M changes steps → AreNamed S changes
   are_named [] [] are = tt
   are_named [] (d ∷ ds) are = absurd are
   are_named (c ∷ cs) [] are = absurd are
-  are_named (c ∷ cs) (d ∷ ds) are = (is_named M c d are.0, are_named cs ds are.1)
+  are_named (c ∷ cs) (d ∷ ds) are = (is_named c d are.0.step_is, are_named cs ds are.1)
 
 -- what stays within its limits may be made
 abbrev pub may_make_all : (S : Schema) (M : Catalog) (homes : Homes) (changes : List Change) (steps : List Step) → IsKept S M homes → AreChanges S M changes steps → StaysWithin S M steps → MayMake homes changes
@@ -156,7 +151,7 @@ may_make_all S M homes changes steps kept are within = record {
   catalog = M;
   steps = steps;
   kept = kept;
-  named = are_named S M homes kept changes steps are;
+  named = are_named S M changes steps are;
   are = are;
   unique = within.unique;
   bounded = omega (arith, within.bounded);

@@ -14,7 +14,7 @@ use Rattle.type_layout.specs.declared.schema.Schema.{Schema}
 use Rattle.pss_catalog.specs.Catalog.{Catalog}
 use Rattle.key_index.specs.Index.{Index}
 use Rattle.storage_home.specs.declared.change.Change.{Change}
-use Rattle.storage_home.specs.Keys.{is_pair, lists}
+use Rattle.storage_home.specs.Indexes.{is_pair, lists}
 use Rattle.storage_home.proofs.Holding.{held_with, reserved_with}
 use Rattle.storage_home.proofs.Places.{by_test, same_number}
 use Rattle.pss_recovery.specs.inner.Claims.{Agrees, IsOpen, Keys, is_in, releases, tagged, with_pairs}

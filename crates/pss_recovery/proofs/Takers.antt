@@ -16,7 +16,7 @@ use Rattle.storage_home.specs.declared.homes.Homes.{Homes}
 use Rattle.storage_home.specs.Applied.{AreChanges, AreKeysOf, IsNew}
 use Rattle.storage_home.specs.Changes.{Rises}
 use Rattle.storage_home.specs.Kept.{IsKept}
-use Rattle.storage_home.specs.Keys.{is_pair, lists}
+use Rattle.storage_home.specs.Indexes.{is_pair, lists}
 use Rattle.storage_home.specs.inner.Steps.{AreFresh, bare}
 use Rattle.storage_home.proofs.Keeping.{come, others, same_or_not, stays, was_there, without_none}
 use Rattle.storage_home.proofs.Places.{by_test}
@@ -48,7 +48,7 @@ all_listed whole (pair ∷ pairs) in_ = (
   all_listed whole pairs (λ key bytes e. in_ key bytes (or_true (is_pair pair key bytes) (lists pairs key bytes) e)),
 )
 
-pub none_listed : (pairs : List (KeyNo × List ℕ)) → ((key : KeyNo) (bytes : List ℕ) → lists pairs key.0 bytes ≡ false) → pairs ≡ []
+none_listed : (pairs : List (KeyNo × List ℕ)) → ((key : KeyNo) (bytes : List ℕ) → lists pairs key.0 bytes ≡ false) → pairs ≡ []
 none_listed [] none = refl
 none_listed (pair ∷ pairs) none = absurd (false≢true (sym (none pair.0 pair.1) ∙ ap (λ b. b || lists pairs pair.0.0 pair.1) (listed_self pair)))
 

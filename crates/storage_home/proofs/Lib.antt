@@ -6,6 +6,7 @@ pub mod Marking
 pub mod Nexts
 pub mod Raising
 pub mod Holding
+pub mod Indexing
 pub mod Entering
 pub mod Descending
 pub mod Keeping

@@ -17,12 +17,12 @@ use Rattle.storage_home.specs.declared.rows.Stored.{Stored}
 use Rattle.storage_home.specs.Rows.{object_at}
 use Rattle.storage_home.specs.Extents.{is_held_in}
 use Rattle.storage_home.specs.Counts.{bases_in, number_at}
-use Rattle.storage_home.specs.Keys.{found_at, AreThere, AreKeysReserved}
+use Rattle.storage_home.specs.Indexes.{found_at, AreKeysReserved}
 use Rattle.storage_home.specs.Kept.{most, IsSound, IsKept, IsReserved, stored, is_of, is_object_of}
 use Rattle.storage_home.specs.Applied.{IsState, AreKeysOf, AreRows, MayLoad}
 use Rattle.storage_home.specs.inner.Steps.{AreApart, AreFresh, MayPutObject, MayLoadOne, MayLoadAll, SpellsObject, object_of}
 use Rattle.storage_home.proofs.Places.{no_items}
-use Rattle.storage_home.proofs.Taking.{some_there, keys_there}
+use Rattle.storage_home.proofs.Taking.{some_there}
 use Rattle.storage_home.proofs.Stepping.{NoneAt, fresh_where_none, grows_heavier, unique_before}
 
 -- ---- nothing
@@ -44,8 +44,8 @@ pub nothing_kept :
     (S : Schema) → IsSoundSchema S → (homes : Parts) → homes.families ≡ bases_of S → homes.rows.chunks.entries ≡ [] → homes.total ≡ 0 → homes.objects ≡ 0
     → ((h s : ℕ) → is_held_in homes.extents.items h s ≡ false) → length homes.extents.items ≡ length S.homes
     → homes.counts.items ≡ map (λ home. record { base = base_number home.base; objects = 0 }) S.homes
-    → ((key : ℕ) (bytes : List ℕ) → found_at homes.keys.items key bytes ≡ None) → length homes.keys.items ≡ length S.keys → IsKept S empty homes
-nothing_kept S sound homes families rows sum_is number held size counts found as_many = record {
+    → ((key : ℕ) (bytes : List ℕ) → found_at homes.keys.entries key bytes ≡ None) → IsKept S empty homes
+nothing_kept S sound homes families rows sum_is number held size counts found = record {
   sound = sound;
   each = λ s x at. absurd (let no : None ≡ Some x = sym (get-empty nat_cmp s) ∙ at in cc);
   families = families;
@@ -58,7 +58,6 @@ nothing_kept S sound homes families rows sum_is number held size counts found as
   counts = λ home. ap (λ l. number_at l home.0) counts ∙ starting_number S.homes home.0 ∙ ap (λ es. length (map pid_of (filter (λ e. is_of S home e.1) es))) (sym no_entries);
   bases = ap bases_in counts ∙ starting_bases S.homes;
   keys = λ key bytes s. (λ at. absurd (let no : None ≡ Some s = sym (found key.0 bytes) ∙ at in cc), λ holder. absurd (let no : None ≡ Some holder.0 = sym (get-empty nat_cmp s) ∙ holder.1 in cc));
-  keys_size = as_many;
 }
 
 -- ---- one row
@@ -198,10 +197,7 @@ module _ (S : Schema) (homes : Parts) (serial : ℕ) (row : Stored) (m : MayLoad
   pub loaded_home : row.home.0 ≤ length homes.extents.items
   loaded_home = subst (λ (r : Stored). r.home.0 ≤ length homes.extents.items) (sym m.is) (subst (λ (n : ℕ). m.object.home.0 ≤ n) (sym m.kept.extents_size) (some_there S.homes m.object.home.0 m.is_sound.0).1)
 
-  pub loaded_keys_there : (new : Parts) → IsKept S m.catalog new → (pairs : List (KeyNo × List ℕ)) → AreKeysOf S (Some m.object) pairs → AreThere new.keys.items pairs
-  loaded_keys_there new kept pairs keys = keys_there S m.catalog new kept (Some m.object) pairs keys
-
-  abbrev pub may_put_loaded : (new : Parts) → IsKept S m.catalog new → (pairs : List (KeyNo × List ℕ)) → AreKeysOf S (Some m.object) pairs → IsReserved new m.object.home serial → AreKeysReserved new.keys.items pairs → MayPutObject new serial row pairs
+  abbrev pub may_put_loaded : (new : Parts) → IsKept S m.catalog new → (pairs : List (KeyNo × List ℕ)) → AreKeysOf S (Some m.object) pairs → IsReserved new m.object.home serial → AreKeysReserved new.keys.entries pairs → MayPutObject new serial row pairs
   may_put_loaded new kept pairs keys reserved keys_reserved = record {
     schema = S;
     catalog = m.catalog;

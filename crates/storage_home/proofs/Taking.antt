@@ -1,13 +1,12 @@
 -- An object is taken out of what is kept, or put.
-use Rattle.std.proofs.Common.{ℕ, zero, suc, ◌+◌, ◌-◌, ◌/◌, ◌%◌, ◌≡◌, ◌<◌, ◌≤◌, ◌==◌, ◌⊎◌, List, [], ◌∷◌, length, Option, Some, None, Bool, true, false, inl, inr, cond, refl, sym, ap, subst, ◌∙◌, arith, IsSome, eq-eqb}
-use Rattle.std.specs.Prelude.{◌&&◌, ◌||◌, nat_le}
+use Rattle.std.proofs.Common.{ℕ, zero, suc, ◌+◌, ◌-◌, ◌/◌, ◌%◌, ◌≡◌, ◌<◌, ◌≤◌, ◌⊎◌, List, [], ◌∷◌, length, Option, Some, None, Bool, true, false, inl, inr, cond, refl, sym, ap, subst, ◌∙◌, arith, IsSome, eq-eqb}
+use Rattle.std.specs.Prelude.{◌&&◌, ◌||◌}
 use Rattle.std.specs.Option.{option_map}
-use Rattle.std.specs.List.{slice_get, list_all, list_any}
+use Rattle.std.specs.List.{slice_get}
 use Rattle.std.specs.declared.vec.Vec.{Vec}
 use Rattle.std.specs.Vec.{with_items}
 use Rattle.std.proofs.lemmas.List.{with_items_is}
 use Rattle.std.proofs.lemmas.Slice.Eq.{bytes_eq-Decides}
-use Rattle.type_layout.specs.declared.schema.Home.{Home}
 use Rattle.std.specs.Str.{bytes_eq}
 use Rattle.std.specs.FinMap.{get, insert, remove}
 use Rattle.std.specs.BTreeMap.{BTreeMap}
@@ -15,7 +14,7 @@ use Rattle.std.proofs.lemmas.Option.{slice_get_within}
 use Rattle.std.proofs.lemmas.List.{length-map}
 use Rattle.type_layout.specs.declared.key.KeyNo.{KeyNo}
 use Rattle.type_layout.specs.declared.schema.Schema.{Schema}
-use Rattle.type_layout.specs.Schemas.{given, nth, home_at, has_key}
+use Rattle.type_layout.specs.Schemas.{given, nth, home_at}
 use Rattle.pss_catalog.specs.Catalog.{Object, Catalog, holds, weight, total, IsUnique}
 use Rattle.storage_home.specs.declared.rows.Stored.{Stored}
 use Rattle.storage_home.specs.declared.parts.Parts.{Parts}
@@ -24,11 +23,11 @@ use Rattle.storage_home.specs.declared.extents.Block.{Block}
 use Rattle.storage_home.specs.Blocks.{block_at}
 use Rattle.storage_home.specs.Extents.{is_held_at, is_entered_at, is_held_in, is_entered_in, TurnsHeldIn, KeepsHeldIn}
 use Rattle.storage_home.specs.Counts.{bases_in, number_at, AreLower, AreRaised, comes}
-use Rattle.storage_home.specs.Keys.{found_at, is_key_reserved, lists, is_pair, TurnsFound, AreThere, MayPut, IsOnce, AreKeysReserved, KeepsFound}
+use Rattle.storage_home.specs.Indexes.{found_at, is_key_reserved, lists, is_pair, TurnsFound, MayPut, IsOnce, AreKeysReserved, KeepsFound}
 use Rattle.storage_home.specs.Kept.{most, IsSound, IsKept, stored, is_of, is_object_of}
 use Rattle.storage_home.specs.Applied.{AreKeysOf}
 use Rattle.storage_home.specs.inner.Steps.{MayPutObject}
-use Rattle.storage_home.proofs.Places.{by_test, same_number}
+use Rattle.storage_home.proofs.Places.{by_test}
 use Rattle.storage_home.proofs.Marking.{held_enters}
 use Rattle.storage_home.proofs.Descending.{lower_bases, as_many_bases, comes_is}
 use Rattle.storage_home.proofs.Keeping.{was_there, come, others, same_or_not, passing_without, passing_with, number_without, number_with, sum_without, sum_with, fewer, fewer_pass}
@@ -103,9 +102,9 @@ module _ (S : Schema) (M : Catalog) (homes : Parts) (kept : IsKept S M homes) wh
         → new.total ≡ homes.total - weight S object → new.objects ≡ homes.objects - 1
         → TurnsHeldIn homes.extents.items new.extents.items object.home.0 s false → length new.extents.items ≡ length homes.extents.items
         → AreRaised new.counts.items homes.counts.items object.home.0 → bases_in new.counts.items ≡ bases_in homes.counts.items
-        → TurnsFound homes.keys.items new.keys.items pairs None → length new.keys.items ≡ length homes.keys.items
+        → TurnsFound homes.keys.entries new.keys.entries pairs None
         → IsKept S (remove M s) new
-    kept_without new pairs keys families rows sum number held size counted bases found as_many = record {
+    kept_without new pairs keys families rows sum number held size counted bases found = record {
       sound = kept.sound;
       each = λ t x found. kept.each t x (was_there M s t x found).0;
       families = families ∙ kept.families;
@@ -122,8 +121,7 @@ module _ (S : Schema) (M : Catalog) (homes : Parts) (kept : IsKept S M homes) wh
           let one_is = ap (λ b. comes b object.home.0 home.0) bases ∙ comes_one object (kept.each s object is).0 home.0 in
           omega (arith, before, less, change, one_is));
       bases = bases ∙ kept.bases;
-      keys = keys_without S M s object is pairs keys.listed _ new.keys.items kept.keys found;
-      keys_size = as_many ∙ kept.keys_size;
+      keys = keys_without S M s object is pairs keys.listed _ new.keys.entries kept.keys found;
     }
 
   -- ---- putting
@@ -154,9 +152,9 @@ module _ (S : Schema) (M : Catalog) (homes : Parts) (kept : IsKept S M homes) wh
         → new.total ≡ homes.total + weight S object → new.objects ≡ homes.objects + 1
         → TurnsHeldIn homes.extents.items new.extents.items object.home.0 s true → length new.extents.items ≡ length homes.extents.items
         → AreRaised homes.counts.items new.counts.items object.home.0 → bases_in new.counts.items ≡ bases_in homes.counts.items
-        → TurnsFound homes.keys.items new.keys.items pairs (Some s) → length new.keys.items ≡ length homes.keys.items
+        → TurnsFound homes.keys.entries new.keys.entries pairs (Some s)
         → IsKept S (insert M s object) new
-    kept_with new pairs keys unique families rows sum number held size counted bases found as_many = record {
+    kept_with new pairs keys unique families rows sum number held size counted bases found = record {
       sound = kept.sound;
       each = λ t x found. by t x found (same_or_not t s);
       families = families ∙ kept.families;
@@ -173,8 +171,7 @@ module _ (S : Schema) (M : Catalog) (homes : Parts) (kept : IsKept S M homes) wh
           let one_is = comes_one object is_sound.0 home.0 in
           omega (arith, before, more, change, one_is));
       bases = bases ∙ kept.bases;
-      keys = keys_with S M s object none unique pairs keys.listed _ new.keys.items kept.keys found;
-      keys_size = as_many ∙ kept.keys_size;
+      keys = keys_with S M s object none unique pairs keys.listed _ new.keys.entries kept.keys found;
     }
       where
         by : (t : ℕ) (x : Object) → get (insert M s object) t ≡ Some x → (t ≡ s) ⊎ (t ≡ s → ⊥) → IsSound S x
@@ -200,54 +197,25 @@ listed_first pair pairs = ap (λ b. b || lists pairs pair.0.0 pair.1) (pair_same
 listed_more : (pair : KeyNo × List ℕ) (pairs : List (KeyNo × List ℕ)) (key : ℕ) (bytes : List ℕ) → lists pairs key bytes ≡ true → lists (pair ∷ pairs) key bytes ≡ true
 listed_more pair pairs key bytes more = by_test (λ b. (b || lists pairs key bytes) ≡ true) (is_pair pair key bytes) (λ _. refl) (λ _. more)
 
-key_within : (n k : ℕ) (keys : List KeyNo) → list_all (λ j. nat_le (j.0 + 1) n) keys ≡ true → list_any (λ j. j.0 == k) keys ≡ true → k < n
-key_within n k [] all any = cc
-key_within n k (j ∷ js) all any =
-    by_test (λ b. (j.0 == k) ≡ b → (b || list_any (λ x. x.0 == k) js) ≡ true → k < n) (j.0 == k)
-    (λ _ same _. let le = and_left (nat_le (j.0 + 1) n) _ all in let is = same_number j.0 k same in let l : j.0 + 1 ≤ n = grind (arith, le) in omega (arith, l, is))
-    (λ _ _ more. key_within n k js (and_right (nat_le (j.0 + 1) n) _ all) more)
-    refl any
-
 module _ (S : Schema) (M : Catalog) (homes : Parts) (kept : IsKept S M homes) where
-  -- a key that an object holds has its index
-  pub key_there : (object : Object) (key : KeyNo) (bytes : List ℕ) → holds S key bytes object ≡ true → key.0 < length homes.keys.items
-  key_there object key bytes held =
-      subst (λ (n : ℕ). key.0 < n) (sym kept.keys_size) (by (home_at S object.home) refl (and_left _ _ held))
-    where
-      by : (o : Option Home) → home_at S object.home ≡ o → given o false (λ home. has_key home key) ≡ true → key.0 < length S.keys
-      by None is has = cc
-      by (Some home) is has = key_within (length S.keys) key.0 home.keys (kept.sound.keys_there object.home home is) has
-
-  there_each : (object : Object) (all : List (KeyNo × List ℕ)) → ((key : KeyNo) (bytes : List ℕ) → lists all key.0 bytes ≡ true → holds S key bytes object ≡ true) → AreThere homes.keys.items all
-  there_each object [] held = tt
-  there_each object (pair ∷ pairs) held = (
-    key_there object pair.0 pair.1 (held pair.0 pair.1 (listed_first pair pairs)),
-    there_each object pairs (λ key bytes more. held key bytes (listed_more pair pairs key.0 bytes more)),
-  )
-
-  pub keys_there : (object : Option Object) (pairs : List (KeyNo × List ℕ)) → AreKeysOf S object pairs → AreThere homes.keys.items pairs
-  keys_there None [] keys = tt
-  keys_there None (pair ∷ pairs) keys = let no = sym (listed_first pair pairs) ∙ keys.listed pair.0 pair.1 in cc
-  keys_there (Some object) pairs keys = there_each object pairs (λ key bytes has. sym (keys.listed key bytes) ∙ has)
-
   module _ (s : ℕ) (object : Object) (none : get M s ≡ None) (unique : IsUnique S (insert M s object)) where
-    free : (key : KeyNo) (bytes : List ℕ) → holds S key bytes object ≡ true → found_at homes.keys.items key.0 bytes ≡ None
-    free key bytes held = by (found_at homes.keys.items key.0 bytes) refl
+    free : (key : KeyNo) (bytes : List ℕ) → holds S key bytes object ≡ true → found_at homes.keys.entries key.0 bytes ≡ None
+    free key bytes held = by (found_at homes.keys.entries key.0 bytes) refl
       where
-        by : (o : Option ℕ) → found_at homes.keys.items key.0 bytes ≡ o → found_at homes.keys.items key.0 bytes ≡ None
+        by : (o : Option ℕ) → found_at homes.keys.entries key.0 bytes ≡ o → found_at homes.keys.entries key.0 bytes ≡ None
         by None is = is
         by (Some t) is =
             let holder = (kept.keys key bytes t).0 is in
             let other : t ≡ s → ⊥ = λ same. (let one : Some holder.0 ≡ None = sym holder.1 ∙ ap (λ (k : ℕ). get M k) same ∙ none in cc) in
             absurd (other (unique key bytes t s holder.0 object (others M s object t other ∙ holder.1) (come M s object s refl) holder.2 held))
 
-    may_each : (pairs : List (KeyNo × List ℕ)) → IsOnce pairs → ((key : KeyNo) (bytes : List ℕ) → lists pairs key.0 bytes ≡ true → (holds S key bytes object ≡ true) × (is_key_reserved homes.keys.items key.0 bytes ≡ true)) → MayPut homes.keys.items pairs
+    may_each : (pairs : List (KeyNo × List ℕ)) → IsOnce pairs → ((key : KeyNo) (bytes : List ℕ) → lists pairs key.0 bytes ≡ true → (holds S key bytes object ≡ true) × (is_key_reserved homes.keys.entries key.0 bytes ≡ true)) → MayPut homes.keys.entries pairs
     may_each [] once each = tt
     may_each (pair ∷ pairs) once each =
         let here = each pair.0 pair.1 (listed_first pair pairs) in
         (here.1, free pair.0 pair.1 here.0, once.0, may_each pairs once.1 (λ key bytes more. each key bytes (listed_more pair pairs key.0 bytes more)))
 
-    pub may_put_keys : (pairs : List (KeyNo × List ℕ)) → AreKeysOf S (Some object) pairs → AreKeysReserved homes.keys.items pairs → MayPut homes.keys.items pairs
+    pub may_put_keys : (pairs : List (KeyNo × List ℕ)) → AreKeysOf S (Some object) pairs → AreKeysReserved homes.keys.entries pairs → MayPut homes.keys.entries pairs
     may_put_keys pairs keys reserved = may_each pairs keys.once (λ key bytes has. (sym (keys.listed key bytes) ∙ has, reserved key.0 bytes has))
 
 -- ---- the object behind a row
@@ -276,13 +244,13 @@ module _ (S : Schema) (M : Catalog) (homes : Parts) (kept : IsKept S M homes) (s
       → new.total ≡ homes.total - (16 + length row.bytes) → new.objects ≡ homes.objects - 1
       → TurnsHeldIn homes.extents.items new.extents.items row.home.0 s false → length new.extents.items ≡ length homes.extents.items
       → AreRaised new.counts.items homes.counts.items row.home.0 → bases_in new.counts.items ≡ bases_in homes.counts.items
-      → TurnsFound homes.keys.items new.keys.items pairs None → length new.keys.items ≡ length homes.keys.items
+      → TurnsFound homes.keys.entries new.keys.entries pairs None
       → IsKept S (remove M s) new
-  row_without new pairs keys families rows sum number held size counted bases found as_many =
+  row_without new pairs keys families rows sum number held size counted bases found =
       kept_without S M homes kept s behind.0 behind.1 new pairs (subst (λ o. AreKeysOf S o pairs) behind.1 keys) families rows
       (sum ∙ ap (λ (r : Stored). homes.total - (16 + length r.bytes)) behind.2) number
       (subst (λ (r : Stored). TurnsHeldIn homes.extents.items new.extents.items r.home.0 s false) behind.2 held) size
-      (subst (λ (r : Stored). AreRaised new.counts.items homes.counts.items r.home.0) behind.2 counted) bases found as_many
+      (subst (λ (r : Stored). AreRaised new.counts.items homes.counts.items r.home.0) behind.2 counted) bases found
 
 -- ---- an object that is put
 
@@ -299,7 +267,7 @@ module _ (homes : Parts) (s : ℕ) (row : Stored) (pairs : List (KeyNo × List �
   pub row_counts_fit : (to : ℕ) → number_at homes.counts.items to + comes (bases_in homes.counts.items) row.home.0 to ≤ most
   row_counts_fit to = subst (λ (r : Stored). number_at homes.counts.items to + comes (bases_in homes.counts.items) r.home.0 to ≤ most) (sym may.is) (counts_fit may.schema may.catalog homes may.kept s may.object may.none may.is_sound may.bounded to)
 
-  pub may_put_row : MayPut homes.keys.items pairs
+  pub may_put_row : MayPut homes.keys.entries pairs
   may_put_row = may_put_keys may.schema may.catalog homes may.kept s may.object may.none may.unique pairs may.keys may.keys_reserved
 
   pub row_with :
@@ -307,14 +275,14 @@ module _ (homes : Parts) (s : ℕ) (row : Stored) (pairs : List (KeyNo × List �
       → new.total ≡ homes.total + (16 + length row.bytes) → new.objects ≡ homes.objects + 1
       → TurnsHeldIn homes.extents.items new.extents.items row.home.0 s true → length new.extents.items ≡ length homes.extents.items
       → AreRaised homes.counts.items new.counts.items row.home.0 → bases_in new.counts.items ≡ bases_in homes.counts.items
-      → TurnsFound homes.keys.items new.keys.items pairs (Some s) → length new.keys.items ≡ length homes.keys.items
+      → TurnsFound homes.keys.entries new.keys.entries pairs (Some s)
       → IsKept may.schema (insert may.catalog s may.object) new
-  row_with new families rows sum number held size counted bases found as_many =
+  row_with new families rows sum number held size counted bases found =
       kept_with may.schema may.catalog homes may.kept s may.object may.none may.is_sound may.bounded new pairs may.keys may.unique families
       (subst (λ (r : Stored). TurnsObject homes.rows.chunks.entries new.rows.chunks.entries s (Some r)) may.is rows)
       (sum ∙ ap (λ (r : Stored). homes.total + (16 + length r.bytes)) may.is) number
       (subst (λ (r : Stored). TurnsHeldIn homes.extents.items new.extents.items r.home.0 s true) may.is held) size
-      (subst (λ (r : Stored). AreRaised homes.counts.items new.counts.items r.home.0) may.is counted) bases found as_many
+      (subst (λ (r : Stored). AreRaised homes.counts.items new.counts.items r.home.0) may.is counted) bases found
 
 -- what was lent as a slice and came back as long
 pub lent_items : {X Z : Type 0} (v : Vec X Z) (old new : List X) → old ≡ v.items → length new ≡ length old → (with_items v new).items ≡ new
@@ -326,8 +294,8 @@ lent_items v old new is same = with_items_is v new (same ∙ ap length is ∙ sy
 pub kept_same :
     (S : Schema) (M : Catalog) (old new : Parts) → new.families ≡ old.families → KeepsObjects old.rows.chunks.entries new.rows.chunks.entries → new.total ≡ old.total → new.objects ≡ old.objects
     → KeepsHeldIn old.extents.items new.extents.items → length new.extents.items ≡ length old.extents.items → new.counts.items ≡ old.counts.items
-    → KeepsFound old.keys.items new.keys.items → length new.keys.items ≡ length old.keys.items → IsKept S M old → IsKept S M new
-kept_same S M old new families rows sum number held size counts found as_many kept = record {
+    → KeepsFound old.keys.entries new.keys.entries → IsKept S M old → IsKept S M new
+kept_same S M old new families rows sum number held size counts found kept = record {
   sound = kept.sound;
   each = kept.each;
   families = families ∙ kept.families;
@@ -340,5 +308,4 @@ kept_same S M old new families rows sum number held size counts found as_many ke
   counts = λ home. ap (λ l. number_at l home.0) counts ∙ kept.counts home;
   bases = ap bases_in counts ∙ kept.bases;
   keys = λ key bytes s. (λ at. (kept.keys key bytes s).0 (sym (found key.0 bytes) ∙ at), λ holder. found key.0 bytes ∙ (kept.keys key bytes s).1 holder);
-  keys_size = as_many ∙ kept.keys_size;
 }

@@ -5,12 +5,12 @@ use Rattle.pss_base.specs.declared.put.Put.{Put}
 use Rattle.type_layout.specs.declared.home.HomeNo.{HomeNo}
 use Rattle.type_layout.specs.declared.key.KeyNo.{KeyNo}
 use Rattle.type_layout.specs.declared.schema.Schema.{Schema}
-use Rattle.type_layout.specs.Schemas.{given, home_at, key_at}
+use Rattle.type_layout.specs.Schemas.{given, home_at}
 use Rattle.pss_catalog.specs.Catalog.{Object, Catalog, holds, object_spelling, total, IsUnique}
 use Rattle.pss_catalog.specs.Changes.{Change as Step, over}
 use Rattle.storage_home.specs.declared.change.Change.{Change}
 use Rattle.storage_home.specs.declared.parts.Parts.{Parts}
-use Rattle.storage_home.specs.Keys.{lists, AreKeysReserved, IsOnce}
+use Rattle.storage_home.specs.Indexes.{lists, AreKeysReserved, IsOnce}
 use Rattle.storage_home.specs.Kept.{most, IsSound, IsKept, IsReserved}
 
 -- ---- one change
@@ -45,7 +45,7 @@ AreChanges S M _ _ = ⊥
 
 -- the serial of a new record is reserved for its home, and the new keys are
 abbrev pub IsChangeReserved : Parts → Change → Type 0
-IsChangeReserved homes change = (IsSome change.put.bytes → IsReserved homes (record { 0 = change.put.home }) change.put.serial) × AreKeysReserved homes.keys.items change.new_keys
+IsChangeReserved homes change = (IsSome change.put.bytes → IsReserved homes (record { 0 = change.put.home }) change.put.serial) × AreKeysReserved homes.keys.entries change.new_keys
 
 abbrev pub AreReserved : Parts → List Change → Type 0
 AreReserved homes [] = Unit {0}
@@ -55,14 +55,9 @@ AreReserved homes (c ∷ cs) = IsChangeReserved homes c × AreReserved homes cs
 abbrev pub AllStay : Parts → Parts → Type 0
 AllStay old new = (home : HomeNo) (s : ℕ) → IsReserved old home s → IsReserved new home s
 
--- each of the keys is there
-abbrev pub AreKeysNamed : Schema → List (KeyNo × List ℕ) → Type 0
-AreKeysNamed S [] = Unit {0}
-AreKeysNamed S (pair ∷ pairs) = IsSome (key_at S pair.0) × AreKeysNamed S pairs
-
--- the home of a new record is there, and so are the new keys
+-- the home of a new record is there
 abbrev pub IsNamed : Schema → Change → Type 0
-IsNamed S change = (IsSome change.put.bytes → IsSome (home_at S (record { 0 = change.put.home }))) × AreKeysNamed S change.new_keys
+IsNamed S change = IsSome change.put.bytes → IsSome (home_at S (record { 0 = change.put.home }))
 
 abbrev pub AreNamed : Schema → List Change → Type 0
 AreNamed S [] = Unit {0}

@@ -15,7 +15,7 @@ use Rattle.storage_home.specs.declared.parts.Parts.{Parts}
 use Rattle.storage_home.specs.Rows.{object_at, is_reserved_at}
 use Rattle.storage_home.specs.Extents.{is_held_in, is_entered_in}
 use Rattle.storage_home.specs.Counts.{bases_in, number_at}
-use Rattle.storage_home.specs.Keys.{found_at}
+use Rattle.storage_home.specs.Indexes.{found_at}
 
 -- the greatest sum that is kept
 abbrev pub most : ℕ
@@ -55,8 +55,7 @@ pub record IsKept (S : Schema) (M : Catalog) (homes : Parts) : Type 0 where
   pub extents_size : length homes.extents.items ≡ length S.homes
   pub counts : (home : HomeNo) → number_at homes.counts.items home.0 ≡ length (pids_where (is_of S home) M)
   pub bases : bases_in homes.counts.items ≡ bases_of S
-  pub keys : (key : KeyNo) (bytes : List ℕ) (serial : ℕ) → (found_at homes.keys.items key.0 bytes ≡ Some serial) ↔ IsHolder S M key bytes serial
-  pub keys_size : length homes.keys.items ≡ length S.keys
+  pub keys : (key : KeyNo) (bytes : List ℕ) (serial : ℕ) → (found_at homes.keys.entries key.0 bytes ≡ Some serial) ↔ IsHolder S M key bytes serial
 
 -- room is kept for an object of this home with this serial
 abbrev pub IsReserved : Parts → HomeNo → ℕ → Type 0

@@ -4,7 +4,7 @@ pub mod Cells
 pub mod Blocks
 pub mod Extents
 pub mod Counts
-pub mod Keys
+pub mod Indexes
 pub mod Kept
 pub mod Applied
 pub mod inner

@@ -6,7 +6,7 @@ ghost use Rattle.pss_catalog.specs.Catalog.{Catalog};
 ghost use Rattle.pss_catalog.specs.Changes.{over};
 ghost use Rattle.storage_home.specs.declared.change.Change.{Change as Changed};
 ghost use Rattle.storage_home.specs.Kept.{IsKept};
-ghost use Rattle.storage_home.specs.Keys.{KeepsKeysReserved, TurnsKeysReserved};
+ghost use Rattle.storage_home.specs.Indexes.{KeepsKeysReserved, TurnsKeysReserved};
 ghost use Rattle.storage_home.specs.Applied.{MayApply, AllStay};
 ghost use Rattle.storage_home.specs.inner.Steps.{MayTake, MayPutObject, OthersStay, MayTakeAll, AnyTakeAll, MayPutAll, AnyPutAll};
 
@@ -14,7 +14,7 @@ use crate::change::{Change, Changes};
 use crate::counts::{lower, raise};
 use crate::extents::{hold_in, release_in};
 use crate::homes::Homes;
-use crate::keys::{put_all, take_all};
+use crate::indexes::{put_all, take_all};
 use crate::parts::Parts;
 use crate::rows::{Stored, is_reserved, object_of, put, take};
 use pss_base::{Bytes, Put};
@@ -42,7 +42,7 @@ impl Parts {
         requires { AnyTakeAll self.old changes.now }
         ensures kept { (S : Schema) (F : Catalog) → MayTakeAll S F self.old changes.now → IsKept S F self.new }
         ensures reserved { AllStay self.old self.new }
-        ensures keys { KeepsKeysReserved self.old.keys.items self.new.keys.items }
+        ensures keys { KeepsKeysReserved self.old.keys.entries self.new.keys.entries }
     {
         for change in changes {
             self.take_object(change.put.serial, change.old_keys.as_slice());
@@ -81,7 +81,7 @@ impl Parts {
         requires { MayTake self.old serial keys.now }
         ensures kept { (m : MayTake self.old serial keys.now) → IsKept m.schema (remove m.catalog serial) self.new }
         ensures reserved { AllStay self.old self.new }
-        ensures keys { KeepsKeysReserved self.old.keys.items self.new.keys.items }
+        ensures keys { KeepsKeysReserved self.old.keys.entries self.new.keys.entries }
     {
         let Some(object) = object_of(&self.rows, serial) else {
             return;
@@ -100,7 +100,7 @@ impl Parts {
         requires { MayPutObject self.old serial object keys.now }
         ensures kept { (m : MayPutObject self.old serial object keys.now) → IsKept m.schema (insert m.catalog serial m.object) self.new }
         ensures reserved { OthersStay self.old self.new serial }
-        ensures keys { TurnsKeysReserved self.old.keys.items self.new.keys.items keys.now false }
+        ensures keys { TurnsKeysReserved self.old.keys.entries self.new.keys.entries keys.now false }
     {
         let home = object.home;
         self.total += 16 + object.bytes.as_slice().len() as u64;

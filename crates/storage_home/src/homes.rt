@@ -8,7 +8,7 @@ ghost use Rattle.pss_catalog.specs.Families.{bases_of};
 ghost use Rattle.storage_home.specs.Kept.{Keeping, is_of};
 
 use crate::counts::count_of;
-use crate::keys::find;
+use crate::indexes::find;
 use crate::parts::Parts;
 use crate::rows::object_of;
 use pss_catalog::Families;

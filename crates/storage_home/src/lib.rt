@@ -11,7 +11,7 @@ mod chunk;
 mod counts;
 mod extents;
 mod homes;
-pub mod keys;
+pub mod indexes;
 mod listing;
 mod loading;
 mod marks;

@@ -15,7 +15,7 @@ use crate::extents::Extent;
 use crate::homes::Homes;
 use crate::parts::Parts;
 use crate::rows::{self, Stored};
-use crate::{counts, keys};
+use crate::{counts, indexes};
 use cdr_codec::key_of_octets;
 use pss_base::{Bytes, NoMemory, Put, Puts};
 use pss_catalog::{Families, home_at};
@@ -98,7 +98,7 @@ fn none(alloc: Global, schema: &Schema) -> Result<Parts, NoMemory>
         objects: 0,
         extents: no_extents(alloc, homes.len())?,
         counts: counts::none(alloc, homes)?,
-        keys: keys::none(alloc, schema.keys.as_slice().len())?,
+        keys: indexes::none(alloc),
     })
 }
 

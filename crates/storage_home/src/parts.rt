@@ -1,8 +1,8 @@
 // What is kept of the objects of a store.
 use crate::counts::Count;
 use crate::extents::Extent;
+use crate::indexes::Indexes;
 use crate::rows::Rows;
-use key_index::KeyIndex;
 use pss_catalog::Families;
 use std::alloc::Global;
 
@@ -19,6 +19,5 @@ pub struct Parts {
     /// For each home, from number 1.
     pub extents: Vec<Extent>,
     pub counts: Vec<Count>,
-    /// For each key, from number 0.
-    pub keys: Vec<KeyIndex>,
+    pub keys: Indexes,
 }

@@ -1,6 +1,6 @@
 // Room for what a commit puts.
-ghost use Rattle.std.specs.Prelude.{◌≡◌, ◌≤◌, length, true, OnOk};
-ghost use Rattle.storage_home.specs.Keys.{AreThere, AreKeysReserved, StayReserved};
+ghost use Rattle.std.specs.Prelude.{◌≡◌, ◌≤◌, length, OnOk};
+ghost use Rattle.storage_home.specs.Indexes.{AreKeysReserved, StayReserved};
 ghost use Rattle.storage_home.specs.Kept.{IsKept, IsReserved, Keeping};
 ghost use Rattle.storage_home.specs.Applied.{AreNamed, AreReserved, AllStay, IsChangeReserved};
 ghost use Rattle.storage_home.specs.inner.Steps.{MayReserve, IsPlaced};
@@ -8,7 +8,7 @@ ghost use Rattle.storage_home.specs.inner.Steps.{MayReserve, IsPlaced};
 use crate::change::{Change, Changes};
 use crate::extents::enter_in;
 use crate::homes::Homes;
-use crate::keys::reserve_all;
+use crate::indexes::reserve_all;
 use crate::parts::Parts;
 use crate::rows::reserve;
 use pss_base::{Bytes, NoMemory};
@@ -16,7 +16,7 @@ use type_layout::{HomeNo, KeyNo};
 
 impl Homes {
     /// Reserves the serials to which the changes give a record, each for its home, and the new keys, so that applying
-    /// the changes takes no memory. Their homes and keys are those of the schema. What is there already stays there.
+    /// the changes takes no memory. Their homes are those of the schema. What is there already stays there.
     ///
     /// `NoMemory`: the objects are as before, and what was reserved stays reserved.
     pub fn reserve_for(&mut self, changes: &Changes) -> Result<(), NoMemory>
@@ -24,7 +24,7 @@ impl Homes {
         ensures kept { Keeping self.old (λ S M. IsKept S M self.new) }
         ensures ok { OnOk result (AreReserved self.new changes.now) }
         ensures stay { AllStay self.old self.new }
-        ensures keys_stay { StayReserved self.old.keys.items self.new.keys.items }
+        ensures keys_stay { StayReserved self.old.keys.entries self.new.keys.entries }
     {
         self.parts.reserve_changes(changes.as_slice())
     }
@@ -36,7 +36,7 @@ impl Parts {
         ensures kept { Keeping self.old (λ S M. IsKept S M self.new) }
         ensures ok { OnOk result (AreReserved self.new changes.now) }
         ensures stay { AllStay self.old self.new }
-        ensures keys_stay { StayReserved self.old.keys.items self.new.keys.items }
+        ensures keys_stay { StayReserved self.old.keys.entries self.new.keys.entries }
     {
         for change in changes {
             self.reserve_change(change)?;
@@ -49,7 +49,7 @@ impl Parts {
         ensures kept { Keeping self.old (λ S M. IsKept S M self.new) }
         ensures ok { OnOk result (IsChangeReserved self.new change.now) }
         ensures stay { AllStay self.old self.new }
-        ensures keys_stay { StayReserved self.old.keys.items self.new.keys.items }
+        ensures keys_stay { StayReserved self.old.keys.entries self.new.keys.entries }
     {
         self.reserve_keys(change.new_keys.as_slice())?;
         match change.put.bytes {
@@ -71,13 +71,12 @@ impl Parts {
     }
 
     pub(crate) fn reserve_keys(&mut self, keys: &[(KeyNo, Bytes)]) -> Result<(), NoMemory>
-        requires { AreThere self.old.keys.items keys.now }
         ensures kept { Keeping self.old (λ S M. IsKept S M self.new) }
-        ensures ok { OnOk result (AreKeysReserved self.new.keys.items keys.now) }
+        ensures ok { OnOk result (AreKeysReserved self.new.keys.entries keys.now) }
         ensures stay { AllStay self.old self.new }
         ensures extents { self.new.extents ≡ self.old.extents }
-        ensures keys_stay { StayReserved self.old.keys.items self.new.keys.items }
+        ensures keys_stay { StayReserved self.old.keys.entries self.new.keys.entries }
     {
-        reserve_all(&mut self.keys, keys)
+        reserve_all(self.alloc, &mut self.keys, keys)
     }
 }

@@ -8,7 +8,7 @@ use Rattle.type_layout.specs.declared.schema.Schema.{Schema}
 use Rattle.pss_catalog.specs.Catalog.{Catalog}
 use Rattle.key_index.specs.Index.{Index}
 use Rattle.storage_home.specs.declared.change.Change.{Change}
-use Rattle.storage_home.specs.Keys.{lists}
+use Rattle.storage_home.specs.Indexes.{lists}
 use Rattle.pss_recovery.specs.inner.Held.{IsHeld}
 
 -- the number of a key in front of its bytes

@@ -12,7 +12,7 @@ use Rattle.pss_catalog.specs.Changes.{Change as Step, over, with_state}
 use Rattle.storage_home.specs.declared.change.Change.{Change}
 use Rattle.storage_home.specs.declared.parts.Parts.{Parts}
 use Rattle.storage_home.specs.declared.rows.Stored.{Stored}
-use Rattle.storage_home.specs.Keys.{AreKeysReserved, AreThere}
+use Rattle.storage_home.specs.Indexes.{AreKeysReserved}
 use Rattle.storage_home.specs.Kept.{most, IsSound, IsKept, IsReserved, stored}
 use Rattle.storage_home.specs.Applied.{IsNew, AreKeysOf, AreChanges, AreReserved, AreNamed, AreRows}
 
@@ -47,15 +47,15 @@ pub record MayPutObject (homes : Parts) (serial : ℕ) (row : Stored) (pairs : L
   pub unique : IsUnique schema (insert catalog serial object)
   pub bounded : total schema (insert catalog serial object) ≤ most
   pub reserved : IsReserved homes object.home serial
-  pub keys_reserved : AreKeysReserved homes.keys.items pairs
+  pub keys_reserved : AreKeysReserved homes.keys.entries pairs
 
 -- what is reserved for other serials stays so
 abbrev pub OthersStay : Parts → Parts → ℕ → Type 0
 OthersStay old new serial = (home : HomeNo) (s : ℕ) → (s ≡ serial → ⊥) → IsReserved old home s → IsReserved new home s
 
--- what a change names is there: its home, where it has a record, and its new keys
+-- the home of a change that has a record is there
 abbrev pub IsPlaced : Parts → Change → Type 0
-IsPlaced homes change = (IsSome change.put.bytes → (1 ≤ change.put.home) × (change.put.home ≤ length homes.extents.items)) × AreThere homes.keys.items change.new_keys
+IsPlaced homes change = IsSome change.put.bytes → (1 ≤ change.put.home) × (change.put.home ≤ length homes.extents.items)
 
 -- ---- changes, one after the other
 

@@ -4,7 +4,7 @@ use Rattle.std.proofs.lemmas.Bool.{false≢true}
 use Rattle.std.proofs.lemmas.List.{drop_more}
 use Rattle.type_layout.specs.declared.key.KeyNo.{KeyNo}
 use Rattle.storage_home.specs.declared.change.Change.{Change}
-use Rattle.storage_home.specs.Keys.{lists}
+use Rattle.storage_home.specs.Indexes.{lists}
 use Rattle.pss_recovery.specs.inner.Claims.{AreOpen, ComeApart, is_in, no_keys, with_pairs}
 use Rattle.pss_recovery.proofs.Tables.{none_in}
 use Rattle.pss_recovery.proofs.apart.come_apart.Goals as goal

@@ -1,7 +1,7 @@
 use Rattle.std.proofs.Common.{◌+◌, Bool, List, None, refl, sym, ap, subst, ◌∙◌}
 use Rattle.std.specs.Prelude.{if◌then◌else◌}
 use Rattle.owner_view.specs.declared.owned.Owned.{Owned}
-use Rattle.owner_view.specs.Indexes.{TurnsFound, MayPut}
+use Rattle.storage_home.specs.Indexes.{TurnsFound, MayPut}
 use Rattle.owner_view.specs.Keyed.{Pair}
 use Rattle.owner_view.specs.Overlay.{indexes_in, FoundAfter}
 use Rattle.owner_view.specs.Owned.{changed_by}

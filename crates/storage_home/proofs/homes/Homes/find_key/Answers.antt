@@ -1,10 +1,9 @@
 use Rattle.std.proofs.Common.{sym, ap, subst, ◌∙◌}
 use Rattle.std.specs.Option.{option_to_list}
-use Rattle.storage_home.specs.Keys.{found_at}
 use Rattle.storage_home.specs.Kept.{IsKept}
 use Rattle.storage_home.proofs.Finding.{holder_is}
 use Rattle.storage_home.proofs.homes.Homes.find_key.Goals as goal
 
 pub returns : goal.returns
 returns c S M kept =
-    holder_is S M c.self.inside.parts (subst (IsKept S M) (sym c.self.view_is) kept) c.args.key c.args.bytes.now ∙ ap option_to_list (sym (c.find.ensures ∙ ap (λ l. found_at l c.args.key.0 c.args.bytes.now) c.deref.ensures.value))
+    holder_is S M c.self.inside.parts (subst (IsKept S M) (sym c.self.view_is) kept) c.args.key c.args.bytes.now ∙ ap option_to_list (sym c.find.ensures)

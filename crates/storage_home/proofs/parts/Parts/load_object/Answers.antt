@@ -1,19 +1,13 @@
 use Rattle.std.proofs.Common.{sym, subst}
 use Rattle.std.specs.FinMap.{insert}
-use Rattle.storage_home.specs.Keys.{AreThere, AreKeysReserved}
+use Rattle.storage_home.specs.Indexes.{AreKeysReserved}
 use Rattle.storage_home.specs.Kept.{IsKept}
 use Rattle.storage_home.specs.inner.Steps.{MayPutObject}
-use Rattle.storage_home.proofs.LoadingRows.{loaded_keys, loaded_home, loaded_keys_there, may_put_loaded, loaded_reserved}
+use Rattle.storage_home.proofs.LoadingRows.{loaded_keys, loaded_home, may_put_loaded, loaded_reserved}
 use Rattle.storage_home.proofs.parts.Parts.load_object.Goals as goal
 
 pub reserve_serial-requires-clause-there : goal.reserve_serial-requires-clause-there
 reserve_serial-requires-clause-there c = loaded_home c.args.schema.now c.args.self.now c.args.serial c.args.object c.requires
-
-pub reserve_keys-requires : goal.reserve_keys-requires
-reserve_keys-requires c =
-    subst (AreThere c.reserve_serial.new.self.keys.items) (sym c.as_slice-2.ensures)
-    (loaded_keys_there c.args.schema.now c.args.self.now c.args.serial c.args.object c.requires c.reserve_serial.new.self (c.reserve_serial.ensures.kept c.args.schema.now c.requires.catalog c.requires.kept) c.in_ok-keys.keys
-    (loaded_keys c.args.schema.now c.args.self.now c.args.serial c.args.object c.requires c.as_slice.result.now c.as_slice.ensures c.in_ok-keys.keys c.in_ok-keys.ensures))
 
 pub put_object-requires : goal.put_object-requires
 put_object-requires c =
@@ -23,7 +17,7 @@ put_object-requires c =
     c.in_ok-keys.keys
     (loaded_keys c.args.schema.now c.args.self.now c.args.serial c.args.object c.requires c.as_slice.result.now c.as_slice.ensures c.in_ok-keys.keys c.in_ok-keys.ensures)
     (loaded_reserved c.args.schema.now c.args.self.now c.args.serial c.args.object c.requires c.reserve_keys.new.self (c.reserve_keys.ensures.stay c.args.object.home c.args.serial c.in_ok-reserve_serial.ensures.ok))
-    (subst (AreKeysReserved c.reserve_keys.new.self.keys.items) c.as_slice-2.ensures c.in_ok-reserve_keys.ensures.ok))
+    (subst (AreKeysReserved c.reserve_keys.new.self.keys.entries) c.as_slice-2.ensures c.in_ok-reserve_keys.ensures.ok))
 
 pub returns : goal.returns
 returns c m =
@@ -34,4 +28,4 @@ returns c m =
     c.in_ok-keys.keys
     (loaded_keys c.args.schema.now c.args.self.now c.args.serial c.args.object m c.as_slice.result.now c.as_slice.ensures c.in_ok-keys.keys c.in_ok-keys.ensures)
     (loaded_reserved c.args.schema.now c.args.self.now c.args.serial c.args.object m c.reserve_keys.new.self (c.reserve_keys.ensures.stay c.args.object.home c.args.serial c.in_ok-reserve_serial.ensures.ok))
-    (subst (AreKeysReserved c.reserve_keys.new.self.keys.items) c.as_slice-2.ensures c.in_ok-reserve_keys.ensures.ok))
+    (subst (AreKeysReserved c.reserve_keys.new.self.keys.entries) c.as_slice-2.ensures c.in_ok-reserve_keys.ensures.ok))

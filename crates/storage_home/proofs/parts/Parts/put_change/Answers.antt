@@ -1,6 +1,6 @@
 use Rattle.std.proofs.Common.{false, sym, subst}
 use Rattle.std.specs.FinMap.{insert}
-use Rattle.storage_home.specs.Keys.{TurnsKeysReserved}
+use Rattle.storage_home.specs.Indexes.{TurnsKeysReserved}
 use Rattle.storage_home.specs.Kept.{IsKept}
 use Rattle.storage_home.specs.inner.Steps.{MayPutObject}
 use Rattle.storage_home.proofs.Stepping.{may_put, put_on, none_put}
@@ -15,7 +15,7 @@ returns-in-Some c rest S F m =
     put_on S F c.args.self.now c.args.change rest m c.in-Some.bytes c.in-Some.is c.put_object.new.self
     (subst (λ k. (p : MayPutObject c.args.self.now c.args.change.put.serial (record { home = record { 0 = c.args.change.put.home }; bytes = c.in-Some.bytes }) k) → IsKept p.schema (insert p.catalog c.args.change.put.serial p.object) c.put_object.new.self) c.as_slice.ensures c.put_object.ensures.kept)
     c.put_object.ensures.reserved
-    (subst (λ k. TurnsKeysReserved c.args.self.now.keys.items c.put_object.new.self.keys.items k false) c.as_slice.ensures c.put_object.ensures.keys)
+    (subst (λ k. TurnsKeysReserved c.args.self.now.keys.entries c.put_object.new.self.keys.entries k false) c.as_slice.ensures c.put_object.ensures.keys)
 
 pub returns : goal.returns
 returns c rest S F m = none_put S F c.args.self.now c.args.change rest m c.in_default.is

@@ -1,9 +1,8 @@
-use Rattle.std.proofs.Common.{ℕ, ◌+◌, ◌≤◌, List, Some, true, length, refl, sym, ap, subst, ◌∙◌, arith}
+use Rattle.std.proofs.Common.{ℕ, ◌+◌, ◌≤◌, List, true, length, refl, sym, ap, subst, ◌∙◌, arith}
 use Rattle.std.specs.Vec.{with_items}
 use Rattle.storage_home.specs.declared.counts.Count.{Count}
 use Rattle.storage_home.specs.Extents.{TurnsHeldIn}
 use Rattle.storage_home.specs.Counts.{bases_in, number_at, AreLower, AreRaised, comes}
-use Rattle.storage_home.specs.Keys.{MayPut, TurnsFound}
 use Rattle.storage_home.specs.Kept.{most}
 use Rattle.storage_home.proofs.Taking.{lent_items, lower_kept, may_put_row, row_sum_fits, row_number_fits, row_home_there, row_counts_fit, row_with}
 use Rattle.storage_home.proofs.parts.Parts.put_object.Goals as goal
@@ -27,20 +26,18 @@ pub raise-requires-clause-fits : goal.raise-requires-clause-fits
 raise-requires-clause-fits c to = subst (λ l. number_at l to + comes (bases_in l) c.args.object.home.0 to ≤ most) (sym c.deref_mut.ensures.value) (row_counts_fit c.args.self.now c.args.serial c.args.object c.args.keys.now c.requires to)
 
 pub put_all-requires : goal.put_all-requires
-put_all-requires c = subst (λ l. MayPut l c.args.keys.now) (sym c.deref_mut-3.ensures.value) (may_put_row c.args.self.now c.args.serial c.args.object c.args.keys.now c.requires)
+put_all-requires c = may_put_row c.args.self.now c.args.serial c.args.object c.args.keys.now c.requires
 
 pub returns-clause-kept : goal.returns-clause-kept
 returns-clause-kept c m =
     let extents = lent_items c.args.self.now.extents _ c.hold_in.new.extents c.deref_mut-2.ensures.value c.hold_in.ensures.size in
     let counts = lent_items c.args.self.now.counts _ c.raise.new.counts c.deref_mut.ensures.value c.raise.auto.counts in
-    let keys = lent_items c.args.self.now.keys _ c.put_all.new.indexes c.deref_mut-3.ensures.value c.put_all.ensures.size in
     row_with c.args.self.now c.args.serial c.args.object c.args.keys.now m
-    (record { alloc = c.args.self.now.alloc; families = c.args.self.now.families; rows = c.put.new.rows; total = c.args.self.now.total + (16 + length c.as_slice.result.now); objects = c.args.self.now.objects + 1; extents = with_items c.args.self.now.extents c.hold_in.new.extents; counts = with_items c.args.self.now.counts c.raise.new.counts; keys = with_items c.args.self.now.keys c.put_all.new.indexes })
+    (record { alloc = c.args.self.now.alloc; families = c.args.self.now.families; rows = c.put.new.rows; total = c.args.self.now.total + (16 + length c.as_slice.result.now); objects = c.args.self.now.objects + 1; extents = with_items c.args.self.now.extents c.hold_in.new.extents; counts = with_items c.args.self.now.counts c.raise.new.counts; keys = c.put_all.new.indexes })
     refl c.put.ensures.objects
     (ap (λ (b : List ℕ). c.args.self.now.total + (16 + length b)) c.as_slice.ensures) refl
     (subst (λ l. TurnsHeldIn c.args.self.now.extents.items l c.args.object.home.0 c.args.serial true) (sym extents) (subst (λ l. TurnsHeldIn l c.hold_in.new.extents c.args.object.home.0 c.args.serial true) c.deref_mut-2.ensures.value c.hold_in.ensures.held))
     (ap length extents ∙ c.hold_in.ensures.size ∙ ap length c.deref_mut-2.ensures.value)
     (subst (λ l. AreRaised c.args.self.now.counts.items l c.args.object.home.0) (sym counts) (subst (λ l. AreRaised l c.raise.new.counts c.args.object.home.0) c.deref_mut.ensures.value c.raise.ensures.raised))
     (ap bases_in counts ∙ c.raise.ensures.bases ∙ ap bases_in c.deref_mut.ensures.value)
-    (subst (λ l. TurnsFound c.args.self.now.keys.items l c.args.keys.now (Some c.args.serial)) (sym keys) (subst (λ l. TurnsFound l c.put_all.new.indexes c.args.keys.now (Some c.args.serial)) c.deref_mut-3.ensures.value c.put_all.ensures.found))
-    (ap length keys ∙ c.put_all.ensures.size ∙ ap length c.deref_mut-3.ensures.value)
+    c.put_all.ensures.found

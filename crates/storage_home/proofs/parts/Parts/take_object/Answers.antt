@@ -1,13 +1,11 @@
-use Rattle.std.proofs.Common.{ℕ, ◌+◌, ◌-◌, ◌≡◌, ◌≤◌, List, None, true, false, length, refl, sym, ap, subst, ◌∙◌}
+use Rattle.std.proofs.Common.{ℕ, ◌+◌, ◌-◌, ◌≡◌, ◌≤◌, List, true, false, length, refl, sym, ap, subst, ◌∙◌}
 use Rattle.std.specs.Vec.{with_items}
-use Rattle.std.specs.FinMap.{get}
 use Rattle.storage_home.specs.declared.counts.Count.{Count}
 use Rattle.storage_home.specs.Extents.{is_entered_in, TurnsHeldIn}
 use Rattle.storage_home.specs.Counts.{bases_in, number_at, AreLower, AreRaised, comes}
-use Rattle.storage_home.specs.Keys.{AreThere, TurnsFound}
 use Rattle.storage_home.specs.Kept.{IsKept}
 use Rattle.storage_home.proofs.Keeping.{without_none}
-use Rattle.storage_home.proofs.Taking.{lent_items, nothing_behind, lower_kept, keys_there, row_weighs, row_counts, row_home, row_counted, row_entered, row_without}
+use Rattle.storage_home.proofs.Taking.{lent_items, nothing_behind, lower_kept, row_weighs, row_counts, row_home, row_counted, row_entered, row_without}
 use Rattle.storage_home.proofs.parts.Parts.take_object.Goals as goal
 
 pub returns-in_default-clause-kept : goal.returns-in_default-clause-kept
@@ -37,22 +35,16 @@ pub release_in-requires : goal.release_in-requires
 release_in-requires c =
     subst (λ l. is_entered_in l c.in-Some.object.now.home.0 c.args.serial ≡ true) (sym c.deref_mut-2.ensures.value) (row_entered c.requires.schema c.requires.catalog c.args.self.now c.requires.kept c.args.serial c.in-Some.object.now (sym c.in-Some.ensures))
 
-pub take_all-requires : goal.take_all-requires
-take_all-requires c =
-    subst (λ l. AreThere l c.args.keys.now) (sym c.deref_mut-3.ensures.value) (keys_there c.requires.schema c.requires.catalog c.args.self.now c.requires.kept (get c.requires.catalog c.args.serial) c.args.keys.now c.requires.keys)
-
 pub returns-clause-kept : goal.returns-clause-kept
 returns-clause-kept c m =
     let extents = lent_items c.args.self.now.extents _ c.release_in.new.extents c.deref_mut-2.ensures.value c.release_in.ensures.size in
     let counts = lent_items c.args.self.now.counts _ c.lower.new.counts c.deref_mut.ensures.value c.lower.auto.counts in
-    let keys = lent_items c.args.self.now.keys _ c.take_all.new.indexes c.deref_mut-3.ensures.value c.take_all.ensures.size in
     row_without m.schema m.catalog c.args.self.now m.kept c.args.serial c.in-Some.object.now (sym c.in-Some.ensures)
-    (record { alloc = c.args.self.now.alloc; families = c.args.self.now.families; rows = c.take.new.rows; total = c.args.self.now.total - (16 + length c.as_slice.result.now); objects = c.args.self.now.objects - 1; extents = with_items c.args.self.now.extents c.release_in.new.extents; counts = with_items c.args.self.now.counts c.lower.new.counts; keys = with_items c.args.self.now.keys c.take_all.new.indexes })
+    (record { alloc = c.args.self.now.alloc; families = c.args.self.now.families; rows = c.take.new.rows; total = c.args.self.now.total - (16 + length c.as_slice.result.now); objects = c.args.self.now.objects - 1; extents = with_items c.args.self.now.extents c.release_in.new.extents; counts = with_items c.args.self.now.counts c.lower.new.counts; keys = c.take_all.new.indexes })
     c.args.keys.now m.keys refl c.take.ensures.objects
     (ap (λ (b : List ℕ). c.args.self.now.total - (16 + length b)) c.as_slice.ensures) refl
     (subst (λ l. TurnsHeldIn c.args.self.now.extents.items l c.in-Some.object.now.home.0 c.args.serial false) (sym extents) (subst (λ l. TurnsHeldIn l c.release_in.new.extents c.in-Some.object.now.home.0 c.args.serial false) c.deref_mut-2.ensures.value c.release_in.ensures.held))
     (ap length extents ∙ c.release_in.ensures.size ∙ ap length c.deref_mut-2.ensures.value)
     (subst (λ l. AreRaised l c.args.self.now.counts.items c.in-Some.object.now.home.0) (sym counts) (subst (λ l. AreRaised c.lower.new.counts l c.in-Some.object.now.home.0) c.deref_mut.ensures.value c.lower.ensures.lowered))
     (ap bases_in counts ∙ c.lower.ensures.bases ∙ ap bases_in c.deref_mut.ensures.value)
-    (subst (λ l. TurnsFound c.args.self.now.keys.items l c.args.keys.now None) (sym keys) (subst (λ l. TurnsFound l c.take_all.new.indexes c.args.keys.now None) c.deref_mut-3.ensures.value c.take_all.ensures.found))
-    (ap length keys ∙ c.take_all.ensures.size ∙ ap length c.deref_mut-3.ensures.value)
+    c.take_all.ensures.found

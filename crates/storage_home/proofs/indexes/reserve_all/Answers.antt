@@ -1,8 +1,8 @@
 use Rattle.std.proofs.Common.{◌+◌, ◌≡◌, ◌∷◌, true, drop, sym, ap, subst, ◌∙◌}
 use Rattle.std.proofs.lemmas.List.{drop_more}
 use Rattle.storage_home.proofs.Holding.{turn_on}
-use Rattle.owner_view.specs.Indexes.{TurnsKeyReservedAt}
-use Rattle.owner_view.proofs.indexes.reserve_all.Goals as goal
+use Rattle.storage_home.specs.Indexes.{TurnsKeyReservedAt}
+use Rattle.storage_home.proofs.indexes.reserve_all.Goals as goal
 
 pub loop-key-preserved : goal.loop-key-preserved
 loop-key-preserved c =
@@ -10,4 +10,5 @@ loop-key-preserved c =
     let reserved = subst (λ b. TurnsKeyReservedAt c.loop-key.indexes.entries c.reserve.new.indexes.entries c.loop-key-item.result.0.0 b true) c.as_slice.ensures c.in_ok-reserve.ensures.ok in (
       λ key q. c.reserve.ensures.found key q ∙ c.loop-key.invariant.0 key q,
       λ key q. turn_on _ _ c.loop-key-item.result true key q _ _ _ front (reserved key q) (c.loop-key.invariant.1 key q),
+      λ key q before. c.reserve.ensures.stay key q (c.loop-key.invariant.2 key q before),
     )

@@ -3,9 +3,9 @@ use Rattle.std.specs.FinMap as map
 use Rattle.std.specs.FinSet as set
 use Rattle.key_index.specs.Index.{Index}
 use Rattle.storage_home.proofs.Holding.{held_with, reserved_without}
-use Rattle.owner_view.specs.Indexes.{TurnsIndex}
-use Rattle.owner_view.proofs.Indexing.{part_of, one_turned}
-use Rattle.owner_view.proofs.indexes.put.Goals as goal
+use Rattle.storage_home.specs.Indexes.{TurnsIndex}
+use Rattle.storage_home.proofs.Indexing.{part_of, one_turned}
+use Rattle.storage_home.proofs.indexes.put.Goals as goal
 
 turned : (c : goal.After-indexes-in-Some-1) → TurnsIndex c.args.indexes.now.entries (c.get_mut.follows.lender c.put_reserved.new.self).entries c.args.key.0 (Some c.put_reserved.new.self)
 turned c = ((c.get_mut.follows.holds _).3 (subst IsSome c.in-Some.ensures.value (search rules))).0

@@ -1,8 +1,8 @@
-// Who holds which key among an owner's changed objects: an index for each key that it has used.
+//! Who holds which key, by an index for each key that is used: what is committed has one such table, and what an owner changed there another.
 ghost use Rattle.std.specs.Prelude.{◌≡◌, [], Some, None, true, false, IfOk, OnOk};
 ghost use Rattle.std.specs.FinMap as map;
 ghost use Rattle.std.specs.FinSet as set;
-ghost use Rattle.owner_view.specs.Indexes.{index_at, found_at, KeepsFound, TurnsFoundAt, TurnsKeyReservedAt, KeepsKeysReserved, TurnsFound, TurnsKeysReserved, MayPut, is_key_reserved};
+ghost use Rattle.storage_home.specs.Indexes.{index_at, found_at, is_key_reserved, MayPut, KeepsFound, TurnsFoundAt, TurnsKeyReservedAt, KeepsKeysReserved, TurnsFound, TurnsKeysReserved, StayReserved};
 
 use indexmap::IndexMap;
 use key_index::KeyIndex;
@@ -12,8 +12,8 @@ use std::hash::BuildHasherDefault;
 use table_hash::NumberHasher;
 use type_layout::KeyNo;
 
-/// Indexes by the numbers of their keys. A schema may have thousands of keys, of which an owner uses few: an index comes to be
-/// when its key is first reserved.
+/// Indexes by the numbers of their keys. A schema may have thousands of keys, of which few are used: an index comes to be when
+/// its key is first reserved.
 pub type Indexes = IndexMap<u32, KeyIndex, BuildHasherDefault<NumberHasher>>;
 
 /// No index. It takes no memory.
@@ -23,7 +23,7 @@ pub fn none(alloc: Global) -> Indexes
     IndexMap::with_hasher(alloc, BuildHasherDefault::new())
 }
 
-/// The most indexes that an owner keeps the places of.
+/// The most indexes whose places stay when all are taken away.
 const MOST_KEPT: usize = 64;
 
 /// Takes all indexes away. The memory of a few places stays for those that come next.
@@ -37,7 +37,7 @@ pub fn clear(indexes: &mut Indexes, alloc: Global)
     }
 }
 
-/// The serial of the object that holds a key with these bytes, where one does.
+/// The serial of the object that holds a key with these bytes, none where nothing does.
 pub fn find(indexes: &Indexes, key: KeyNo, bytes: &[u8]) -> Option<u64>
     ensures { result ≡ found_at indexes.now.entries key.0 bytes.now }
 {
@@ -48,6 +48,8 @@ pub fn find(indexes: &Indexes, key: KeyNo, bytes: &[u8]) -> Option<u64>
 }
 
 /// Reserves keys. They may be held, and stay so.
+///
+/// `NoMemory`: some of them may be reserved, and what was reserved stays so.
 pub fn reserve_all(
     alloc: Global,
     indexes: &mut Indexes,
@@ -55,6 +57,7 @@ pub fn reserve_all(
 ) -> Result<(), NoMemory>
     ensures found { KeepsFound indexes.old.entries indexes.new.entries }
     ensures ok { OnOk result (TurnsKeysReserved indexes.old.entries indexes.new.entries pairs.now true) }
+    ensures stay { StayReserved indexes.old.entries indexes.new.entries }
 {
     for (key, bytes) in pairs {
         reserve(alloc, indexes, *key, bytes.as_slice())?;
@@ -65,6 +68,7 @@ pub fn reserve_all(
 fn reserve(alloc: Global, indexes: &mut Indexes, key: KeyNo, bytes: &[u8]) -> Result<(), NoMemory>
     ensures found { KeepsFound indexes.old.entries indexes.new.entries }
     ensures ok { OnOk result (TurnsKeyReservedAt indexes.old.entries indexes.new.entries key.0 bytes.now true) }
+    ensures stay { StayReserved indexes.old.entries indexes.new.entries }
 {
     match indexes.get_mut(&key.0) {
         Some(index) => index.reserve(bytes),
@@ -77,6 +81,7 @@ fn add(alloc: Global, indexes: &mut Indexes, key: KeyNo, bytes: &[u8]) -> Result
     requires { index_at key.0 indexes.old.entries ≡ None }
     ensures found { KeepsFound indexes.old.entries indexes.new.entries }
     ensures ok { OnOk result (TurnsKeyReservedAt indexes.old.entries indexes.new.entries key.0 bytes.now true) }
+    ensures stay { StayReserved indexes.old.entries indexes.new.entries }
 {
     let index = reserved(alloc, bytes)?;
     indexes.insert(key.0, index)?;
@@ -116,6 +121,7 @@ fn take(indexes: &mut Indexes, key: KeyNo, bytes: &[u8])
 pub fn put_all(indexes: &mut Indexes, pairs: &[(KeyNo, Bytes)], serial: u64)
     requires { MayPut indexes.old.entries pairs.now }
     ensures found { TurnsFound indexes.old.entries indexes.new.entries pairs.now (Some serial) }
+    ensures reserved { TurnsKeysReserved indexes.old.entries indexes.new.entries pairs.now false }
 {
     for (key, bytes) in pairs {
         put(indexes, *key, bytes.as_slice(), serial);

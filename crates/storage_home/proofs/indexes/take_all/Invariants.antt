@@ -1,7 +1,6 @@
 use Rattle.std.proofs.Common.{ℕ, ◌≡◌, List, None, drop, cond}
-use Rattle.storage_home.specs.Keys.{lists}
-use Rattle.owner_view.specs.Indexes.{found_at, KeepsKeysReserved}
-use Rattle.owner_view.proofs.indexes.take_all.Given as goal
+use Rattle.storage_home.specs.Indexes.{found_at, lists, KeepsKeysReserved}
+use Rattle.storage_home.proofs.indexes.take_all.Given as goal
 
 abbrev pub invariant-loop-key : goal.invariant-loop-key
 invariant-loop-key l =

@@ -1,9 +1,9 @@
 use Rattle.std.proofs.Common.{ℕ, ◌≡◌, List, true, drop, cond}
-use Rattle.storage_home.specs.Keys.{lists}
-use Rattle.owner_view.specs.Indexes.{is_key_reserved, KeepsFound}
-use Rattle.owner_view.proofs.indexes.reserve_all.Given as goal
+use Rattle.storage_home.specs.Indexes.{is_key_reserved, lists, KeepsFound, StayReserved}
+use Rattle.storage_home.proofs.indexes.reserve_all.Given as goal
 
 abbrev pub invariant-loop-key : goal.invariant-loop-key
 invariant-loop-key l =
     KeepsFound l.initial.indexes.entries l.indexes.entries
     × ((key : ℕ) (bytes : List ℕ) → cond (lists (drop l.key-index l.pairs) key bytes) true (is_key_reserved l.indexes.entries key bytes) ≡ cond (lists l.pairs key bytes) true (is_key_reserved l.initial.indexes.entries key bytes))
+    × StayReserved l.initial.indexes.entries l.indexes.entries

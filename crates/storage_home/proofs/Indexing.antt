@@ -3,13 +3,12 @@ use Rattle.std.proofs.Common.{ℕ, ◌≡◌, ◌==◌, List, [], ◌∷◌, Som
 use Rattle.std.specs.Prelude.{◌&&◌, ◌||◌}
 use Rattle.std.specs.Cmp.{nat_eq_equiv}
 use Rattle.std.specs.Str.{bytes_eq}
+use Rattle.type_layout.specs.declared.key.KeyNo.{KeyNo}
 use Rattle.type_layout.specs.Schemas.{given}
 use Rattle.key_index.specs.Index.{Index}
-use Rattle.storage_home.specs.Keys.{is_pair, lists}
-use Rattle.owner_view.specs.Keyed.{Pair}
-use Rattle.owner_view.specs.Indexes.{Indexes, index_at, found_at, is_key_reserved, TurnsIndex, TurnsFoundAt, TurnsKeyReservedAt, MayPut}
+use Rattle.storage_home.specs.Indexes.{Indexes, index_at, found_at, is_key_reserved, is_pair, lists, TurnsIndex, TurnsFoundAt, TurnsKeyReservedAt, MayPut}
 use Rattle.storage_home.proofs.Holding.{same_bytes_turned}
-use Rattle.owner_view.proofs.Tests.{by_test, same_number}
+use Rattle.storage_home.proofs.Places.{by_test, same_number}
 
 module _ {A : Type 0} (part : Index → List ℕ → A) (d : A) where
   -- a part of the index of a key, where the key has one
@@ -38,7 +37,7 @@ module _ {A : Type 0} (part : Index → List ℕ → A) (d : A) where
 
 -- ---- one key after the other
 
-both_turned : (p q : Pair) → is_pair p q.0.0 q.1 ≡ is_pair q p.0.0 p.1
+both_turned : (p q : KeyNo × List ℕ) → is_pair p q.0.0 q.1 ≡ is_pair q p.0.0 p.1
 both_turned p q = ap (λ b. b && bytes_eq q.1 p.1) (nat_eq_equiv.symm p.0.0 q.0.0) ∙ ap (λ b. (q.0.0 == p.0.0) && b) (same_bytes_turned q.1 p.1)
 
 no_either : (b r : Bool) → (b || r) ≡ false → (b ≡ false) × (r ≡ false)
@@ -46,7 +45,7 @@ no_either true r h = cc
 no_either false r h = (refl, h)
 
 -- after one key was put, the others may be put
-pub may_put_rest : (now new : Indexes) (p : Pair) (serial : ℕ) (rest : List Pair) → TurnsFoundAt now new p.0.0 p.1 (Some serial) → TurnsKeyReservedAt now new p.0.0 p.1 false → lists rest p.0.0 p.1 ≡ false → MayPut now rest → MayPut new rest
+pub may_put_rest : (now new : Indexes) (p : KeyNo × List ℕ) (serial : ℕ) (rest : List (KeyNo × List ℕ)) → TurnsFoundAt now new p.0.0 p.1 (Some serial) → TurnsKeyReservedAt now new p.0.0 p.1 false → lists rest p.0.0 p.1 ≡ false → MayPut now rest → MayPut new rest
 may_put_rest now new p serial [] found reserved other may = tt
 may_put_rest now new p serial (q ∷ qs) found reserved other may =
     let split = no_either (is_pair q p.0.0 p.1) (lists qs p.0.0 p.1) other in

@@ -1,8 +1,8 @@
 use Rattle.std.proofs.Common.{◌+◌, ◌≡◌, ◌∷◌, None, drop, sym, ap, subst, ◌∙◌}
 use Rattle.std.proofs.lemmas.List.{drop_more}
 use Rattle.storage_home.proofs.Holding.{turn_on}
-use Rattle.owner_view.specs.Indexes.{TurnsFoundAt}
-use Rattle.owner_view.proofs.indexes.take_all.Goals as goal
+use Rattle.storage_home.specs.Indexes.{TurnsFoundAt}
+use Rattle.storage_home.proofs.indexes.take_all.Goals as goal
 
 pub loop-key-preserved : goal.loop-key-preserved
 loop-key-preserved c =

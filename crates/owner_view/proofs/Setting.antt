@@ -2,6 +2,7 @@
 use Rattle.std.proofs.Common.{◌≡◌, ◌<◌, ℕ, List, [], ◌∷◌, length, Option, Some, None, sym, ap, subst, ◌∙◌}
 use Rattle.std.specs.List.{slice_get}
 use Rattle.std.specs.FinMap.{get}
+use Rattle.std.proofs.lemmas.List.{length-map}
 use Rattle.std.proofs.lemmas.Option.{slice_get_within}
 use Rattle.pss_base.specs.declared.pid.Pid.{Pid}
 use Rattle.type_layout.specs.declared.home.HomeNo.{HomeNo}
@@ -11,6 +12,7 @@ use Rattle.type_layout.specs.Types.{PlainValue}
 use Rattle.pss_catalog.specs.Catalog.{Object, Catalog, references}
 use Rattle.pss_machine.specs.declared.level.Level.{Level}
 use Rattle.pss_machine.specs.Operations.{Set, Gone, Done}
+use Rattle.pss_machine.specs.Homes.{keys_at}
 use Rattle.pss_machine.specs.Alone.{Outcome, answers, object_of, with_member, unless_gone, stored}
 use Rattle.pss_machine.specs.Needs.{object_need, targets}
 use Rattle.pss_machine.specs.declared.lock.Mode.TheVariants.{X as Write}
@@ -19,7 +21,7 @@ use Rattle.owner_view.specs.declared.seen.Seen.{Seen}
 use Rattle.owner_view.specs.declared.step.Step.{Step}
 use Rattle.owner_view.specs.Keyed.{all_keyed, keys_of}
 use Rattle.owner_view.specs.Seen.{Fits, FitsMember, IsOfHome, IsShown, home_seen}
-use Rattle.owner_view.specs.Stored.{IsSeenAs}
+use Rattle.owner_view.specs.Stored.{IsSeenAs, IsSeenAt}
 use Rattle.owner_view.specs.Steps.{with_reads, set_needs, stored_unless, changes_put, MayBePut, ComesTo, IsGone, IsStep}
 use Rattle.owner_view.proofs.Showing.{home_shown}
 use Rattle.owner_view.proofs.Needing.{set_needs_are, set_gone}
@@ -27,6 +29,15 @@ use Rattle.owner_view.proofs.Removing.{is_there}
 
 abbrev pub shown_as : (S : Schema) (state : Option Object) (seen : Seen) → IsSeenAs S state (Some seen) → IsShown S seen
 shown_as S state seen there = record { object = there.0; fits = there.2; is = there.3 }
+
+-- two objects of a home have as many keys
+pub as_many_keys : (S : Schema) (state : Option Object) (object : Object) → IsOfHome state object.home → length (keys_of S state) ≡ length (all_keyed S object)
+as_many_keys S None object of_home = absurd of_home
+as_many_keys S (Some x) object of_home = length-map (keys_at S x.home) _ ∙ ap (λ (h : HomeNo). length (keys_at S h)) of_home ∙ sym (length-map (keys_at S object.home) _)
+
+-- what is seen of the object of a pid is seen at its serial
+abbrev pub seen_at : (S : Schema) (V : Catalog) (p : Pid) (seen : Seen) → IsSeenAs S (object_of V p) (Some seen) → IsSeenAt S V p.serial (Some seen)
+seen_at S V p seen there = (there.0, (is_there V p there.0 there.1).0, there.2, there.3)
 
 module _ (S : Schema) (V : Catalog) (p : Pid) (member : ℕ) (value : PlainValue) (fits : FitsMember S p member value) (seen : Seen) (there : IsSeenAs S (object_of V p) (Some seen)) where
   home_is : there.0.home ≡ record { 0 = p.home }

@@ -1,19 +1,20 @@
 // Objects that go.
-ghost use Rattle.std.specs.Prelude.{◌≡◌, IfOk};
+ghost use Rattle.std.specs.Prelude.{◌≡◌, Some, IfOk};
 ghost use Rattle.pss_machine.specs.Operations.{Destroy};
 ghost use Rattle.owner_view.specs.Overlay.{changes_in};
+ghost use Rattle.owner_view.specs.Seen.{home_seen};
 ghost use Rattle.owner_view.specs.Views.{seen_with};
-ghost use Rattle.owner_view.specs.Stored.{Sees};
+ghost use Rattle.owner_view.specs.Stored.{Sees, IsSeenAt};
 ghost use Rattle.owner_view.specs.Steps.{IsStep, IsRemoval, whole_needs};
 
 use crate::committed::Committed;
-use crate::draft::keys_at;
+use crate::draft::keys_of_found;
 use crate::gone::step_of_gone;
 use crate::needs::need_whole;
 use crate::seen::home_of;
 use crate::states::Slot;
 use crate::step::{Pairs, Put, Step};
-use crate::view::{View, object_of};
+use crate::view::{Found, View, object_of};
 use pss_base::{Bytes, NoMemory, Pid};
 use pss_machine::{Answer, Level, Needs};
 use std::alloc::Global;
@@ -30,23 +31,30 @@ pub fn destroy<C: Committed>(
     ensures { IfOk result (λ step. (v : Sees C.shows view.now) → IsStep view.now.schema.now level (seen_with v.catalog (changes_in view.now.overlay.now)) (Destroy pid) step) }
 {
     match object_of(view, pid) {
-        Some(seen) => removal(alloc, view, pid.serial, home_of(seen)),
+        Some(seen) => {
+            let found = Found {
+                serial: pid.serial,
+                seen,
+            };
+            removal(alloc, view, &found)
+        }
         None => step_of_gone(alloc, level, pid, &[]),
     }
 }
 
-// The step that removes the object at a serial, which is of this home.
+// The step that removes an object that the view has.
 fn removal<C: Committed>(
     alloc: Global,
     view: &View<'_, C>,
-    serial: u64,
-    home: HomeNo,
+    found: &Found<'_>,
 ) -> Result<Step, NoMemory>
     requires sees { Sees C.shows view.now }
-    ensures { IfOk result (λ step. (v : Sees C.shows view.now) → IsRemoval view.now.schema.now (seen_with v.catalog (changes_in view.now.overlay.now)) serial home step) }
+    requires found { (v : Sees C.shows view.now) → IsSeenAt view.now.schema.now (seen_with v.catalog (changes_in view.now.overlay.now)) found.now.serial (Some found.now.seen) }
+    ensures { IfOk result (λ step. (v : Sees C.shows view.now) → IsRemoval view.now.schema.now (seen_with v.catalog (changes_in view.now.overlay.now)) found.now.serial (home_seen found.now.seen) step) }
 {
-    let had = keys_at(alloc, view, serial)?;
-    let needs = needs_of_removal(alloc, serial, home, &had)?;
+    let serial = found.serial;
+    let had = keys_of_found(alloc, view, found)?;
+    let needs = needs_of_removal(alloc, serial, home_of(found.seen), &had)?;
     Ok(Step {
         needs,
         answer: Answer::Done,

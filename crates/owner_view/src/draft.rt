@@ -1,5 +1,5 @@
 // An object that would come to be or become another, before it is known whether it may.
-ghost use Rattle.std.specs.Prelude.{◌≡◌, List, length, IfOk};
+ghost use Rattle.std.specs.Prelude.{◌≡◌, List, Some, length, IfOk};
 ghost use Rattle.pss_base.specs.declared.pid.Pid.{Pid as Referred};
 ghost use Rattle.type_layout.specs.declared.schema.Schema.{Schema as PlainSchema};
 ghost use Rattle.pss_catalog.specs.Catalog.{Catalog};
@@ -12,7 +12,7 @@ ghost use Rattle.owner_view.specs.Keyed.{all_keyed, keys_of};
 ghost use Rattle.type_layout.specs.Sound.{IsSoundSchema};
 ghost use Rattle.owner_view.specs.Seen.{Fits, IsOfHome, plain_object};
 ghost use Rattle.owner_view.specs.Views.{seen_with};
-ghost use Rattle.owner_view.specs.Stored.{Sees};
+ghost use Rattle.owner_view.specs.Stored.{Sees, IsSeenAt};
 ghost use Rattle.owner_view.specs.Steps.{IsDraft, ComesTo, stored_unless, whole_needs, set_needs, with_reads};
 
 use crate::committed::Committed;
@@ -23,7 +23,7 @@ use crate::refusal::{Refusal, refusal_of};
 use crate::seen::Seen;
 use crate::states::Slot;
 use crate::step::{Pairs, Put, Step};
-use crate::view::{View, object_at};
+use crate::view::{Found, View, object_at};
 use pss_base::{Bytes, NoMemory, Pid};
 use pss_machine::{Answer, Level, Needs};
 use std::alloc::Global;
@@ -50,7 +50,8 @@ pub fn draft_new<C: Committed>(
     requires fits { Fits view.now.schema.now (plain_object object.now) }
     ensures { IfOk result (λ draft. (v : Sees C.shows view.now) → IsDraft view.now.schema.now (seen_with v.catalog (changes_in view.now.overlay.now)) serial (plain_object object.now) (with_reads level (whole_needs serial object.now.home (all_keyed view.now.schema.now (plain_object object.now))) (targets references.now)) (stored_unless view.now.schema.now (seen_with v.catalog (changes_in view.now.overlay.now)) serial (plain_object object.now) references.now) draft) }
 {
-    let pairs = pairs_of(alloc, view, serial, object)?;
+    let had = keys_at(alloc, view, serial)?;
+    let pairs = with_keys_of(alloc, view.schema, had, object)?;
     let needs = needs_of_new(alloc, level, serial, object, &pairs.has, references)?;
     Ok(Draft {
         needs,
@@ -75,25 +76,27 @@ fn needs_of_new(
     Ok(needs)
 }
 
-/// An object that would become this one, with the objects to which its new value refers.
+/// An object that the view has and that would become another, with the objects to which its new value refers.
 pub fn draft_set<C: Committed>(
     alloc: Global,
     view: &View<'_, C>,
     level: Level,
-    serial: u64,
+    found: &Found<'_>,
     object: &Changed,
     references: &[Pid],
 ) -> Result<Draft, NoMemory>
     requires sees { Sees C.shows view.now }
     requires fits { Fits view.now.schema.now (plain_object object.now) }
-    requires home { (v : Sees C.shows view.now) → IsOfHome (map.get (seen_with v.catalog (changes_in view.now.overlay.now)) serial) object.now.home }
-    ensures { IfOk result (λ draft. (v : Sees C.shows view.now) → IsDraft view.now.schema.now (seen_with v.catalog (changes_in view.now.overlay.now)) serial (plain_object object.now) (with_reads level (set_needs serial (keys_of view.now.schema.now (map.get (seen_with v.catalog (changes_in view.now.overlay.now)) serial)) (all_keyed view.now.schema.now (plain_object object.now))) (targets references.now)) (stored_unless view.now.schema.now (seen_with v.catalog (changes_in view.now.overlay.now)) serial (plain_object object.now) references.now) draft) }
+    requires found { (v : Sees C.shows view.now) → IsSeenAt view.now.schema.now (seen_with v.catalog (changes_in view.now.overlay.now)) found.now.serial (Some found.now.seen) }
+    requires home { (v : Sees C.shows view.now) → IsOfHome (map.get (seen_with v.catalog (changes_in view.now.overlay.now)) found.now.serial) object.now.home }
+    ensures { IfOk result (λ draft. (v : Sees C.shows view.now) → IsDraft view.now.schema.now (seen_with v.catalog (changes_in view.now.overlay.now)) found.now.serial (plain_object object.now) (with_reads level (set_needs found.now.serial (keys_of view.now.schema.now (map.get (seen_with v.catalog (changes_in view.now.overlay.now)) found.now.serial)) (all_keyed view.now.schema.now (plain_object object.now))) (targets references.now)) (stored_unless view.now.schema.now (seen_with v.catalog (changes_in view.now.overlay.now)) found.now.serial (plain_object object.now) references.now) draft) }
 {
-    let pairs = pairs_of(alloc, view, serial, object)?;
-    let needs = needs_of_set(alloc, level, serial, &pairs, references)?;
+    let had = keys_of_found(alloc, view, found)?;
+    let pairs = with_keys_of(alloc, view.schema, had, object)?;
+    let needs = needs_of_set(alloc, level, found.serial, &pairs, references)?;
     Ok(Draft {
         needs,
-        refusal: refusal_of(view, serial, object, references, &pairs.has),
+        refusal: refusal_of(view, found.serial, object, references, &pairs.has),
         pairs,
     })
 }
@@ -114,27 +117,24 @@ fn needs_of_set(
     Ok(needs)
 }
 
-// The keys of the object that the view has at a serial, and those of the one that would stand there.
-fn pairs_of<C: Committed>(
+// The keys that an object had, and those of the one that it would become.
+fn with_keys_of(
     alloc: Global,
-    view: &View<'_, C>,
-    serial: u64,
+    schema: &Schema,
+    had: Vec<(KeyNo, Bytes)>,
     object: &Changed,
 ) -> Result<Pairs, NoMemory>
-    requires sees { Sees C.shows view.now }
-    requires fits { Fits view.now.schema.now (plain_object object.now) }
-    ensures had { IfOk result (λ pairs. (v : Sees C.shows view.now) → pairs.had.items ≡ keys_of view.now.schema.now (map.get (seen_with v.catalog (changes_in view.now.overlay.now)) serial)) }
-    ensures has { IfOk result (λ pairs. pairs.has.items ≡ all_keyed view.now.schema.now (plain_object object.now)) }
+    requires sound { IsSoundSchema schema.now }
+    requires fits { Fits schema.now (plain_object object.now) }
+    ensures had { IfOk result (λ pairs. pairs.had.items ≡ had.items) }
+    ensures has { IfOk result (λ pairs. pairs.has.items ≡ all_keyed schema.now (plain_object object.now)) }
 {
-    let had = keys_at(alloc, view, serial)?;
-    match keys_of_changed(alloc, view.schema, object) {
-        Ok(has) => Ok(Pairs { had, has }),
-        Err(NoMemory) => Err(NoMemory),
-    }
+    let has = keys_of_changed(alloc, schema, object)?;
+    Ok(Pairs { had, has })
 }
 
-/// The keys of the object that the view has at a serial, none where it has none.
-pub fn keys_at<C: Committed>(
+// The keys of the object that the view has at a serial, none where it has none.
+fn keys_at<C: Committed>(
     alloc: Global,
     view: &View<'_, C>,
     serial: u64,
@@ -143,9 +143,22 @@ pub fn keys_at<C: Committed>(
     ensures { IfOk result (λ pairs. (v : Sees C.shows view.now) → pairs.items ≡ keys_of view.now.schema.now (map.get (seen_with v.catalog (changes_in view.now.overlay.now)) serial)) }
 {
     match object_at(view, serial) {
-        Some(seen) => keyed_of(alloc, view.schema, seen),
+        Some(seen) => keys_of_found(alloc, view, &Found { serial, seen }),
         None => Ok(Vec::new(alloc)),
     }
+}
+
+/// The keys of an object that the view has.
+pub fn keys_of_found<C: Committed>(
+    alloc: Global,
+    view: &View<'_, C>,
+    found: &Found<'_>,
+) -> Result<Vec<(KeyNo, Bytes)>, NoMemory>
+    requires sees { Sees C.shows view.now }
+    requires found { (v : Sees C.shows view.now) → IsSeenAt view.now.schema.now (seen_with v.catalog (changes_in view.now.overlay.now)) found.now.serial (Some found.now.seen) }
+    ensures { IfOk result (λ pairs. (v : Sees C.shows view.now) → pairs.items ≡ keys_of view.now.schema.now (map.get (seen_with v.catalog (changes_in view.now.overlay.now)) found.now.serial)) }
+{
+    keyed_of(alloc, view.schema, found.seen)
 }
 
 /// The keys of an object as an owner changed it.

@@ -39,7 +39,8 @@ fn keyed_by(
     Ok(pairs)
 }
 
-/// All keys of an object.
+/// All keys of an object. Most homes have none, and then there is nothing to list.
+#[inline(always)]
 pub fn keyed_of(
     alloc: Global,
     schema: &Schema,
@@ -49,5 +50,9 @@ pub fn keyed_of(
     requires shown { IsShown schema.now seen }
     ensures { IfOk result (λ pairs. (s : IsShown schema.now seen.entry) → pairs.items ≡ all_keyed schema.now s.object) }
 {
-    keyed_by(alloc, schema, seen, keys_at(schema, home_of(seen)))
+    let keys = keys_at(schema, home_of(seen));
+    if keys.is_empty() {
+        return Ok(Vec::new(alloc));
+    }
+    keyed_by(alloc, schema, seen, keys)
 }

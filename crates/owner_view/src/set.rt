@@ -11,7 +11,7 @@ ghost use Rattle.owner_view.specs.Overlay.{changes_in};
 ghost use Rattle.owner_view.specs.Keyed.{all_keyed, keys_of};
 ghost use Rattle.owner_view.specs.Seen.{Fits, FitsMember, IsOfHome, IsShown, home_seen, plain_object};
 ghost use Rattle.owner_view.specs.Views.{seen_with};
-ghost use Rattle.owner_view.specs.Stored.{Sees, IsSeenAs};
+ghost use Rattle.owner_view.specs.Stored.{Sees, IsSeenAs, IsSeenAt};
 ghost use Rattle.owner_view.specs.Steps.{ComesTo, IsStep, set_needs, stored_unless, with_reads};
 ghost use Rattle.pss_catalog.specs.Catalog.{references as references_in};
 
@@ -22,7 +22,7 @@ use crate::object::Changed;
 use crate::references::references_of;
 use crate::seen::{Seen, home_of, record_of};
 use crate::step::Step;
-use crate::view::{View, object_of};
+use crate::view::{Found, View, object_of};
 use pss_base::{NoMemory, Pid};
 use pss_machine::{Answer, Level};
 use std::alloc::Global;
@@ -69,24 +69,29 @@ fn set_seen<C: Committed>(
     ensures { IfOk result (λ step. (v : Sees C.shows view.now) → IsStep view.now.schema.now level (seen_with v.catalog (changes_in view.now.overlay.now)) (Set setting.now.pid setting.now.member (plain_value setting.now.value.now)) step) }
 {
     let object = changed(alloc, view.schema, seen, setting)?;
-    set_to(alloc, view, level, setting.pid.serial, object, references)
+    let found = Found {
+        serial: setting.pid.serial,
+        seen,
+    };
+    set_to(alloc, view, level, &found, object, references)
 }
 
 fn set_to<C: Committed>(
     alloc: Global,
     view: &View<'_, C>,
     level: Level,
-    serial: u64,
+    found: &Found<'_>,
     object: Changed,
     references: &[Pid],
 ) -> Result<Step, NoMemory>
     requires sees { Sees C.shows view.now }
     requires fits { Fits view.now.schema.now (plain_object object) }
-    requires home { (v : Sees C.shows view.now) → IsOfHome (map.get (seen_with v.catalog (changes_in view.now.overlay.now)) serial) object.home }
-    ensures { IfOk result (λ step. (v : Sees C.shows view.now) → ComesTo view.now.schema.now (seen_with v.catalog (changes_in view.now.overlay.now)) (with_reads level (set_needs serial (keys_of view.now.schema.now (map.get (seen_with v.catalog (changes_in view.now.overlay.now)) serial)) (all_keyed view.now.schema.now (plain_object object))) (targets references.now)) (stored_unless view.now.schema.now (seen_with v.catalog (changes_in view.now.overlay.now)) serial (plain_object object) references.now Done) step) }
+    requires found { (v : Sees C.shows view.now) → IsSeenAt view.now.schema.now (seen_with v.catalog (changes_in view.now.overlay.now)) found.now.serial (Some found.now.seen) }
+    requires home { (v : Sees C.shows view.now) → IsOfHome (map.get (seen_with v.catalog (changes_in view.now.overlay.now)) found.now.serial) object.home }
+    ensures { IfOk result (λ step. (v : Sees C.shows view.now) → ComesTo view.now.schema.now (seen_with v.catalog (changes_in view.now.overlay.now)) (with_reads level (set_needs found.now.serial (keys_of view.now.schema.now (map.get (seen_with v.catalog (changes_in view.now.overlay.now)) found.now.serial)) (all_keyed view.now.schema.now (plain_object object))) (targets references.now)) (stored_unless view.now.schema.now (seen_with v.catalog (changes_in view.now.overlay.now)) found.now.serial (plain_object object) references.now Done) step) }
 {
-    let draft = draft_set(alloc, view, level, serial, &object, references)?;
-    Ok(draft.step(serial, object, Answer::Done))
+    let draft = draft_set(alloc, view, level, found, &object, references)?;
+    Ok(draft.step(found.serial, object, Answer::Done))
 }
 
 // The object with the member's new value.

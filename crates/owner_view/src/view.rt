@@ -25,6 +25,13 @@ pub struct View<'a, C> {
     pub overlay: &'a Overlay,
 }
 
+/// An object that a view has, with its serial.
+#[derive(Clone, Copy, Drop)]
+pub struct Found<'a> {
+    pub serial: u64,
+    pub seen: Seen<'a>,
+}
+
 /// The object with a serial, where the view has one.
 pub fn object_at<'a, C: Committed>(view: &View<'a, C>, serial: u64) -> Option<Seen<'a>>
     requires { Sees C.shows view.now }

@@ -9,5 +9,5 @@ pub keyed_by-requires-clause-there : goal.keyed_by-requires-clause-there
 keyed_by-requires-clause-there c =
     let s = c.requires.shown in
     let home = home_shown c.args.schema.now c.args.seen s in
-    subst (λ (h : HomeNo). HasKeys c.args.schema.now h c.keys_at.result.now) (sym home)
-    (has_keys c.args.schema.now s.object.home s.fits.home s.fits.there c.keys_at.result.now (c.keys_at.ensures ∙ ap (keys_at c.args.schema.now) (c.home_of.ensures ∙ home)))
+    subst (λ (h : HomeNo). HasKeys c.args.schema.now h c.keys_at-keys.result.now) (sym home)
+    (has_keys c.args.schema.now s.object.home s.fits.home s.fits.there c.keys_at-keys.result.now (c.keys_at-keys.ensures ∙ ap (keys_at c.args.schema.now) (c.home_of.ensures ∙ home)))

@@ -4,7 +4,7 @@ use Rattle.cdr_codec.proofs.Members.{if_ok}
 use Rattle.owner_view.specs.Overlay.{changes_in}
 use Rattle.owner_view.specs.Seen.{plain_object}
 use Rattle.owner_view.specs.Views.{seen_with}
-use Rattle.owner_view.proofs.Setting.{shown_as, member_there, set_fits, set_home, set_is}
+use Rattle.owner_view.proofs.Setting.{shown_as, seen_at, member_there, set_fits, set_home, set_is}
 use Rattle.owner_view.proofs.set.set_seen.Goals as goal
 
 pub changed-requires-clause-shown : goal.changed-requires-clause-shown
@@ -24,6 +24,9 @@ set_to-requires-clause-fits g c =
     let there = c.requires.seen v in
     set_fits c.args.view.now.schema.now seen c.args.setting.now.pid c.args.setting.now.member (plain_value c.args.setting.now.value.now) c.requires.fits c.args.seen there (plain_object c.in_ok-object.object)
     (c.in_ok-object.ensures (shown_as c.args.view.now.schema.now (object_of seen c.args.setting.now.pid) c.args.seen there))
+
+pub set_to-requires-clause-found : goal.set_to-requires-clause-found
+set_to-requires-clause-found g c v = seen_at c.args.view.now.schema.now (seen_with v.catalog (changes_in c.args.view.now.overlay.now)) c.args.setting.now.pid c.args.seen (c.requires.seen v)
 
 pub set_to-requires-clause-home : goal.set_to-requires-clause-home
 set_to-requires-clause-home g c v =

@@ -28,7 +28,7 @@ use Rattle.connector_parts.specs.declared.parts.Parts.{Parts}
 use Rattle.connector_parts.specs.declared.finding.Found.{Found}
 use Rattle.connector_parts.specs.Stands.{Stands, IsAt, StayAs, Comes}
 use Rattle.connector_parts.specs.Found.{IsFound}
-use Rattle.connector_parts.proofs.Decisions.{in_state, for_found, for_none, only_told, comes}
+use Rattle.connector_parts.proofs.Decisions.{in_state, for_found, only_told, comes}
 use Rattle.connector_parts.proofs.Bounds.{own_at}
 use Rattle.commit_calls.specs.Ready.{MayMakeReady}
 use Rattle.commit_calls.specs.Commits.{MayFlush, Follows}
@@ -112,9 +112,6 @@ acts_of k n tx = by (get k.owners n.0) refl tx
     by (Some owner) at e = record { owner = owner; there = at; level = level_of (is_basic owner.level) e }
 
 module _ (c : Parts) (k : Kept) (at : IsAt c k) (name : List ℕ) where
-  pub no_transaction : None ≡ transaction_named k name → Comes c k (command.Commit name) reply.NoTransaction c
-  no_transaction none = only_told c k at (command.Commit name) reply.NoTransaction (for_none k name none (committing c.schema c.limits k))
-
   module _ (n : OwnerNo) (named : Some n ≡ transaction_named k name) where
     pub committing_is : decision c.schema c.limits k (command.Commit name) ≡ committing c.schema c.limits k n
     committing_is = for_found k name n named (committing c.schema c.limits k)

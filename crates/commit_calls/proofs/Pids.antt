@@ -1,8 +1,6 @@
 -- The objects of changes.
-use Rattle.std.proofs.Common.{ℕ, suc, zero, ◌≡◌, ◌<◌, List, [], ◌∷◌, ◌++◌, map, length, take, Option, Some, None, sym, ap, ◌∙◌, arith}
+use Rattle.std.proofs.Common.{ℕ, ◌≡◌, List, [], ◌∷◌, map, Option, Some, None, sym, ap, ◌∙◌}
 use Rattle.std.specs.FinMap.{get}
-use Rattle.std.proofs.Math.ListN.{get_or}
-use Rattle.pss_base.specs.declared.pid.Pid.{Pid}
 use Rattle.pss_base.specs.declared.owner.OwnerNo.{OwnerNo}
 use Rattle.type_layout.specs.declared.home.HomeNo.{HomeNo}
 use Rattle.type_layout.specs.declared.schema.Schema.{Schema}
@@ -36,12 +34,3 @@ pub pids_of_net : (S : Schema) (limits : Limits) (k : Kept) → IsReached S limi
 pids_of_net S limits k reached n owner there cs are =
     let fine = fine_at S limits k reached in
     of_changes S k.catalog k.next (net k.catalog owner) cs are (net_each S k.next k.catalog owner fine.catalog (fine.views n.0 owner there) ((keeping_at S limits k reached).homes n.0 owner there))
-
--- one more
-pub pid_more : (cs : List Change) (i k : ℕ) (c : Change) (pids : List Pid) → k ≡ suc i → i < length cs → c ≡ get_or cs i c → pids ≡ map pid_of (take i cs) → pids ++ record { home = c.put.home; serial = c.put.serial } ∷ [] ≡ map pid_of (take k cs)
-pid_more cs i k c pids next less is so = ap (λ l. l ++ record { home = c.put.home; serial = c.put.serial } ∷ []) so ∙ sym (by cs i less is) ∙ ap (λ m. map pid_of (take m cs)) (sym next)
-  where
-    by : (cs : List Change) (i : ℕ) → i < length cs → c ≡ get_or cs i c → map pid_of (take (suc i) cs) ≡ map pid_of (take i cs) ++ record { home = c.put.home; serial = c.put.serial } ∷ []
-    by [] i less is = absurd (omega (arith, less))
-    by (d ∷ ds) zero less is = ap (λ x. pid_of x ∷ []) (sym is)
-    by (d ∷ ds) (suc i) less is = ap (λ l. pid_of d ∷ l) (by ds i (omega (arith, less)) is)

@@ -1,14 +1,12 @@
 -- What the commands that have nothing to do with the store, and a checkpoint, make of what is stored.
-use Rattle.std.proofs.Common.{ℕ, ◌≡◌, List, Option, Some, None, IfSome, refl, sym, ◌∙◌, ap, subst}
+use Rattle.std.proofs.Common.{ℕ, ◌≡◌, List, Option, Some, None, IfSome, sym, ap, subst}
 use Rattle.std.specs.Prelude.{is_some}
 use Rattle.pss_disk.specs.Moments.{Moment, Through}
-use Rattle.pss_disk.proofs.Passing.{none_came}
 use Rattle.type_layout.specs.declared.schema.Schema.{Schema}
 use Rattle.pss_catalog.specs.Catalog.{Catalog}
 use Rattle.page_store.specs.Stores.{AllHave}
 use Rattle.pss_machine.specs.declared.command.Command.{Command}
 use Rattle.pss_machine.specs.declared.command.Command.TheVariants as command
-use Rattle.pss_machine.specs.declared.reply.Reply.TheVariants as reply
 use Rattle.pss_machine.specs.Kept.{Kept}
 use Rattle.pss_machine.specs.Effects.{Effect, Stays}
 use Rattle.pss_machine.specs.Deciding.{decision}
@@ -17,7 +15,6 @@ use Rattle.pss_recovery.specs.declared.parts.Parts.{Parts as Store}
 use Rattle.pss_recovery.specs.Mounted.{IsMounted, StandsEither}
 use Rattle.pss_recovery.specs.Stands.{Stands}
 use Rattle.connector_parts.specs.declared.parts.Parts.{Parts}
-use Rattle.connector_parts.specs.Stands.{IsAt, Comes}
 use Rattle.commit_saving.specs.Saving.{IfTold, saved_by}
 use Rattle.commit_saving.proofs.Stored.{told_there, either_of}
 use Rattle.commit_calls.proofs.Commitments.{StoresNothing, becomes_same, passes_none}
@@ -43,11 +40,6 @@ module _ (p : Parts) (x : Command) (memory : IsInMemory x) (k : Kept) (store : S
   pub memory_next : store.next ≡ saved_by k store.next (effect_of p k x)
   memory_next = sym (nothing.saved store.next)
 
--- nothing came
-pub nothing_came : (S : Schema) (k : Kept) (store : Store) (content : Option (List ℕ)) (moments : List Moment) (saved : ℕ) → IfSome content (λ octets. IsMounted S k.catalog saved store octets → Through moments moments (AllHave (Stands S k.catalog saved)))
-nothing_came S k store None moments saved = tt
-nothing_came S k store (Some c) moments saved = λ mounted. none_came moments (AllHave (Stands S k.catalog saved))
-
 -- ---- a checkpoint
 
 still_told : (P Q : List ℕ → Type 0) (old new : Option (List ℕ)) → is_some new ≡ is_some old → IfSome old (λ c. P c → IfSome new Q) → IfSome old (λ c. P c → IfTold new Q)
@@ -63,17 +55,11 @@ module _ (p : Parts) (x : Command) (is : x ≡ command.Checkpoint) (before after
   nothing_moves : effect_of p k x ≡ Stays
   nothing_moves = ap (effect_of p k) is
 
-  pub checkpoint_comes : IsAt p k → Comes p k x reply.Done p
-  checkpoint_comes at = subst (λ (y : Command). Comes p k y reply.Done p) (sym is) (record { reply_is = refl; stay = record { schema = refl; limits = refl }; stands = at.stands })
-
   pub checkpoint_saved : is_some new ≡ is_some old → ((S : Schema) (M : Catalog) (next : ℕ) → IfSome old (λ c. IsMounted S M next before c → IfSome new (IsMounted S M next after)))
       → (saved : ℕ) → IfSome old (λ c. IsMounted p.schema k.catalog saved before c → IfTold new (IsMounted p.schema (moved k (effect_of p k x)).catalog (saved_by k saved (effect_of p k x)) after))
   checkpoint_saved told made saved =
       subst (λ (e : Effect). IfSome old (λ c. IsMounted p.schema k.catalog saved before c → IfTold new (IsMounted p.schema (moved k e).catalog (saved_by k saved e) after))) (sym nothing_moves)
       (still_told (IsMounted p.schema k.catalog saved before) (IsMounted p.schema k.catalog saved after) old new told (made p.schema k.catalog saved))
-
-  pub checkpoint_next : after.next ≡ before.next → after.next ≡ saved_by k before.next (effect_of p k x)
-  checkpoint_next same = same ∙ sym (ap (λ (e : Effect). saved_by k before.next e) nothing_moves)
 
 pub checkpoint_images : (p : Parts) (x : Command) (before : Store) (old : Option (List ℕ)) (a b : List Moment) → ((S : Schema) (M : Catalog) (next : ℕ) → IfSome old (λ c. IsMounted S M next before c → Through a b (AllHave (Stands S M next))))
     → (k : Kept) (saved : ℕ) → IfSome old (λ c. IsMounted p.schema k.catalog saved before c → Through a b (AllHave (StandsEither p.schema k.catalog saved (moved k (effect_of p k x)).catalog (saved_by k saved (effect_of p k x)))))

@@ -1,5 +1,5 @@
 -- What a connector keeps.
-use Rattle.std.specs.Prelude.{ℕ, ◌≡◌, ◌≤◌, Bool, List}
+use Rattle.std.specs.Prelude.{ℕ, ◌≡◌, ◌≤◌, Bool}
 use Rattle.type_layout.specs.declared.schema.Schema.{Schema}
 use Rattle.pss_machine.specs.declared.limits.Limits.{Limits}
 use Rattle.pss_machine.specs.Kept.{Kept}
@@ -7,7 +7,6 @@ use Rattle.pss_catalog.specs.Catalog.{Catalog, IsGood}
 use Rattle.storage_home.specs.Kept.{IsKept}
 use Rattle.pss_recovery.specs.declared.mounting.Mounted.{Mounted}
 use Rattle.pss_recovery.specs.declared.parts.Parts.{Parts as Store}
-use Rattle.pss_recovery.specs.Mounted.{IsMounted}
 use Rattle.owner_accounts.specs.Reached.{IsReached}
 use Rattle.connector_parts.specs.Few as parts
 use Rattle.connector_parts.specs.Few.{AreFew}
@@ -51,10 +50,6 @@ pub record Keeps (c : Connector) (k : Kept) : Type 0 where
 pub record AnyKept (c : Connector) : Type 0 where
   pub kept : Kept
   pub keeps : Keeps c kept
-
--- the content of its station stands for the objects that the machine keeps, with this as the next serial
-abbrev pub IsSaved : Connector → Kept → (saved : ℕ) → List ℕ → Type 0
-IsSaved c k saved content = IsMounted (schema_of c) k.catalog saved (store_of c) content
 
 -- ---- what is mounted
 

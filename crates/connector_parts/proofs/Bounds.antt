@@ -12,11 +12,9 @@ use Rattle.pss_machine.specs.Entries.{NumbersRise, AreOrderly}
 use Rattle.pss_machine.proofs.Logic.{none_some, same_some}
 use Rattle.pss_machine.proofs.Orderly.{entries_are_orderly}
 use Rattle.pss_machine.proofs.Numbering.{PairedIn, run_paired}
-use Rattle.pss_laws.proofs.Turns.{good_given}
 use Rattle.owner_accounts.specs.Steps.{HasCommands}
-use Rattle.pss_copies.specs.Ruled.{AreOwned, HomesAgree}
+use Rattle.pss_copies.specs.Ruled.{AreOwned}
 use Rattle.pss_copies.proofs.Tying.{always_owned}
-use Rattle.pss_copies.proofs.Homing.{always_agree}
 use Rattle.connector_parts.specs.declared.parts.Parts.{Parts}
 use Rattle.connector_parts.specs.Few.{CountAtMost, AreFewEntries}
 use Rattle.connector_parts.specs.Stands.{IsAt}
@@ -57,11 +55,6 @@ module _ (c : Parts) (k : Kept) (at : IsAt c k) where
   pub own_at : AreOwned k.owners k.sessions k.next_owner
   own_at = subst (λ (j : Kept). AreOwned j.owners j.sessions j.next_owner) (sym at.reached.is) (always_owned c.schema c.limits at.reached.catalog at.reached.next at.reached.lines)
 
-  pub homes_at : HomesAgree k
-  homes_at =
-      subst HomesAgree (sym at.reached.is)
-      (always_agree c.schema c.limits at.reached.catalog at.reached.next at.reached.lines at.reached.good.unique (good_given c.schema at.reached.catalog at.reached.next at.reached.good))
-
   -- the entries of each session are in order
   pub in_order_at : (s : ℕ) (copies : Copies) → get k.copies s ≡ Some copies → AreOrderly copies
   in_order_at = subst (λ (j : Kept). (s : ℕ) (copies : Copies) → get j.copies s ≡ Some copies → AreOrderly copies) (sym at.reached.is) (entries_are_orderly c.schema c.limits at.reached.catalog at.reached.next at.reached.lines)
@@ -85,17 +78,11 @@ module _ (c : Parts) (k : Kept) (at : IsAt c k) where
   pub owners_left : k.next_owner < 2 ^ 32
   owners_left = omega (arith, at.few.owners, at.left)
 
-  pub sessions_left : k.next_session < 2 ^ 32
-  sessions_left = omega (arith, at.few.sessions, at.left)
-
   pub commits_left : k.commits < 2 ^ 64 - 1
   commits_left = omega (arith, at.few.commits, at.left)
 
   pub commands_left : (n : OwnerNo) → HasCommands k n
   commands_left n title there = (let few = at.few.commands n.0 title there in omega (arith, few, at.left))
-
-  pub lasts_left : (s : SessionNo) → (copies_of k s).last < 2 ^ 32 - 1
-  lasts_left s = (let few = (few_at s).last in omega (arith, few, at.left))
 
   pub counts_left : (s : SessionNo) (n : ℕ) (e : Entry) → entry_numbered (copies_of k s) n ≡ Some e → e.count < 2 ^ 32 - 1
   counts_left s n e is = (let few = found_counts at.performed n (copies_of k s).entries e (few_at s).counts is in omega (arith, few, at.left))

@@ -31,13 +31,6 @@ behind m name number is = by (session_named m.sessions name) refl is
 pub some_is : {A : Type 0} (o : Option A) (x : A) → o ≡ Some x → IsSome o
 some_is o x is = subst IsSome (sym is) refl
 
-pub none_named : (m : Meaning) (name : List ℕ) → None ≡ number_named m name → session_named m.sessions name ≡ None
-none_named m name is = by (session_named m.sessions name) refl is
-  where
-    by : (o : Option (ℕ × Session)) → session_named m.sessions name ≡ o → None ≡ option_map {U = SessionNo} (λ e. record { 0 = e.0 }) o → o ≡ None
-    by None at e = refl
-    by (Some e) at same = absurd (cc)
-
 -- what a test of the session there tells
 pub told : (P : Session → Type 0) (o : Option Session) (x : Session) → o ≡ Some x → IsSomeAnd o P → P x
 told P o x is holds = subst (λ z. IsSomeAnd z P) is holds

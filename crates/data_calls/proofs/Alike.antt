@@ -65,9 +65,6 @@ module _ (f : Entry → Entry) (keeps : Keeps f) (counts : (e : Entry) → (f e)
 -- ---- what the way makes of them
 
 module _ (body : Pid → Body) (test : Body → Bool) where
-  let_go : Entry → Entry
-  let_go e = if is_attached e && test (body e.pid) then with_stand Loose e else e
-
   pub alike_detached : (c : Copies) → Alike c (detached_from body test c)
   alike_detached c =
       alike_mapped (λ e. if is_attached e && test (body e.pid) then with_stand Loose e else e)

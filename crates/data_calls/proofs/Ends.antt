@@ -83,9 +83,6 @@ entries_or S (Some copies) h = h copies refl
 -- ---- the answer of a step
 
 module _ {S : Schema} {limits : Limits} {k : Kept} {acting : Acting} {asked : Asked} {answer : PlainAnswer} (t : IsStep S limits k acting asked answer) where
-  abbrev seen : Catalog
-  seen = view k.catalog t.is.owner
-
   abbrev Cases : Type 0
   Cases = (step_of S k.catalog t.is.owner (copies_of k acting.session) asked ≡ step_on_view S k.catalog t.is.owner asked.op)
       ⊎ ((a : PlainAnswer) × (step_of S k.catalog t.is.owner (copies_of k acting.session) asked ≡ step_on_copy asked.op a) × IsOnCopy k.catalog t.is.owner (copies_of k acting.session) asked a)

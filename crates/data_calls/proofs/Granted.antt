@@ -39,15 +39,6 @@ use Rattle.data_calls.specs.Asking.{changed_in}
 -- ---- the limits
 
 module _ (limits : Limits) (next : ℕ) (owner : Owner) (copies : Copies) (asked : Asked) where
-  abbrev too_many : Bool
-  too_many = changes_further owner asked.op && nat_le limits.changes (len owner.changes)
-
-  abbrev last_serial : Bool
-  last_serial = is_create asked.op && next == 2 ^ 64 - 1
-
-  abbrev full : Bool
-  full = asked.obtains && nat_le limits.entries (length copies.entries)
-
   pub within_is : (a b c : Bool) → (changes_further owner asked.op && nat_le limits.changes (len owner.changes)) ≡ a → (is_create asked.op && next == 2 ^ 64 - 1) ≡ b → (asked.obtains && nat_le limits.entries (length copies.entries)) ≡ c
       → within limits next owner copies asked ≡ refused_where a reply.Many (refused_where b reply.Serials (refused_where c reply.Entries (Ok asked)))
   within_is a b c first second third =

@@ -1,7 +1,7 @@
 -- A session's own copy of an object: its entry for the object stands on it, and no other one.
 use Rattle.std.proofs.Common.{◌≡◌, ℕ, Bool, true, false, Option, Some, None, IsSome, refl, sym, ap, ◌∙◌}
 use Rattle.std.specs.Prelude.{is_some, if◌then◌else◌}
-use Rattle.std.specs.Option.{option_map, option_and_then}
+use Rattle.std.specs.Option.{option_map}
 use Rattle.std.specs.FinMap.{get}
 use Rattle.pss_base.specs.declared.pid.Pid.{Pid}
 use Rattle.pss_base.specs.declared.owner.OwnerNo.{OwnerNo}
@@ -14,7 +14,7 @@ use Rattle.pss_machine.specs.Sessions.{Session, Sessions, owner_of, is_basic}
 use Rattle.pss_machine.specs.Copies.{is_changed_by, unchanged_in, view_in}
 use Rattle.pss_machine.proofs.Logic.{none_some, same_some}
 use Rattle.incarnations.specs.declared.names.Entry.{Entry}
-use Rattle.incarnations.specs.Meaning.{Meaning, AreCopies, slot, body, body_of, entry_at, stands_on, same_body}
+use Rattle.incarnations.specs.Meaning.{Meaning, AreCopies, slot, body, entry_at, stands_on, same_body}
 use Rattle.incarnations.proofs.Keys.{slot_key, body_told}
 use Rattle.pss_copies.specs.Seats.{AreSeated}
 use Rattle.pss_copies.proofs.Holders.{Holder, holder}
@@ -54,10 +54,6 @@ module _ (owners : Owners) (sessions : Sessions) (m : Meaning) (are : AreCopies 
 
       by : Holder _ (stands_on (body e.pid (InCopy s))) m.entries → e.view ≡ Some (InCopy s)
       by h = at h h.thing.view refl h.passes
-
-  -- an entry on a body finds it there
-  pub body_there : (v : View) → e.view ≡ Some v → IsSome (get m.bodies (body e.pid v))
-  body_there v on = are.bodies (slot s n) (body e.pid v) (ap (option_and_then body_of) there ∙ ap (option_map (body e.pid)) on)
 
   -- an entry on no body has no own copy
   pub none_own : e.view ≡ None → get m.bodies (body e.pid (InCopy s)) ≡ None

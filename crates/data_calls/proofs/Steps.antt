@@ -60,14 +60,6 @@ module _ (S : Schema) (M : Catalog) (owner : Owner) (copies : Copies) (asked : A
       by_level true is e = by_values is (copied_values copies asked.entry) refl e
       by_level false is e = absurd (none_some e)
 
-  -- where the named entry has no copy, the step is on the view
-  pub no_copy : copied_values copies asked.entry ≡ None → step_of S M owner copies asked ≡ step_on_view S M owner asked.op
-  no_copy none = on_view (by (is_basic owner.level))
-    where
-      by : (b : Bool) → (if b then given (copied_values copies asked.entry) None (λ values. told_by_copy (view M owner) values asked.op) else None) ≡ None
-      by true = ap (λ o. given o None (λ values. told_by_copy (view M owner) values asked.op)) none
-      by false = refl
-
   -- each step is one of these
   pub either : (step_of S M owner copies asked ≡ step_on_view S M owner asked.op)
       ⊎ ((answer : PlainAnswer) × (step_of S M owner copies asked ≡ step_on_copy asked.op answer) × IsOnCopy M owner copies asked answer)

@@ -66,11 +66,6 @@ module _ (k : Kept) (s : SessionNo) where
   abbrev seen : Pid → View
   seen = seen_in k.owners k.sessions s
 
-  -- named entries
-  named_copies : (entry : Option ℕ) → (named_at k s entry).copies ≡ with_at k.copies s.0 (with_named k.catalog (seen_in k.owners k.sessions s) entry)
-  named_copies None = sym (with_at_same k.copies s.0 (λ c. c) (λ x e. refl))
-  named_copies (Some n) = refl
-
   -- what is found
   found_copies : (obtains : Bool) (answer : PlainAnswer) → (found_at k s obtains answer).copies ≡ with_at k.copies s.0 (with_found k.catalog (seen_in k.owners k.sessions s) obtains answer)
   found_copies true (Found p) =
@@ -156,15 +151,6 @@ module _ (k : Kept) (s : SessionNo) (asked : Asked) (answer : PlainAnswer) where
               ≡ with_at k.copies s.0 (λ c. with_found k.catalog (seen_in k.owners k.sessions s) asked.obtains answer (with_named k.catalog (seen_in k.owners k.sessions s) entry c))
           by_entry None = refl
           by_entry (Some n) = with_twice k.copies s.0 (at_entry n (attached k.catalog (seen_in k.owners k.sessions s))) (with_found k.catalog (seen_in k.owners k.sessions s) asked.obtains answer)
-
-  pub seated_catalog : (seated_by k s asked answer).catalog ≡ k.catalog
-  seated_catalog = (found_stays (named_by k s asked.entry answer) s asked.obtains answer).0 ∙ (named_by_stays k s asked answer asked.entry).0
-
-  pub seated_owners : (seated_by k s asked answer).owners ≡ k.owners
-  seated_owners = (found_stays (named_by k s asked.entry answer) s asked.obtains answer).1 ∙ (named_by_stays k s asked answer asked.entry).1
-
-  pub seated_sessions : (seated_by k s asked answer).sessions ≡ k.sessions
-  seated_sessions = (found_stays (named_by k s asked.entry answer) s asked.obtains answer).2 ∙ (named_by_stays k s asked answer asked.entry).2
 
   pub seated_next : (seated_by k s asked answer).next_session ≡ k.next_session
   seated_next = (found_stays (named_by k s asked.entry answer) s asked.obtains answer).3 ∙ (named_by_stays k s asked answer asked.entry).3

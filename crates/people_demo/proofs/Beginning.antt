@@ -18,7 +18,7 @@ use Rattle.pss_recovery.specs.declared.fault.MountFault.{MountFault}
 use Rattle.pss_recovery.specs.declared.fault.MountFault.TheVariants as mount
 use Rattle.pss_recovery.specs.declared.mounting.Mounted.{Mounted}
 use Rattle.commit_saving.specs.Saving.{IfTold}
-use Rattle.connector.specs.Keeping.{AreWithin, HasObjects, Keeps, is_live, limits_of, performed_by, schema_of, store_of}
+use Rattle.connector.specs.Keeping.{HasObjects, Keeps, is_live, limits_of, performed_by, schema_of, store_of}
 use Rattle.people_demo.specs.People.{people}
 use Rattle.people_demo.specs.Tally.{no_tally}
 use Rattle.people_demo.specs.declared.showing.Show.{Show}
@@ -83,9 +83,6 @@ not_begun law mount.DiskFault old new refused held is = tt
 not_begun law mount.NoMemory old new refused held is = tt
 
 -- ---- a show is opened over it
-
-pub standard_within : AreWithin standard
-standard_within = record { total = omega arith; sessions = omega arith; transactions = omega arith; changes = omega arith; entries = omega arith }
 
 saved_in : (held holds : Option (List ℕ)) (P : ℕ → List ℕ → Type 0) (next : ℕ) → IfSome held (λ octets. IfTold holds (P next)) → IfSome (if is_some held then Some next else None) (λ n. IfTold holds (P n))
 saved_in None holds P next stands = tt

@@ -1,5 +1,5 @@
 -- The lines of a demonstration are short, and few.
-use Rattle.std.proofs.Common.{◌≡◌, ◌≤◌, ◌<◌, ◌*◌, ◌-◌, ◌%◌, ◌/◌, ◌∙◌, IfSome, ℕ, zero, suc, List, [], ◌∷◌, ◌++◌, length, get_or, Option, Some, None, arith, subst, sym, refl, codes, Bool, true, false}
+use Rattle.std.proofs.Common.{◌≡◌, ◌≤◌, ◌<◌, ◌*◌, ◌-◌, ◌%◌, ◌/◌, ◌∙◌, IfSome, ℕ, zero, suc, List, [], ◌∷◌, length, get_or, Option, Some, None, arith, subst, sym, refl, codes, Bool, true, false}
 use Rattle.std.specs.Prelude.{◌==◌, if◌then◌else◌}
 use Rattle.std.proofs.lemmas.Bool.{true≢false}
 use Rattle.std.specs.Fmt.{decimal}
@@ -10,7 +10,7 @@ use Rattle.pss_base.specs.declared.lines.LineStep.TheVariants as step
 use Rattle.std.specs.Char.{digit_char}
 use Rattle.pss_base.specs.Hexadecimal.{hex_digits}
 use Rattle.line_service.specs.Turns.{IsLine}
-use Rattle.people_demo.specs.Lines.{as_lines, boss_of, bossed, chosen, counting, drawn, followed, found, made, opening, round_lines, round_texts, rounds_texts}
+use Rattle.people_demo.specs.Lines.{as_lines, boss_of, bossed, chosen, drawn, followed, found, made, round_lines, round_texts, rounds_texts}
 use Rattle.people_demo.specs.inner.Short.{AreLines}
 
 -- one of the lines is a line
@@ -18,10 +18,6 @@ pub line_at : (xs : List LineStep) (i : ℕ) (line : LineStep) → AreLines xs �
 line_at [] i line are below is = absurd (omega arith)
 line_at (x ∷ xs) zero line are below is = subst IsLine (sym is) are.0
 line_at (x ∷ xs) (suc i) line are below is = line_at xs i line are.1 (omega arith) is
-
-both_lines : (xs ys : List LineStep) → AreLines xs → AreLines ys → AreLines (xs ++ ys)
-both_lines [] ys a b = b
-both_lines (x ∷ xs) ys a b = (a.0, both_lines xs ys a.1 b)
 
 -- ---- each kind of line
 
@@ -68,12 +64,6 @@ boss_within round x some few false e =
 
 pub round_lines_short : (round : ℕ) → 1 ≤ round → round ≤ 1000 → AreLines (round_lines round (boss_of round))
 round_lines_short round some few = are_round round few (boss_of round) (boss_within round (drawn round) some few (round == 1) refl)
-
-pub opening_short : AreLines opening
-opening_short = (omega arith, (omega arith, tt))
-
-pub counting_short : AreLines counting
-counting_short = (omega arith, tt)
 
 -- ---- how many
 

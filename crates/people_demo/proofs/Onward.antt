@@ -1,14 +1,12 @@
 -- Lines are served behind others.
 use Rattle.std.proofs.Common.{ℕ, ◌≡◌, ◌≤◌, ◌<◌, ◌+◌, ◌∙◌, ap, refl, sym, subst, Bool, false, List, [], ◌∷◌, ◌++◌, length, take, get_or, Option, Result, Ok, Err, OnOk, arith}
-use Rattle.std.proofs.lemmas.Bool.{false≢true}
 use Rattle.std.proofs.lemmas.List.{take_more}
 use Rattle.pss_base.specs.Causes.{HasCauseIf, Rose}
 use Rattle.pss_base.specs.declared.lines.LineStep.{LineStep}
 use Rattle.pss_base.specs.declared.stop.StoreStop.{StoreStop}
-use Rattle.pss_base.specs.declared.stop.StoreStop.TheVariants as stop
 use Rattle.pss_disk.specs.Images.{IsQuiet}
-use Rattle.pss_disk.specs.Moments.{IsSettled, Moment}
-use Rattle.pss_disk.proofs.Passing.{none_came, then_come, weaker}
+use Rattle.pss_disk.specs.Moments.{Moment}
+use Rattle.pss_disk.proofs.Passing.{then_come, weaker}
 use Rattle.page_format.specs.Faults.{is_disk_stop}
 use Rattle.pss_recovery.specs.Silence.{IsSilent}
 use Rattle.people_demo.specs.declared.showing.Show.{Show}
@@ -34,15 +32,9 @@ cause_then a b c t p q = record {
   kept = λ is. q.kept is ∙ p.kept refl;
 }
 
-pub no_cause : (a : ℕ) → HasCauseIf a a false
-no_cause a = record { later = omega arith; rose = λ is. absurd (false≢true is); kept = λ is. refl }
-
 -- ---- silence
 
 module _ {W : Type 0} (now : W → Moment) (history : W → List Moment) (speak_faults : W → ℕ) where
-  pub silent_start : (a : W) → IsSilent now history speak_faults a a
-  silent_start a = record { moments = none_came (history a) (IsQuiet (now a)); said = refl; speech = refl }
-
   pub silent_then : (a b c : W) → IsSilent now history speak_faults a b → IsSilent now history speak_faults b c → IsSilent now history speak_faults a c
   silent_then a b c p q = record {
     moments = then_come (history a) (history b) (history c) (IsQuiet (now a)) p.moments (weaker (history b) (history c) (IsQuiet (now b)) (IsQuiet (now a)) (λ m e. e ∙ p.said) q.moments);
@@ -57,19 +49,6 @@ then_ok (Ok t) P Q f p = f p
 then_ok (Err e) P Q f p = tt
 
 module _ {W : Type 0} (now : W → Moment) (history : W → List Moment) (content : W → Option (List ℕ)) (disk_faults speak_faults : W → ℕ) where
-  -- no line was served
-  pub serves_none : (a : W) (x : Show) → IsSettled (content a) (now a) → Serves now history content disk_faults speak_faults [] (Ok tt) a a x x
-  serves_none a x settled = record { shows = λ s is. is; settled = settled; silent = silent_start now history speak_faults a; cause = no_cause (disk_faults a) }
-
-  -- there was no memory for the lines
-  pub serves_unmade : (lines : List LineStep) (why : StoreStop) (a : W) (x : Show) → why ≡ stop.NoMemory → Serves now history content disk_faults speak_faults lines (Err why) a a x x
-  serves_unmade lines why a x is = record {
-    shows = tt;
-    settled = tt;
-    silent = silent_start now history speak_faults a;
-    cause = subst (λ (e : StoreStop). HasCauseIf (disk_faults a) (disk_faults a) (is_disk_stop {T = Unit {0}} (Err e))) (sym is) (no_cause (disk_faults a));
-  }
-
   module _ (xs ys : List LineStep) (a b c : W) (x y z : Show) (p : Serves now history content disk_faults speak_faults xs (Ok tt) a b x y) where
     pub serves_then : (result : Result (Unit {0}) StoreStop) → Serves now history content disk_faults speak_faults ys result b c y z → Serves now history content disk_faults speak_faults (xs ++ ys) result a c x z
     serves_then result q = record {

@@ -1,17 +1,13 @@
 -- How a demonstration ends.
-use Rattle.std.proofs.Common.{ℕ, ◌≡◌, ◌∙◌, ◌⊎◌, inl, ap, refl, sym, subst, take, Bool, true, false, List, Option, Some, None, IfSome, Result, Ok, Err, map}
+use Rattle.std.proofs.Common.{ℕ, ◌≡◌, ◌∙◌, ◌⊎◌, inl, ap, refl, subst, take, Bool, true, List, Option, Some, None, IfSome, Result, Ok, Err, map}
 use Rattle.std.proofs.lemmas.Bool.{false≢true}
 use Rattle.std.specs.Option.{is_some}
 use Rattle.std.specs.FinMap.{empty}
 use Rattle.std.specs.Io.KnownBytes.{append_known}
-use Rattle.pss_base.specs.Causes.{HasCauseIf}
 use Rattle.pss_base.specs.declared.lines.LineStep.{LineStep}
-use Rattle.pss_base.specs.declared.stop.StoreStop.{StoreStop}
-use Rattle.pss_base.specs.declared.stop.StoreStop.TheVariants as store
 use Rattle.pss_disk.specs.Images.{IsQuiet}
 use Rattle.pss_disk.specs.Moments.{Moment, Through}
 use Rattle.pss_disk.proofs.Passing.{then_come, weaker}
-use Rattle.page_format.specs.Faults.{is_disk_stop}
 use Rattle.pss_catalog.specs.Catalog.{Catalog}
 use Rattle.pss_machine.specs.Limits.{standard}
 use Rattle.pss_machine.specs.Run.{first, replies}
@@ -26,16 +22,15 @@ use Rattle.script_service.specs.Turns.{Running, start, told_by, turn_from}
 use Rattle.script_service.specs.Keeping.{StandsFor}
 use Rattle.people_demo.specs.People.{people}
 use Rattle.people_demo.specs.Lines.{demo_lines}
-use Rattle.people_demo.specs.Shows.{IsShownLine, Shows, is_disk_fault, shown, shown_line}
+use Rattle.people_demo.specs.Shows.{IsShownLine, Shows, shown, shown_line}
 use Rattle.people_demo.specs.Tally.{demo_line, tally_of}
 use Rattle.people_demo.specs.declared.demo.DemoStop.{DemoStop}
 use Rattle.people_demo.specs.declared.demo.DemoStop.TheVariants as stop
 use Rattle.people_demo.specs.declared.showing.Show.{Show}
 use Rattle.people_demo.specs.declared.tally.Tally.{Tally}
-use Rattle.people_demo.specs.inner.Begun.{Begins, ShowsNothing, of_store}
+use Rattle.people_demo.specs.inner.Begun.{Begins}
 use Rattle.people_demo.specs.inner.Showing.{IsShowing, Showing, begun, served_all}
 use Rattle.people_demo.specs.inner.Telling.{IsToldAt, Tells}
-use Rattle.people_demo.proofs.Onward.{cause_then}
 use Rattle.people_demo.proofs.Replied.{running_after, saved_told, tally_is}
 
 -- ---- after all rounds
@@ -88,28 +83,6 @@ shows_told rounds (Err stop.NoMemory) line before middle after held holds is tol
 shows_told rounds (Err stop.DiskFault) line before middle after held holds is told shown_ stands = absurd told
 shows_told rounds (Err stop.NotEmpty) line before middle after held holds is told shown_ stands = absurd told
 shows_told rounds (Err (stop.Refused why)) line before middle after held holds is told shown_ stands = absurd told
-
-pub not_shown : (rounds : ℕ) (why : DemoStop) (before after held holds : Option (List ℕ)) → ShowsNothing why held holds → after ≡ before → Shows rounds (Err why) before after held holds
-not_shown rounds stop.NotEmpty before after held holds ended same = (ended.0, same, ended.1)
-not_shown rounds (stop.Refused why) before after held holds ended same = (ended, same)
-not_shown rounds stop.DiskFault before after held holds ended same = same
-not_shown rounds stop.SpeakFault before after held holds ended same = absurd ended
-not_shown rounds stop.NoMemory before after held holds ended same = same
-
-pub stopped : (rounds : ℕ) (why : StoreStop) (result : DemoStop) (before after held holds : Option (List ℕ)) → result ≡ of_store why → after ≡ before → Shows rounds (Err result) before after held holds
-stopped rounds why result before after held holds is same = subst (λ (r : DemoStop). Shows rounds (Err r) before after held holds) (sym is) (by why)
-  where
-    by : (w : StoreStop) → Shows rounds (Err (of_store w)) before after held holds
-    by store.DiskFault = same
-    by store.NoMemory = same
-
-fault_of_store : (why : StoreStop) → is_disk_fault {T = Unit {0}} (Err (of_store why)) ≡ is_disk_stop {T = Unit {0}} (Err why)
-fault_of_store store.DiskFault = refl
-fault_of_store store.NoMemory = refl
-
-pub stopped_cause : (a b c : ℕ) (why : StoreStop) (result : DemoStop) → result ≡ of_store why → HasCauseIf a b false → HasCauseIf b c (is_disk_stop {T = Unit {0}} (Err why)) → HasCauseIf a c (is_disk_fault {T = Unit {0}} (Err result))
-stopped_cause a b c why result is p q =
-    subst (λ (t : Bool). HasCauseIf a c t) (sym (ap (λ (r : DemoStop). is_disk_fault {T = Unit {0}} (Err r)) is ∙ fault_of_store why)) (cause_then a b c (is_disk_stop {T = Unit {0}} (Err why)) p q)
 
 -- ---- at each moment
 

@@ -1,7 +1,6 @@
 -- How a demonstration ends, by what it came to.
-use Rattle.std.proofs.Common.{◌≡◌, ◌⊎◌, ⊎_elim, inl, inr, ℕ, List, None, Err, Result, subst, refl}
+use Rattle.std.proofs.Common.{◌≡◌, ◌⊎◌, ⊎_elim, inl, inr, ℕ, List, None, Err, Result, subst}
 use Rattle.std.specs.declared.option.Option.{Option}
-use Rattle.pss_base.specs.Causes.{HasCauseIf}
 use Rattle.pss_disk.specs.Moments.{Disk, Moment, Through}
 use Rattle.pss_disk.proofs.Passing.{then_come, weaker}
 use Rattle.pss_recovery.specs.declared.fault.MountFault.{MountFault}
@@ -11,7 +10,6 @@ use Rattle.store_refusals.specs.Lines.{IsFilled, not_empty_line}
 use Rattle.people_demo.specs.Shows.{IsShownLine}
 use Rattle.people_demo.specs.declared.demo.DemoStop.{DemoStop}
 use Rattle.people_demo.specs.declared.demo.DemoStop.TheVariants as stop
-use Rattle.pss_serving.specs.Counts.{Counts, HasCauses, has_speech_failed}
 use Rattle.pss_serving.specs.Making.{TellsFilled}
 use Rattle.pss_serving.specs.Outcomes.{Call, TellsRefusal}
 use Rattle.pss_serving.specs.Spoken.{IsCut}
@@ -46,32 +44,6 @@ unmounted_shows rounds status.SchemaRefused why call untold told = absurd told
 unmounted_shows rounds status.ReadFault why call untold told = absurd told
 unmounted_shows rounds status.DiskFault why call untold told = absurd told
 unmounted_shows rounds status.ScriptTooLong why call untold told = absurd told
-
--- ---- which of the outside failed
-
-pub filled_causes : (ending : Status) (before after : Option (List ℕ)) (old new : Counts) → TellsFilled ending before after → new.schema ≡ old.schema → new.script ≡ old.script
-    → HasCauseIf old.speech new.speech (has_speech_failed ending) → new.disk ≡ old.disk → HasCauses ending old new
-filled_causes status.StoreRefused before after old new told schema script speech disk = (schema, script, speech.kept refl, disk)
-filled_causes status.SpeakFault before after old new told schema script speech disk = (schema, script, speech.rose refl, disk)
-filled_causes status.Ok before after old new told schema script speech disk = absurd told
-filled_causes status.Usage before after old new told schema script speech disk = absurd told
-filled_causes status.SchemaRefused before after old new told schema script speech disk = absurd told
-filled_causes status.NoMemory before after old new told schema script speech disk = absurd told
-filled_causes status.ReadFault before after old new told schema script speech disk = absurd told
-filled_causes status.DiskFault before after old new told schema script speech disk = absurd told
-filled_causes status.ScriptTooLong before after old new told schema script speech disk = absurd told
-
-pub unmounted_causes : (ending : Status) (why : MountFault) (before after : Option (List ℕ)) (old new : Counts) → TellsRefusal ending why before after → new.schema ≡ old.schema → new.script ≡ old.script
-    → HasCauseIf old.speech new.speech (has_speech_failed ending) → new.disk ≡ old.disk → HasCauses ending old new
-unmounted_causes status.StoreRefused why before after old new told schema script speech disk = (schema, script, speech.kept refl, disk)
-unmounted_causes status.SpeakFault why before after old new told schema script speech disk = (schema, script, speech.rose refl, disk)
-unmounted_causes status.NoMemory why before after old new told schema script speech disk = (schema, script, speech.kept refl, disk)
-unmounted_causes status.Ok why before after old new told schema script speech disk = absurd told
-unmounted_causes status.Usage why before after old new told schema script speech disk = absurd told
-unmounted_causes status.SchemaRefused why before after old new told schema script speech disk = absurd told
-unmounted_causes status.ReadFault why before after old new told schema script speech disk = absurd told
-unmounted_causes status.DiskFault why before after old new told schema script speech disk = absurd told
-unmounted_causes status.ScriptTooLong why before after old new told schema script speech disk = absurd told
 
 -- ---- moments
 

@@ -1,6 +1,5 @@
 pub mod AtMoments
 pub mod Overlong
-pub mod Told
 pub mod Found
 pub mod OneThing
 pub mod Since

@@ -1,6 +1,5 @@
 -- How making a store ends.
-use Rattle.std.proofs.Common.{◌≡◌, ◌⊎◌, ⊎_elim, inl, inr, ℕ, List, false, IfSome, refl, subst, arith}
-use Rattle.std.proofs.lemmas.Bool.{false≢true}
+use Rattle.std.proofs.Common.{◌≡◌, ◌⊎◌, ⊎_elim, inl, inr, ℕ, List, IfSome, refl, subst}
 use Rattle.std.specs.declared.option.Option.{Option}
 use Rattle.pss_base.specs.Causes.{HasCauseIf}
 use Rattle.pss_disk.specs.Images.{IsQuiet}
@@ -56,20 +55,6 @@ refused_file_moments a b c first now after ending quiet told still call =
     then_come a b c (λ m. IsWhole not_empty_line first.spoken m.spoken ⊎ IsCut ending after m.spoken)
     (quiet_call a b after (IsWhole not_empty_line first.spoken) first ending (inl refl) still)
     (subst (λ (before : Option (List ℕ)). Through b c (λ m. IsWhole not_empty_line before m.spoken ⊎ IsCut ending after m.spoken)) quiet (filled_moments b c now.spoken after now.disk ending told call))
-
-kept_count : (old new : ℕ) → new ≡ old → HasCauseIf old new false
-kept_count old new same = record { later = omega (arith, same); rose = λ failed. absurd (false≢true failed); kept = λ not. same }
-
-pub filled_disk : (ending : Status) (before after : Option (List ℕ)) (old new : ℕ) → TellsFilled ending before after → new ≡ old → HasCauseIf old new (has_disk_failed ending)
-filled_disk status.StoreRefused before after old new told same = kept_count old new same
-filled_disk status.SpeakFault before after old new told same = kept_count old new same
-filled_disk status.Ok before after old new told same = absurd told
-filled_disk status.Usage before after old new told same = absurd told
-filled_disk status.SchemaRefused before after old new told same = absurd told
-filled_disk status.NoMemory before after old new told same = absurd told
-filled_disk status.ReadFault before after old new told same = absurd told
-filled_disk status.DiskFault before after old new told same = absurd told
-filled_disk status.ScriptTooLong before after old new told same = absurd told
 
 -- ---- over the text
 

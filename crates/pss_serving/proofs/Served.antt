@@ -1,5 +1,5 @@
 -- A script is served over what was mounted.
-use Rattle.std.proofs.Common.{◌≡◌, ◌⊎◌, ⊎_elim, inl, inr, ℕ, List, Bool, true, is_some, Some, None, IfSome, IsTrue, ap, subst, refl}
+use Rattle.std.proofs.Common.{◌≡◌, ◌⊎◌, ⊎_elim, inl, inr, ℕ, List, Bool, true, is_some, Some, None, IfSome, ap, subst, refl}
 use Rattle.std.specs.declared.option.Option.{Option}
 use Rattle.pss_disk.specs.Images.{IsQuiet}
 use Rattle.pss_disk.specs.Moments.{Disk, Moment, Through}
@@ -12,14 +12,13 @@ use Rattle.pss_recovery.specs.Laws.{IsImageOneThing}
 use Rattle.pss_recovery.specs.Mounts.{FromSync, HasMounted, IsSameButGate}
 use Rattle.pss_recovery.specs.Stands.{Stands}
 use Rattle.pss_recovery.specs.declared.mounting.Mounted.{Mounted}
-use Rattle.line_service.specs.Runs.{Comes, SaidByLines, Says, IsCut as IsCutThere, is_disk_fault, is_read_fault, is_speak_fault}
+use Rattle.line_service.specs.Runs.{Comes, SaidByLines, Says, IsCut as IsCutThere}
 use Rattle.line_service.specs.declared.serving.Ending.{Ending}
 use Rattle.line_service.specs.declared.serving.Ending.TheVariants as ending
 use Rattle.script_service.specs.Turns.{Running, turn_from, start, script_limits}
 use Rattle.script_service.specs.Keeping.{IsFirst, IsLeft, OnlyStandsFor, Passes}
-use Rattle.pss_serving.specs.Counts.{has_disk_failed, has_read_failed, has_speech_failed}
 use Rattle.pss_serving.specs.Endings.{status_of_ending}
-use Rattle.pss_serving.specs.Outcomes.{Call, EndsOverStore, IsKeptAt, IsKeptOver, IsOrWhole, OfStore, SaysIn, ends_before_script}
+use Rattle.pss_serving.specs.Outcomes.{Call, EndsOverStore, IsKeptAt, IsKeptOver, IsOrWhole, OfStore, SaysIn}
 use Rattle.pss_serving.specs.Spoken.{IsCut}
 use Rattle.pss_serving.proofs.AtMoments.{quiet_call}
 use Rattle.pss_serving.proofs.Since.{since_by, then_more}
@@ -33,39 +32,6 @@ over_ends ending.ReadFault call S says = says
 over_ends ending.DiskFault call S says = inr says
 over_ends ending.SpeakFault call S says = inr says
 over_ends ending.NoMemory call S says = inr says
-
--- the script was read
-pub not_before : (end : Ending) → IsTrue (ends_before_script (status_of_ending end)) → ⊥
-not_before ending.End before = cc
-not_before ending.TooLong before = cc
-not_before ending.ReadFault before = cc
-not_before ending.DiskFault before = cc
-not_before ending.SpeakFault before = cc
-not_before ending.NoMemory before = cc
-
-pub read_of : (end : Ending) → has_read_failed (status_of_ending end) ≡ is_read_fault end
-read_of ending.End = refl
-read_of ending.TooLong = refl
-read_of ending.ReadFault = refl
-read_of ending.DiskFault = refl
-read_of ending.SpeakFault = refl
-read_of ending.NoMemory = refl
-
-pub speech_of : (end : Ending) → has_speech_failed (status_of_ending end) ≡ is_speak_fault end
-speech_of ending.End = refl
-speech_of ending.TooLong = refl
-speech_of ending.ReadFault = refl
-speech_of ending.DiskFault = refl
-speech_of ending.SpeakFault = refl
-speech_of ending.NoMemory = refl
-
-pub disk_of : (end : Ending) → has_disk_failed (status_of_ending end) ≡ is_disk_fault end
-disk_of ending.End = refl
-disk_of ending.TooLong = refl
-disk_of ending.ReadFault = refl
-disk_of ending.DiskFault = refl
-disk_of ending.SpeakFault = refl
-disk_of ending.NoMemory = refl
 
 -- ---- over what was mounted
 

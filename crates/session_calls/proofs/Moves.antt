@@ -1,5 +1,5 @@
 -- Sessions and entries that change, while objects and owners stay.
-use Rattle.std.proofs.Common.{ℕ, ◌≡◌, List, Option, Some, refl, sym, ap, ◌∙◌, IsSome}
+use Rattle.std.proofs.Common.{ℕ, ◌≡◌, List, Option, Some, refl, sym, ap, ◌∙◌}
 use Rattle.std.specs.Prelude.{IsSomeAnd}
 use Rattle.std.specs.FinMap.{get}
 use Rattle.pss_base.specs.declared.owner.OwnerNo.{OwnerNo}
@@ -16,7 +16,6 @@ use Rattle.connector_parts.specs.declared.finding.Found.{Found}
 use Rattle.connector_parts.specs.Stands.{Stands, StayAs}
 use Rattle.connector_parts.specs.Found.{IsFound}
 use Rattle.connector_parts.proofs.Goings.{accounts_alike}
-use Rattle.connector_parts.proofs.Named.{some_is}
 
 -- the parts with other sessions and entries
 abbrev pub with_attended : Parts → Attending → Parts
@@ -36,9 +35,6 @@ module _ (c : Parts) (k : Kept) (stands : Stands c k) (a : Attending) where
 module _ (c : Parts) (k : Kept) (stands : Stands c k) (name : List ℕ) (found : Found) (is : IsFound k name found) where
   pub in_attended : session_at c.attended.sessions found.number ≡ Some is.session
   in_attended = ap (λ (s : Sessions). get s found.number.0) stands.attended.sessions ∙ is.there
-
-  pub is_attended : IsSome (session_at c.attended.sessions found.number)
-  is_attended = some_is (session_at c.attended.sessions found.number) is.session in_attended
 
   -- what is said of its transaction
   pub of_found : (f : Association → Option OwnerNo) (P : OwnerNo → Type 0) (n : OwnerNo) → f found.association ≡ Some n → IsSomeAnd (session_at c.attended.sessions found.number) (λ x. IsSomeAnd (f x.association) P) → P n

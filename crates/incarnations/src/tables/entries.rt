@@ -1,28 +1,17 @@
 // The entries by session and number.
-ghost use Rattle.std.specs.Prelude.{◌≡◌, ◌<◌, ◌^◌, true, Some, None, IsSome, IfSome, OnOk, OnErr, option_copied, slice_get};
-ghost use Rattle.std.specs.Map.{lookup};
-ghost use Rattle.std.specs.Option.{option_map};
+ghost use Rattle.std.specs.Prelude.{◌≡◌, ◌<◌, ◌^◌, IsSome, OnOk, OnErr, option_copied};
 ghost use Rattle.std.specs.FinMap as map;
-ghost use Rattle.incarnations.specs.Meaning.{same_slot};
 
 use crate::names::{EntryRecord, Slot};
-use indexmap::IndexMap;
 use pss_base::NoMemory;
+use recent_table::RecentTable;
 use std::alloc::Global;
-use std::cell::Cell;
-use std::hash::BuildHasherDefault;
 use std::marker::Model;
-use table_hash::NumberHasher;
-
-type Table = IndexMap<Slot, EntryRecord, BuildHasherDefault<NumberHasher>>;
 
 /// A finite map from slots to records of entries.
 #[derive(Drop)]
 pub struct EntryTable {
-    table: Table,
-    // The place of the entry found last, where the next one is looked for first: one command asks for its entry several times. It
-    // may be any number.
-    last: Cell<usize>,
+    table: RecentTable<Slot, EntryRecord>,
 }
 
 impl Model for EntryTable {
@@ -35,79 +24,7 @@ impl Model for EntryTable {
 
     ghost coded = { code slot_code entry_record_code };
 
-    ghost view = { λ t. from_entries t.table.entries };
-}
-
-// The record at a place of the table, where that of this slot stands there.
-#[inline(always)]
-fn record_there(table: &Table, place: usize, slot: Slot) -> Option<&EntryRecord>
-    ensures { IfSome (option_copied result) (λ found. lookup (same_slot slot) table.now.entries ≡ Some found) }
-{
-    match table.get_index(place) {
-        Some((there, found)) if *there == slot => Some(found),
-        _ => None,
-    }
-}
-
-// The record that a slot has by its hash. The next one is looked for at its place.
-#[inline(never)]
-fn look_up<'a>(table: &'a Table, last: &Cell<usize>, slot: Slot) -> Option<&'a EntryRecord>
-    ensures { option_copied result ≡ lookup (same_slot slot) table.now.entries }
-{
-    match table.get_full(&slot) {
-        Some((place, _, found)) => {
-            last.set(place);
-            Some(found)
-        }
-        None => None,
-    }
-}
-
-// The record of a slot, looked for first where the last one was found.
-#[inline(always)]
-fn record_of<'a>(table: &'a Table, last: &Cell<usize>, slot: Slot) -> Option<&'a EntryRecord>
-    ensures { option_copied result ≡ lookup (same_slot slot) table.now.entries }
-{
-    match record_there(table, last.get(), slot) {
-        Some(found) => Some(found),
-        None => look_up(table, last, slot),
-    }
-}
-
-// Whether the record of this slot stands at a place of the table.
-#[inline(always)]
-fn stands_at(table: &Table, place: usize, slot: Slot) -> bool
-    ensures { result ≡ true → option_map (λ e. e.0) (slice_get table.now.entries place) ≡ Some slot }
-{
-    match table.get_index(place) {
-        Some((there, _)) => *there == slot,
-        None => false,
-    }
-}
-
-// The place of a record by the hash of its slot.
-#[inline(never)]
-fn find_place(table: &Table, slot: Slot) -> usize
-    requires { IsSome (lookup (same_slot slot) table.now.entries) }
-    ensures { option_map (λ e. e.0) (slice_get table.now.entries result) ≡ Some slot }
-{
-    match table.get_full(&slot) {
-        Some((place, _, _)) => place,
-        None => unreachable!(),
-    }
-}
-
-// The place of the record of a slot, looked for first at this one.
-#[inline(always)]
-fn place_of(table: &Table, last: usize, slot: Slot) -> usize
-    requires { IsSome (lookup (same_slot slot) table.now.entries) }
-    ensures { option_map (λ e. e.0) (slice_get table.now.entries result) ≡ Some slot }
-{
-    if stands_at(table, last, slot) {
-        last
-    } else {
-        find_place(table, slot)
-    }
+    ghost view = { λ t. from_entries t.table };
 }
 
 impl EntryTable {
@@ -115,8 +32,7 @@ impl EntryTable {
         ensures { result ≡ map.empty }
     {
         EntryTable {
-            table: IndexMap::with_hasher(alloc, BuildHasherDefault::new()),
-            last: Cell::new(0),
+            table: RecentTable::new(alloc),
         }
     }
 
@@ -132,7 +48,7 @@ impl EntryTable {
     pub fn find(&self, slot: Slot) -> Option<&EntryRecord>
         ensures { option_copied result ≡ map.get self.now slot }
     {
-        record_of(&self.table, &self.last, slot)
+        self.table.get(slot)
     }
 
     #[inline(always)]
@@ -147,9 +63,7 @@ impl EntryTable {
         ensures ok { OnOk result (self.new ≡ map.insert self.old slot put) }
         ensures err { OnErr result (self.new ≡ self.old) }
     {
-        let place = self.table.len();
         self.table.insert(slot, put)?;
-        self.last.set(place);
         Ok(())
     }
 
@@ -158,22 +72,13 @@ impl EntryTable {
         requires { IsSome (map.get self.old slot) }
         ensures { self.new ≡ map.insert self.old slot put }
     {
-        let place = place_of(&self.table, self.last.get(), slot);
-        match self.table.get_index_mut(place) {
-            Some(there) => *there = put,
-            None => unreachable!(),
-        }
+        self.table.set(slot, put);
     }
 
     /// Takes the record of a slot away, which is hashed only where it was not the one found last.
     pub fn remove(&mut self, slot: Slot)
         ensures { self.new ≡ map.remove self.old slot }
     {
-        let last = self.last.get();
-        if stands_at(&self.table, last, slot) {
-            let _ = self.table.swap_remove_index(last);
-        } else {
-            let _ = self.table.swap_remove(&slot);
-        }
+        self.table.remove(slot);
     }
 }

@@ -6,4 +6,4 @@ use Rattle.incarnations.proofs.Hashed.{get_table}
 use Rattle.incarnations.proofs.tables.entries.EntryTable.find.Goals as goal
 
 pub returns : goal.returns
-returns c = c.record_of.ensures ∙ sym (get_table slot_key same_slot slot_ties c.self.inside.table.entries c.args.slot) ∙ ap (λ m. map.get m c.args.slot) c.self.view_is
+returns c = c.get.ensures ∙ sym (get_table slot_key same_slot slot_ties c.self.inside.table c.args.slot) ∙ ap (λ m. map.get m c.args.slot) c.self.view_is

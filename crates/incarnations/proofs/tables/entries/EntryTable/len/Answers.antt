@@ -6,4 +6,4 @@ use Rattle.incarnations.proofs.Hashed.{len_table}
 use Rattle.incarnations.proofs.tables.entries.EntryTable.len.Goals as goal
 
 pub returns-clause-len : goal.returns-clause-len
-returns-clause-len c = c.len.ensures.len ∙ sym (len_table slot_key same_slot slot_ties c.self.inside.table.entries c.len.ensures.unique) ∙ ap map.len c.self.view_is
+returns-clause-len c = c.len.ensures.len ∙ sym (len_table slot_key same_slot slot_ties c.self.inside.table c.len.ensures.once) ∙ ap map.len c.self.view_is

@@ -1,8 +1,7 @@
 -- The finite map that a table by hash stands for.
-use Rattle.std.proofs.Common.{ℕ, suc, ◌≡◌, ◌+◌, List, [], ◌∷◌, length, Bool, true, false, cond, Option, Some, None, IsSome, slice_get, IfSome, refl, sym, ap, ◌∙◌, subst, arith}
+use Rattle.std.proofs.Common.{ℕ, suc, ◌≡◌, ◌+◌, List, [], ◌∷◌, length, Bool, true, false, cond, Some, None, IsSome, refl, sym, ap, ◌∙◌, subst, arith}
 use Rattle.std.specs.Prelude.{is_some, IsSomeAnd}
 use Rattle.std.specs.Map.{lookup, keys_of}
-use Rattle.std.specs.Option.{option_map}
 use Rattle.std.specs.List.{IsDistinct, AllByRecursion}
 use Rattle.std.specs.declared.cmp.Ordering.{Ordering}
 use Rattle.std.specs.Ordering.{eq_by_cmp}
@@ -10,7 +9,7 @@ use Rattle.std.specs.Cmp.{eq_by_cmp_equiv}
 use Rattle.std.specs.FinMap as finite
 use Rattle.std.specs.FinMap.{FinMap, find, get, insert, remove, from_entries, get-from_entries, get-insert, get-remove, len-insert, len-empty}
 use Rattle.incarnations.specs.Maps.{IsWith}
-use Rattle.incarnations.proofs.Maps.{IsKey, alike_maps, no_value, one_value}
+use Rattle.incarnations.proofs.Maps.{IsKey, alike_maps}
 
 nothing : {B : Type 0} → false ≡ true → B
 nothing h = absurd (cc)
@@ -33,13 +32,6 @@ module _ {K X : Type 0} {R : K → K → Ordering} (key : IsKey R) (eq : K → K
   pub removed : (old new : List (K × X)) (k : K) → ((q : K) → lookup (eq q) new ≡ cond (eq k q) None (lookup (eq q) old)) → from_entries {R = R} new ≡ remove (from_entries {R = R} old) k
   removed old new k u =
       alike_maps key _ _ (λ q. get_table new q ∙ u q ∙ (λ i. cond (turn key eq tie q k i) None (sym (get_table old q) i)) ∙ sym (get-remove key.total (from_entries {R = R} old) k q))
-
-  -- what stands at a place goes
-  pub removed_at : (old new : List (K × X)) (at : ℕ) (k : K) (r : Option (K × X)) (P : K × X → Type 0) → ((p : K × X) → P p → (q : K) → lookup (eq q) new ≡ cond (eq p.0 q) None (lookup (eq q) old))
-      → option_map (λ e. e.0) (slice_get old at) ≡ Some k → r ≡ slice_get old at → IfSome r P → from_entries {R = R} new ≡ remove (from_entries {R = R} old) k
-  removed_at old new at k None P f is entry has = no_value k (ap (option_map (λ e. e.0)) entry ∙ is)
-  removed_at old new at k (Some p) P f is entry has =
-      subst (λ q. from_entries {R = R} new ≡ remove (from_entries {R = R} old) q) (one_value (ap (option_map (λ e. e.0)) entry ∙ is)) (removed old new p.0 (f p has))
 
   lookup_none : (k : K) (es : List (K × X)) → AllByRecursion (λ y. eq k y ≡ false) (keys_of es) → lookup (eq k) es ≡ None
   lookup_none k [] h = refl

@@ -1,7 +1,6 @@
 pub mod Maps
 pub mod Keys
 pub mod Hashed
-pub mod AtPlaces
 pub mod Seats
 pub mod Moved
 pub mod Places

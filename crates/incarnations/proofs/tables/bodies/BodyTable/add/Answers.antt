@@ -5,4 +5,4 @@ use Rattle.incarnations.proofs.Hashed.{inserted}
 use Rattle.incarnations.proofs.tables.bodies.BodyTable.add.Goals as goal
 
 pub returns-clause-ok : goal.returns-clause-ok
-returns-clause-ok c = inserted body_key same_name name_ties _ _ c.args.name c.args.put c.in_ok-insert.ensures.updates.0 ∙ ap (λ m. map.insert m c.args.name c.args.put) c.self.view_is
+returns-clause-ok c = inserted body_key same_name name_ties _ _ c.args.name c.args.put c.in_ok-insert.ensures.ok ∙ ap (λ m. map.insert m c.args.name c.args.put) c.self.view_is

@@ -5,4 +5,4 @@ use Rattle.incarnations.proofs.Hashed.{len_table}
 use Rattle.incarnations.proofs.tables.bodies.BodyTable.len.Goals as goal
 
 pub returns-clause-len : goal.returns-clause-len
-returns-clause-len c = c.len.ensures.len ∙ sym (len_table body_key same_name name_ties c.self.inside.table.entries c.len.ensures.unique) ∙ ap map.len c.self.view_is
+returns-clause-len c = c.len.ensures.len ∙ sym (len_table body_key same_name name_ties c.self.inside.table c.len.ensures.once) ∙ ap map.len c.self.view_is

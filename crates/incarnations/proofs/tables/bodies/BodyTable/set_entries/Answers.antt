@@ -1,19 +1,14 @@
-use Rattle.std.proofs.Common.{IsSome, sym, subst}
-use Rattle.std.specs.FinMap as map
 use Rattle.incarnations.specs.Records.{with_entries}
 use Rattle.incarnations.proofs.Keys.{body_key, same_name, name_ties}
-use Rattle.incarnations.proofs.Hashed.{written}
-use Rattle.incarnations.proofs.AtPlaces.{none_stands, value_is, turns}
+use Rattle.incarnations.proofs.Hashed.{there, never, written}
 use Rattle.incarnations.proofs.tables.bodies.BodyTable.set_entries.Goals as goal
 
-pub place_of-place-requires : goal.place_of-place-requires
-place_of-place-requires c = subst (λ m. IsSome (map.get m c.args.name)) (sym c.self.view_is) c.requires
+pub get_mut-requires : goal.get_mut-requires
+get_mut-requires c = there body_key same_name name_ties c.self.inside.table _ c.self.view_is c.args.name c.requires
 
 pub unreachable-requires : goal.unreachable-requires
-unreachable-requires c = none_stands c.self.inside.table.entries c.place_of-place.result _ c.place_of-place.ensures c.in-None.ensures.value
+unreachable-requires c = never body_key same_name name_ties c.self.inside.table _ c.self.view_is c.args.name c.requires c.in-None.ensures.value
 
 pub returns : goal.returns
 returns c =
-    written body_key same_name name_ties c.self.inside.table.entries _ c.self.view_is c.args.name _ (with_entries c.args.entries) c.in-Some.body.now
-    (value_is body_key same_name name_ties c.self.inside.table c.place_of-place.result c.args.name c.in-Some.body.now c.in-Some.ensures.unique c.place_of-place.ensures c.in-Some.ensures.value)
-    (turns body_key same_name name_ties c.self.inside.table c.place_of-place.result c.args.name c.in-Some.body.now c.in-Some.ensures.unique c.place_of-place.ensures c.in-Some.ensures.value (with_entries c.args.entries c.in-Some.body.now))
+    written body_key same_name name_ties c.self.inside.table _ c.self.view_is c.args.name _ (with_entries c.args.entries) c.in-Some.body.now c.in-Some.ensures.value (c.get_mut.follows.holds (with_entries c.args.entries c.in-Some.body.now))

@@ -1,7 +1,0 @@
-use Rattle.std.proofs.Common.{Some, sym, ap, ◌∙◌}
-use Rattle.std.specs.Option.{option_map}
-use Rattle.incarnations.proofs.Keys.{body_told}
-use Rattle.incarnations.proofs.tables.bodies.stands_at.Goals as goal
-
-pub returns-in-Some : goal.returns-in-Some
-returns-in-Some c eq = ap (option_map (λ e. e.0)) (sym c.in-Some.ensures.entry) ∙ ap Some (body_told c.in-Some.there.now c.args.name (sym c.is_name.ensures ∙ eq))

@@ -135,7 +135,7 @@ same_session a b = a.0 == b.0
 abbrev pub same_object : ObjectName → ObjectName → Bool
 same_object a b = (a.session.0 == b.session.0) && same_pid a.pid b.pid
 
--- as `==` is derived for names of bodies
+-- as `==` is written for names of bodies
 abbrev pub same_name : BodyName → BodyName → Bool
 same_name a b = eq-value.it a b
 

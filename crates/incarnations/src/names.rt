@@ -1,4 +1,10 @@
 // What names an entry and a body, and what is kept of entries, sessions and bodies.
+ghost use Rattle.std.specs.Prelude.{◌≡◌};
+ghost use Rattle.std.proofs.Common.{rules};
+ghost use Rattle.std.specs.Cmp.Rules.{comparing};
+ghost use Rattle.std.specs.Ordering.{on, eq_of_both};
+ghost use Rattle.pss_base.specs.contracts.pid.PidPartialEq.TheImpl.{eq-value as pid_eq};
+ghost use Rattle.pss_machine.specs.contracts.session.ViewPartialEq.TheImpl.{eq-value as view_eq};
 
 use link_pool::{Col, Node, Row};
 use pss_base::{Pid, SessionNo};
@@ -13,10 +19,42 @@ pub struct Slot {
 }
 
 /// Names a body: an object in a view.
-#[derive(Clone, Copy, PartialEq, Eq, Hash, Drop)]
+#[derive(Clone, Copy, Hash, Drop)]
 pub struct BodyName {
     pub pid: Pid,
     pub view: View,
+}
+
+// As it is derived, but compared where it stands: each `get` compares the name of its body with the one found last, and the
+// derived comparison is a call.
+impl PartialEq for BodyName {
+    ghost eq = { eq_of_both (on (λ b. b.pid) pid_eq.it) (on (λ b. b.view) view_eq.it) };
+
+    ghost laws = { Prim.search (comparing, rules) };
+
+    #[inline(always)]
+    fn eq(&self, other: &BodyName) -> bool {
+        self.pid.home == other.pid.home
+            && self.pid.serial == other.pid.serial
+            && is_view(self.view, other.view)
+    }
+}
+
+impl Eq for BodyName {
+    ghost laws = { Prim.search (comparing, rules) };
+}
+
+// Whether two views are one.
+#[inline(always)]
+fn is_view(there: View, view: View) -> bool
+    ensures { result ≡ view_eq.it there view }
+{
+    match (there, view) {
+        (View::Committed, View::Committed) => true,
+        (View::Own(there), View::Own(owner)) => there.0 == owner.0,
+        (View::Kept(there), View::Kept(session)) => there.0 == session.0,
+        _ => false,
+    }
 }
 
 /// Names an object in a session.

@@ -1,5 +1,5 @@
 // Values by key, the one found last first.
-ghost use Rattle.std.specs.Prelude.{◌≡◌, ◌<◌, ◌^◌, [], true, Some, None, IsSome, IfSome, OnOk, OnErr, length, option_copied};
+ghost use Rattle.std.specs.Prelude.{◌≡◌, ◌<◌, ◌^◌, [], true, Some, None, IsSome, IfSome, IfNone, OnOk, OnErr, length, option_copied};
 ghost use Rattle.std.specs.List.{IsDistinct};
 ghost use Rattle.std.specs.Map.{lookup, keys_of};
 ghost use Rattle.std.specs.Borrow.{sem};
@@ -77,26 +77,43 @@ fn stands_at<K: Copy + Eq + Hash, V>(table: &Table<K, V>, place: usize, key: K) 
 
 // The place of a key by its hash.
 #[inline(never)]
-fn find_place<K: Copy + Eq + Hash, V>(table: &Table<K, V>, key: K) -> usize
-    requires { IsSome (lookup (K.eq key) table.now.entries) }
-    ensures { StandsAt K.eq table.now.entries result key }
+fn find_place<K: Copy + Eq + Hash, V>(table: &Table<K, V>, key: K) -> Option<usize>
+    ensures some { IfSome result (λ place. StandsAt K.eq table.now.entries place key) }
+    ensures none { IfNone result (lookup (K.eq key) table.now.entries ≡ None) }
 {
     match table.get_full(&key) {
-        Some((place, _, _)) => place,
-        None => unreachable!(),
+        Some((place, _, _)) => Some(place),
+        None => None,
     }
 }
 
 // The place of a key, looked for first at this one.
 #[inline(always)]
-fn place_of<K: Copy + Eq + Hash, V>(table: &Table<K, V>, last: usize, key: K) -> usize
-    requires { IsSome (lookup (K.eq key) table.now.entries) }
-    ensures { StandsAt K.eq table.now.entries result key }
+fn place_of<K: Copy + Eq + Hash, V>(table: &Table<K, V>, last: usize, key: K) -> Option<usize>
+    ensures some { IfSome result (λ place. StandsAt K.eq table.now.entries place key) }
+    ensures none { IfNone result (lookup (K.eq key) table.now.entries ≡ None) }
 {
     if stands_at(table, last, key) {
-        last
+        Some(last)
     } else {
         find_place(table, key)
+    }
+}
+
+// Takes the entry at a place away, where this key stands.
+#[inline(always)]
+fn remove_at<K: Copy + Eq + Hash + Drop, V>(
+    table: &mut Table<K, V>,
+    place: usize,
+    key: K,
+) -> Option<V>
+    requires { StandsAt K.eq table.old.entries place key }
+    ensures turned { IsTurned K.eq table.old.entries table.new.entries key None }
+    ensures value { result ≡ lookup (K.eq key) table.old.entries }
+{
+    match table.swap_remove_index(place) {
+        Some((_, value)) => Some(value),
+        None => None,
     }
 }
 
@@ -141,15 +158,16 @@ impl<K: Copy + Eq + Hash + Drop, V: Drop> RecentTable<K, V> {
         Ok(())
     }
 
-    /// The value of a key that has one, to write. It is hashed only where it was not the one found last.
+    /// The value of a key, to write. It is hashed only where it was not the one found last.
     #[inline(always)]
     pub fn get_mut(&mut self, key: K) -> Option<&mut V>
-        requires { IsSome (lookup (K.eq key) self.old) }
         ensures* writes_back { sem 𝓛 (lends_value K.row V.row K.Hash self.entry key result) }
         ensures value { option_copied_mut result ≡ lookup (K.eq key) self.old }
     {
-        let place = place_of(&self.table, self.last.get(), key);
-        self.table.get_index_mut(place)
+        match place_of(&self.table, self.last.get(), key) {
+            Some(place) => self.table.get_index_mut(place),
+            None => None,
+        }
     }
 
     /// Sets the value of a key that has one, which is hashed only where it was not the one found last.
@@ -163,15 +181,16 @@ impl<K: Copy + Eq + Hash + Drop, V: Drop> RecentTable<K, V> {
         }
     }
 
-    /// Takes the entry of a key away, which is hashed only where it was not the one found last.
-    pub fn remove(&mut self, key: K)
-        ensures { IsTurned K.eq self.old self.new key None }
+    /// Takes the entry of a key away, where there is one. It is hashed only where it was not the one found last.
+    pub fn remove(&mut self, key: K) -> Option<V>
+        ensures turned { IsTurned K.eq self.old self.new key None }
+        ensures value { result ≡ lookup (K.eq key) self.old }
     {
         let last = self.last.get();
         if stands_at(&self.table, last, key) {
-            let _ = self.table.swap_remove_index(last);
+            remove_at(&mut self.table, last, key)
         } else {
-            let _ = self.table.swap_remove(&key);
+            self.table.swap_remove(&key)
         }
     }
 }

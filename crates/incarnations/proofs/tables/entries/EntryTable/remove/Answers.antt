@@ -6,4 +6,4 @@ use Rattle.incarnations.proofs.Hashed.{removed}
 use Rattle.incarnations.proofs.tables.entries.EntryTable.remove.Goals as goal
 
 pub returns : goal.returns
-returns c = removed slot_key same_slot slot_ties _ _ c.args.slot c.remove.ensures ∙ ap (λ m. map.remove m c.args.slot) c.self.view_is
+returns c = removed slot_key same_slot slot_ties _ _ c.args.slot c.remove.ensures.turned ∙ ap (λ m. map.remove m c.args.slot) c.self.view_is

@@ -32,9 +32,9 @@ same_one x y e = cc
 
 -- ---- what is kept of one that is there
 
-module _ (S : Schema) (homes : Homes) (parts : Parts) (n : OwnerNo) (m : MaySee S homes (owners_in parts) n) (owned : Owned) (at : owned_at n.0 parts.table.entries ≡ Some owned) where
+module _ (S : Schema) (homes : Homes) (parts : Parts) (n : OwnerNo) (m : MaySee S homes (owners_in parts) n) (owned : Owned) (at : owned_at n.0 parts.table ≡ Some owned) where
   pub is_it : plain_owner parts.locks n.0 owned ≡ m.owner
-  is_it = same_one _ _ (sym (is_owner parts.locks parts.table.entries n.0 owned at) ∙ m.there)
+  is_it = same_one _ _ (sym (is_owner parts.locks parts.table n.0 owned at) ∙ m.there)
 
   pub its_changes : changed_by owned ≡ m.owner.changes
   its_changes = ap (λ (o : Owner). o.changes) is_it
@@ -49,15 +49,15 @@ module _ (S : Schema) (homes : Homes) (parts : Parts) (n : OwnerNo) (m : MaySee 
   its_view = ap (seen_with m.catalog) its_changes
 
 -- an owner that may be seen is kept
-pub is_kept : (S : Schema) (homes : Homes) (parts : Parts) (n : OwnerNo) (m : MaySee S homes (owners_in parts) n) → (owned : Owned) × (owned_at n.0 parts.table.entries ≡ Some owned)
-is_kept S homes parts n m = (let k = kept_of parts.locks parts.table.entries n.0 m.owner m.there in (k.0, k.1))
+pub is_kept : (S : Schema) (homes : Homes) (parts : Parts) (n : OwnerNo) (m : MaySee S homes (owners_in parts) n) → (owned : Owned) × (owned_at n.0 parts.table ≡ Some owned)
+is_kept S homes parts n m = (let k = kept_of parts.locks parts.table n.0 m.owner m.there in (k.0, k.1))
 
 -- it may look, and act where the owner may
-abbrev pub its_may_look : (S : Schema) (homes : Homes) (parts : Parts) (n : OwnerNo) (m : MaySee S homes (owners_in parts) n) (owned : Owned) → owned_at n.0 parts.table.entries ≡ Some owned → MayLook S homes owned
+abbrev pub its_may_look : (S : Schema) (homes : Homes) (parts : Parts) (n : OwnerNo) (m : MaySee S homes (owners_in parts) n) (owned : Owned) → owned_at n.0 parts.table ≡ Some owned → MayLook S homes owned
 its_may_look S homes parts n m owned at = record { catalog = m.catalog; kept = m.kept; fits = own_fit S homes parts n m owned at }
 
 abbrev pub its_may_step :
-    (S : Schema) (homes : Homes) (parts : Parts) (n : OwnerNo) (op : PlainOp) (m : MayAct S homes (owners_in parts) n op) → Under S parts → (owned : Owned) → owned_at n.0 parts.table.entries ≡ Some owned → MayStep S homes owned op
+    (S : Schema) (homes : Homes) (parts : Parts) (n : OwnerNo) (op : PlainOp) (m : MayAct S homes (owners_in parts) n op) → Under S parts → (owned : Owned) → owned_at n.0 parts.table ≡ Some owned → MayStep S homes owned op
 its_may_step S homes parts n op m under owned at = record {
   look = its_may_look S homes parts n m.sees owned at;
   fits_op = m.fits_op;
@@ -78,7 +78,7 @@ within S homes value parts n is m = record {
 -- ---- its step
 
 module _ (S : Schema) (homes : Homes) (parts : Parts) (n : OwnerNo) (op : PlainOp) (m : MayAct S homes (owners_in parts) n op) (step : Step) (is : IsStep S m.sees.owner.level (view m.sees.catalog m.sees.owner) op step) where
-  k : (owned : Owned) × (owned_at n.0 parts.table.entries ≡ Some owned)
+  k : (owned : Owned) × (owned_at n.0 parts.table ≡ Some owned)
   k = is_kept S homes parts n m.sees
 
   pub may_take : Under S parts → AreOwners parts → MayTake S parts n step

@@ -103,34 +103,34 @@ module _ (S : Schema) (parts : Parts) (n : OwnerNo) (step : Step) (m : MayTake S
     few = m.few;
   }
 
-  pub may_change : (owned : Owned) → owned_at n.0 parts.table.entries ≡ Some owned → MayChange owned step.put
+  pub may_change : (owned : Owned) → owned_at n.0 parts.table ≡ Some owned → MayChange owned step.put
   may_change owned at = subst (λ o. MayChange o step.put) (same_Some m.owned owned (sym m.there ∙ at)) its_may
 
-  module _ (fs : List (ℕ × Owned)) (turned : TurnsBy (HasStepped step.put) parts.table.entries fs n.0) where
+  module _ (fs : List (ℕ × Owned)) (turned : TurnsBy (HasStepped step.put) parts.table fs n.0) where
     stepped : (b : Owned) × (owned_at n.0 fs ≡ Some b) × HasStepped step.put m.owned b
-    stepped = turned_to (HasStepped step.put) parts.table.entries fs n turned m.owned m.there
+    stepped = turned_to (HasStepped step.put) parts.table fs n turned m.owned m.there
 
     abbrev after : Held
     after = granted parts.locks n step.needs
 
     pub owners_stepped : owners_of after fs ≡ with_at (owners_in parts) n.0 (with_step step)
     owners_stepped =
-        owner_turned parts.locks after parts.table.entries fs n turned.others (λ q other. held_by-granted_other parts.locks n step.needs q other) stepped.0 stepped.1
+        owner_turned parts.locks after parts.table fs n turned.others (λ q other. held_by-granted_other parts.locks n step.needs q other) stepped.0 stepped.1
         ∙ ap (insert (owners_in parts) n.0) one
-        ∙ sym (ap (λ o. given o (owners_in parts) (λ x. insert (owners_in parts) n.0 (with_step step x))) (is_owner parts.locks parts.table.entries n.0 m.owned m.there))
+        ∙ sym (ap (λ o. given o (owners_in parts) (λ x. insert (owners_in parts) n.0 (with_step step x))) (is_owner parts.locks parts.table n.0 m.owned m.there))
       where
         one : plain_owner after n.0 stepped.0 ≡ with_step step (plain_owner parts.locks n.0 m.owned)
         one i = record { level = stepped.2.level i; locks = held_by-granted parts.locks n step.needs i; changes = stepped.2.changes i }
 
     under_stepped : (q : ℕ) (o : Owned) → owned_at q fs ≡ Some o → IsUnder S o
-    under_stepped = each_turned (IsUnder S) parts.table.entries fs n turned.others (λ o at. subst (IsUnder S) (same_Some stepped.0 o (sym stepped.1 ∙ at)) (stepped.2.under its_may)) m.under
+    under_stepped = each_turned (IsUnder S) parts.table fs n turned.others (λ o at. subst (IsUnder S) (same_Some stepped.0 o (sym stepped.1 ∙ at)) (stepped.2.under its_may)) m.under
 
     counted_stepped : (q : ℕ) (o : Owned) → owned_at q fs ≡ Some o → IsCounted o
-    counted_stepped = each_turned IsCounted parts.table.entries fs n turned.others (λ o at. subst IsCounted (same_Some stepped.0 o (sym stepped.1 ∙ at)) stepped.2.counted) m.owners.counted
+    counted_stepped = each_turned IsCounted parts.table fs n turned.others (λ o at. subst IsCounted (same_Some stepped.0 o (sym stepped.1 ∙ at)) stepped.2.counted) m.owners.counted
 
     locks_stepped : HaveLocks (owners_of after fs) after
     locks_stepped =
-        locks_turned parts.locks after parts.table.entries fs n turned.others (λ q other. held_by-granted_other parts.locks n step.needs q other) m.owners.locks
+        locks_turned parts.locks after parts.table fs n turned.others (λ q other. held_by-granted_other parts.locks n step.needs q other) m.owners.locks
         (λ none. (let no : None ≡ Some stepped.0 = sym none ∙ stepped.1 in cc))
 
   -- what is kept after a step, or where memory lacked for it
@@ -142,7 +142,7 @@ module _ (S : Schema) (parts : Parts) (n : OwnerNo) (step : Step) (m : MayTake S
     pub locks : HaveLocks (owners_of held fs) held
 
   pub kept_after :
-      {A E : Type 0} (r : Result A E) (held : Held) (fs : List (ℕ × Owned)) → TurnsBy (HasTaken r step.put) parts.table.entries fs n.0 → OnOk r (held ≡ granted parts.locks n step.needs) → OnErr r (held ≡ parts.locks)
+      {A E : Type 0} (r : Result A E) (held : Held) (fs : List (ℕ × Owned)) → TurnsBy (HasTaken r step.put) parts.table fs n.0 → OnOk r (held ≡ granted parts.locks n step.needs) → OnErr r (held ≡ parts.locks)
       → AreKept r held fs
   kept_after {A} {E} (Ok a) held fs turned is err = subst (λ (h : Held). AreKept {A = A} {E = E} (Ok a) h fs) (sym is) (record {
     stepped = owners_stepped fs turned;
@@ -153,8 +153,8 @@ module _ (S : Schema) (parts : Parts) (n : OwnerNo) (step : Step) (m : MayTake S
   })
   kept_after {A} {E} (Err e) held fs turned ok is = subst (λ (h : Held). AreKept {A = A} {E = E} (Err e) h fs) (sym is) (record {
     stepped = tt;
-    err = owners_stay parts.locks parts.table.entries fs n turned;
-    under = indexed_stay parts.locks parts.table.entries fs n turned S m.under;
-    counted = counted_stay parts.locks parts.table.entries fs n turned m.owners.counted;
-    locks = locks_stay parts.locks parts.table.entries fs n turned m.owners.locks;
+    err = owners_stay parts.locks parts.table fs n turned;
+    under = indexed_stay parts.locks parts.table fs n turned S m.under;
+    counted = counted_stay parts.locks parts.table fs n turned m.owners.counted;
+    locks = locks_stay parts.locks parts.table fs n turned m.owners.locks;
   })

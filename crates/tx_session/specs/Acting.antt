@@ -27,7 +27,7 @@ pub record MayTake (S : Schema) (parts : Parts) (n : OwnerNo) (step : Step) : Ty
   pub catalog : Catalog
   pub owned : Owned
   pub sound : IsSoundSchema S
-  pub there : owned_at n.0 parts.table.entries ≡ Some owned
+  pub there : owned_at n.0 parts.table ≡ Some owned
   pub unique : IsUnique S (seen_with catalog (changed_by owned))
   pub may : MayBePut S (seen_with catalog (changed_by owned)) step.put
   pub few : len (changed_by owned) < 4294967295

@@ -27,16 +27,16 @@ owners_of held (e ∷ es) = insert (owners_of held es) e.0 (plain_owner held e.0
 
 -- the machine's owners
 abbrev pub owners_in : Parts → Owners
-owners_in parts = owners_of parts.locks parts.table.entries
+owners_in parts = owners_of parts.locks parts.table
 
 -- all that was changed was changed under this schema
 abbrev pub Under : Schema → Parts → Type 0
-Under S parts = (n : ℕ) (owned : Owned) → owned_at n parts.table.entries ≡ Some owned → IsUnder S owned
+Under S parts = (n : ℕ) (owned : Owned) → owned_at n parts.table ≡ Some owned → IsUnder S owned
 
 -- each lock is that of an owner, and each owner's changes are counted
 pub record AreOwners (parts : Parts) : Type 0 where
   pub locks : HaveLocks (owners_in parts) parts.locks
-  pub counted : (n : ℕ) (owned : Owned) → owned_at n parts.table.entries ≡ Some owned → IsCounted owned
+  pub counted : (n : ℕ) (owned : Owned) → owned_at n parts.table ≡ Some owned → IsCounted owned
 
 -- ---- what may be done
 

@@ -63,15 +63,15 @@ fn take_in(
     owner: OwnerNo,
     step: Step,
 ) -> Result<Answer, NoMemory>
-    requires there { IsSome (owned_at owner.0 table.old.entries) }
-    requires may { (owned : One) → owned_at owner.0 table.old.entries ≡ Some owned → MayChange owned step.put }
+    requires there { IsSome (owned_at owner.0 table.old) }
+    requires may { (owned : One) → owned_at owner.0 table.old ≡ Some owned → MayChange owned step.put }
     requires free { blocker locks.old owner step.needs ≡ None }
     ensures answer { IfOk result (λ answer. answer ≡ step.answer) }
-    ensures turned { TurnsBy (HasTaken result step.put) table.old.entries table.new.entries owner.0 }
+    ensures turned { TurnsBy (HasTaken result step.put) table.old table.new owner.0 }
     ensures granted { OnOk result (locks.new ≡ granted locks.old owner step.needs) }
     ensures err { OnErr result (locks.new ≡ locks.old) }
 {
-    match table.get_mut(&owner.0) {
+    match table.get_mut(owner.0) {
         Some(owned) => take_with(owned, locks, owner, step),
         None => unreachable!(),
     }

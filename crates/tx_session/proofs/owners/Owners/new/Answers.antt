@@ -24,7 +24,7 @@ none_counted es none n owned at = (let no : None ≡ Some owned = ap (owned_at n
 pub invariant_of-result : goal.invariant_of-result
 invariant_of-result c = record {
   locks =
-      subst (λ (held : Held). HaveLocks (owners_of held c.empty.result.entries) held) (sym c.new.ensures)
+      subst (λ (held : Held). HaveLocks (owners_of held c.empty.result) held) (sym c.new.ensures)
       (subst (λ (es : List (ℕ × Owned)). HaveLocks (owners_of empty es) empty) (sym c.empty.ensures) no_locks);
-  counted = none_counted c.empty.result.entries c.empty.ensures;
+  counted = none_counted c.empty.result c.empty.ensures;
 }

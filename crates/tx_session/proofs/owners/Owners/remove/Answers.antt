@@ -10,15 +10,15 @@ use Rattle.tx_session.proofs.owners.Owners.remove.Goals as goal
 pub invariant_of-self : goal.invariant_of-self
 invariant_of-self c = record {
   locks =
-      locks_left c.self.inside.parts.locks c.self.inside.parts.table.entries c.remove.new.table.entries c.args.owner c.remove.ensures c.self.invariant.locks
+      locks_left c.self.inside.parts.locks c.self.inside.parts.table c.remove.new.table c.args.owner c.remove.ensures c.self.invariant.locks
       (subst (λ parts. locks_of (owners_in parts) c.args.owner ≡ set.empty) (sym c.self.view_is) c.requires);
-  counted = each_left c.self.inside.parts.locks c.self.inside.parts.table.entries c.remove.new.table.entries c.args.owner c.remove.ensures IsCounted c.self.invariant.counted;
+  counted = each_left c.self.inside.parts.locks c.self.inside.parts.table c.remove.new.table c.args.owner c.remove.ensures IsCounted c.self.invariant.counted;
 }
 
 pub returns-clause-removed : goal.returns-clause-removed
 returns-clause-removed c =
-    owner_went c.self.inside.parts.locks c.self.inside.parts.table.entries c.remove.new.table.entries c.args.owner c.remove.ensures ∙ ap (λ parts. remove (owners_in parts) c.args.owner.0) c.self.view_is
+    owner_went c.self.inside.parts.locks c.self.inside.parts.table c.remove.new.table c.args.owner c.remove.ensures ∙ ap (λ parts. remove (owners_in parts) c.args.owner.0) c.self.view_is
 
 pub returns-clause-under : goal.returns-clause-under
 returns-clause-under c S under =
-    each_left c.self.inside.parts.locks c.self.inside.parts.table.entries c.remove.new.table.entries c.args.owner c.remove.ensures (IsUnder S) (subst (Under S) (sym c.self.view_is) under)
+    each_left c.self.inside.parts.locks c.self.inside.parts.table c.remove.new.table c.args.owner c.remove.ensures (IsUnder S) (subst (Under S) (sym c.self.view_is) under)

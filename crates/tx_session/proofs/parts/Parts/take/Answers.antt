@@ -10,6 +10,6 @@ take_in-requires-clause-may c = may_change c.args.schema.now c.args.self.now c.a
 
 pub returns : goal.returns
 returns c =
-    let kept : AreKept c.args.schema.now c.args.self.now c.args.owner c.args.step c.requires.may c.take_in.result c.take_in.new.locks c.take_in.new.table.entries =
-    kept_after c.args.schema.now c.args.self.now c.args.owner c.args.step c.requires.may c.take_in.result c.take_in.new.locks c.take_in.new.table.entries c.take_in.ensures.turned c.take_in.ensures.granted c.take_in.ensures.err in
+    let kept : AreKept c.args.schema.now c.args.self.now c.args.owner c.args.step c.requires.may c.take_in.result c.take_in.new.locks c.take_in.new.table =
+    kept_after c.args.schema.now c.args.self.now c.args.owner c.args.step c.requires.may c.take_in.result c.take_in.new.locks c.take_in.new.table c.take_in.ensures.turned c.take_in.ensures.granted c.take_in.ensures.err in
     record { answer = c.take_in.ensures.answer; stepped = kept.stepped; err = kept.err; under = kept.under; owners = record { locks = kept.locks; counted = kept.counted } }

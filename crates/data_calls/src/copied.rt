@@ -70,6 +70,7 @@ fn led(pid: Pid, value: &Value) -> Told
     match value {
         Value::Ref(Some(to)) => Told::Lead(*to),
         Value::Ref(None) => Told::Answer(Answer::Nil),
+        // No reference: `follow` refuses such a member before a copy is asked.
         _ => Told::Answer(Answer::Gone(pid)),
     }
 }

@@ -19,7 +19,7 @@ impl Accounts {
         self.titles.mark(owner, failed);
     }
 
-    /// An owner goes, with its locks and its changes. It takes no memory, and a step for each lock and one.
+    /// An owner goes, with its locks and its changes. It takes no memory.
     pub fn leave<L: Ledger>(&mut self, owner: OwnerNo, steps: &mut Steps<L>)
         ensures { (S : Schema) (k : Kept) → AreAccounts S self.old k → AreAccounts S self.new (without_owner k owner) }
     {
@@ -28,7 +28,7 @@ impl Accounts {
         self.titles.remove(owner);
     }
 
-    /// An owner has locked, changed and done nothing again. It takes no memory, and a step for each lock and one.
+    /// An owner has locked, changed and done nothing again. It takes no memory.
     pub fn empty<L: Ledger>(&mut self, owner: OwnerNo, steps: &mut Steps<L>)
         requires { (S : Schema) × IsThere S self.old owner }
         ensures { (S : Schema) (k : Kept) → AreAccounts S self.old k → AreAccounts S self.new (emptied k owner) }

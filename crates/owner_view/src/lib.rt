@@ -1,6 +1,6 @@
 //! One owner over what was committed: what it changed, what it sees, and what operations come to on that.
 //!
-//! An owner's view is never built. Its changes lie in an overlay by serial, with an index for each key that the changed objects had or have;
+//! An owner's view is never built. Its changes lie in an overlay by serial, with an index for each key that was reserved for them;
 //! a look-up asks the overlay first and then the committed objects.
 #![tactic(auto)]
 

@@ -11,7 +11,7 @@ use std::alloc::Global;
 use storage_home::indexes::{self, Indexes};
 use type_layout::KeyNo;
 
-/// An owner's changes by serial, and an index for each key that the changed objects had or have.
+/// An owner's changes by serial, and an index for each key that was reserved for them.
 #[derive(Drop)]
 pub struct Overlay {
     alloc: Global,

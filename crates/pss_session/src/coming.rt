@@ -50,7 +50,7 @@ pub fn open(register: &mut Register, key: Vec<u8>, name: Bytes, kind: Kind, acce
     register.last = number;
 }
 
-/// A session goes.
+/// A session goes. Where there is none with this number, all is as before.
 pub fn close(register: &mut Register, session: SessionNo)
     requires { IsSound register.old }
     ensures sound { IsSound register.new }

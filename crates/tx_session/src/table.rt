@@ -23,6 +23,7 @@ pub fn find(table: &Table, owner: OwnerNo) -> Option<&Owned>
     table.get(owner.0)
 }
 
+/// Puts an owner in, in place of the one with this number, where there is one. `NoMemory`: all is as before.
 pub fn add(table: &mut Table, owner: OwnerNo, owned: Owned) -> Result<(), NoMemory>
     ensures ok { OnOk result (TurnsOwned table.old table.new owner.0 (Some owned)) }
     ensures err { OnErr result (table.new ≡ table.old) }

@@ -1,13 +1,12 @@
 // What each data command asks.
 ghost use Rattle.std.specs.Prelude.{◌≡◌, ◌+◌, ◌<◌, ◌^◌, length, ok_or};
 ghost use Rattle.pss_asking.specs.Given.{members_given, making_of};
-ghost use Rattle.type_layout.specs.Members.{plain_member};
-ghost use Rattle.type_layout.specs.Views.{plain_value, plain_values};
+ghost use Rattle.type_layout.specs.Views.{plain_values};
 ghost use Rattle.type_layout.specs.Keys.{key_members};
 ghost use Rattle.pss_machine.specs.Sessions.{Session};
 ghost use Rattle.pss_machine.specs.Copies.{Copies};
 ghost use Rattle.pss_machine.specs.Operations.{Count, ListOf, Ask, plain_op};
-ghost use Rattle.pss_machine.specs.Asking.{obtaining as obtains, only as only_asks, by_entry as names_entry, creating, making, finding, shortening, asking_whether, getting, setting, destroying, following, asking_of_home, read_values, read_value};
+ghost use Rattle.pss_machine.specs.Asking.{obtaining as obtains, only as only_asks, by_entry as names_entry, creating, making, finding, shortening, asking_whether, getting, setting, destroying, following, asking_of_home, read_values};
 ghost use Rattle.pss_machine.specs.Values.{types_of};
 ghost use Rattle.pss_machine.specs.Names.{factory_named, key_named};
 ghost use Rattle.pss_machine.specs.declared.reply.Reply.TheVariants as reply;
@@ -16,12 +15,12 @@ ghost use Rattle.pss_asking.specs.Telling.{Tells, IsNamed, plain_asked, finding_
 use crate::asked::{AskFault, Asked, Named, Refusal};
 use crate::making::made;
 use crate::naming::{home_called, is_reference, member_called, members_at, object_of, only_reads};
-use crate::reading::{read_chosen, read_members, read_of};
+use crate::reading::{read_chosen, read_members, read_of, read_one};
 use pss_catalog::key_at;
 use pss_machine::{Access, Op, Rest};
 use schema_names::NamedSchema;
 use std::alloc::Global;
-use type_layout::{HomeNo, Indexes, KeyNo, Member, Record, Value, Values, key_of_values};
+use type_layout::{HomeNo, Indexes, KeyNo, Record, Values, key_of_values};
 
 /// What a data command is asked under: the schema with its names, what the session may do, and the serial that a new
 /// object takes.
@@ -205,18 +204,6 @@ impl Asking<'_> {
         Ok(by_entry(named.number, Op::Get { pid, member }))
     }
 
-    // The value of one member.
-    fn read_one(&self, member: &Member, value: &Rest<'_>) -> Result<Value, AskFault>
-        requires { value.now.column + length value.now.text < 2 ^ 32 }
-        ensures { Tells plain_value result (read_value (plain_member member.now) value.now) }
-    {
-        let mut values = read_of(self.alloc, &[&member.ty], value)?;
-        if values.as_slice().is_empty() {
-            return Ok(Value::Ref(None));
-        }
-        Ok(values.replace(0, Value::Ref(None)))
-    }
-
     /// `set`: a member of an entry's object is to have a value.
     pub fn set(&self, named: &Named, member: &[u8], value: &Rest<'_>) -> Result<Asked, AskFault>
         requires { value.now.column + length value.now.text < 2 ^ 32 }
@@ -224,7 +211,7 @@ impl Asking<'_> {
     {
         let pid = object_of(named)?;
         let place = member_called(self.names, pid, member)?;
-        let value = self.read_one(place.member, value)?;
+        let value = read_one(self.alloc, place.member, value)?;
         if only_reads(self.access) {
             return Err(AskFault::Refused(Refusal::ReadOnly));
         }

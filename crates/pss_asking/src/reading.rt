@@ -1,18 +1,18 @@
 // Values by the types of members.
 ghost use Rattle.std.specs.Prelude.{◌≡◌, ◌+◌, ◌<◌, ◌^◌, ◌++◌, ◌∷◌, [], length, map, IfOk, OnOk};
 ghost use Rattle.type_layout.specs.Members.{plain_member};
-ghost use Rattle.type_layout.specs.Views.{plain_type, plain_values};
+ghost use Rattle.type_layout.specs.Views.{plain_type, plain_value, plain_values};
 ghost use Rattle.type_layout.specs.Keys.{chosen};
 ghost use Rattle.pss_machine.specs.Values.{types_of as types_in};
-ghost use Rattle.pss_machine.specs.Asking.{read_values as read_in};
+ghost use Rattle.pss_machine.specs.Asking.{read_values as read_in, read_value as read_one_in};
 ghost use Rattle.pss_asking.specs.Telling.{Tells};
 
 use crate::asked::{AskFault, Refusal};
 use pss_base::NoMemory;
 use pss_machine::Rest;
 use std::alloc::Global;
-use type_layout::{Member, Ty, Values};
-use value_text::{LineFault, read_values};
+use type_layout::{Member, Ty, Value, Values};
+use value_text::{LineFault, read_one_value, read_values};
 
 /// The types of members.
 pub fn types_of<'a>(alloc: Global, members: &'a [Member]) -> Result<Vec<&'a Ty>, NoMemory>
@@ -88,4 +88,16 @@ pub fn read_chosen(
 {
     let types = chosen_types(alloc, members, numbers)?;
     read_of(alloc, &types, rest)
+}
+
+/// The value of one member.
+pub fn read_one(alloc: Global, member: &Member, rest: &Rest<'_>) -> Result<Value, AskFault>
+    requires { rest.now.column + length rest.now.text < 2 ^ 32 }
+    ensures { Tells plain_value result (read_one_in (plain_member member.now) rest.now) }
+{
+    match read_one_value(alloc, &member.ty, rest.text.as_slice(), rest.column) {
+        Ok(value) => Ok(value),
+        Err(LineFault::BadValue(column)) => Err(AskFault::Refused(Refusal::BadValue(column))),
+        Err(LineFault::NoMemory) => Err(AskFault::Memory),
+    }
 }

@@ -17,16 +17,16 @@ blanks_fit text = omega (arith, length-drop (prefix_len is_blank text) text, pre
 
 -- ---- a value behind blanks
 
-pub one_more : (front after : List PlainValue) (t : PlainType) (column : ℕ) (text here : List ℕ) (v : PlainValue) (rest : List ℕ) → here ≡ behind_blanks text → one_value t here ≡ Some (v, rest) → after ≡ front ++ v ∷ [] → pushed front (first_value t column text) ≡ Ok (after, rest)
-one_more front after t column text here v rest at e is =
-    let there : one_value t (behind_blanks text) ≡ Some (v, rest) = ap (one_value t) (sym at) ∙ e in
-    ap (λ (r : Option (PlainValue × List ℕ)). pushed front (given r (Err (column + prefix_len is_blank text)) (λ x. Ok x))) there ∙ ap (λ (vs : List PlainValue). Ok (vs, rest)) (sym is)
+pub value_there : (t : PlainType) (column : ℕ) (text here : List ℕ) (x : PlainValue × List ℕ) → here ≡ behind_blanks text → one_value t here ≡ Some x → first_value t column text ≡ Ok x
+value_there t column text here x at e =
+    let there : one_value t (behind_blanks text) ≡ Some x = ap (one_value t) (sym at) ∙ e in
+    ap (λ (r : Option (PlainValue × List ℕ)). given r (Err (column + prefix_len is_blank text)) (λ x. Ok x)) there
 
-pub none_more : (front : List PlainValue) (t : PlainType) (end : ℕ) (text rest : List ℕ) (column : ℕ) → length text ≤ end → rest ≡ behind_blanks text → column ≡ end - length rest → one_value t rest ≡ None → pushed front (first_value t (end - length text) text) ≡ Err column
-none_more front t end text rest column le is at e =
+pub no_value_there : (t : PlainType) (end : ℕ) (text rest : List ℕ) (column : ℕ) → length text ≤ end → rest ≡ behind_blanks text → column ≡ end - length rest → one_value t rest ≡ None → first_value t (end - length text) text ≡ Err column
+no_value_there t end text rest column le is at e =
     let none : one_value t (behind_blanks text) ≡ None = ap (one_value t) (sym is) ∙ e in
     let here : end - length text + prefix_len is_blank text ≡ column = omega (arith, blanks_fit text, ap length is) in
-    ap (λ (r : Option (PlainValue × List ℕ)). pushed front (given r (Err (end - length text + prefix_len is_blank text)) (λ x. Ok x))) none ∙ ap Err here
+    ap (λ (r : Option (PlainValue × List ℕ)). given r (Err (end - length text + prefix_len is_blank text)) (λ x. Ok x)) none ∙ ap Err here
 
 -- ---- the end of a line
 

@@ -1,6 +1,6 @@
 // The values in the rest of a line.
-ghost use Rattle.std.specs.Prelude.{◌≡◌, ◌≤◌, ◌<◌, ◌+◌, ◌-◌, ◌^◌, [], length, map, IfOk};
-ghost use Rattle.type_layout.specs.Views.{plain_type, plain_values};
+ghost use Rattle.std.specs.Prelude.{◌≡◌, ◌≤◌, ◌<◌, ◌+◌, ◌-◌, ◌^◌, [], ◌∷◌, length, map, IfOk};
+ghost use Rattle.type_layout.specs.Views.{plain_type, plain_value, plain_values};
 ghost use Rattle.value_text.specs.Line.{Tells, pushed, first_value, values_from};
 ghost use Rattle.value_text.specs.declared.line.LineFault.TheVariants.{NoMemory as OutOfMemory};
 
@@ -8,7 +8,7 @@ use crate::ValueFault;
 use crate::read::front_of;
 use pss_base::{NoMemory, skip_blanks};
 use std::alloc::Global;
-use type_layout::{Ty, Values};
+use type_layout::{Ty, Value, Values};
 
 /// Why the values of a line were not read.
 #[derive(Clone, Copy, Debug, PartialEq, Eq, Drop)]
@@ -52,8 +52,18 @@ pub fn read_values(
     Ok(values)
 }
 
+/// The one value that the rest of a line has, as `read_values` reads it for a list of its type alone.
+pub fn read_one_value(alloc: Global, ty: &Ty, text: &[u8], column: u32) -> Result<Value, LineFault>
+    requires { column + length text.now < 2 ^ 32 }
+    ensures { Tells (λ value. plain_value value ∷ []) result (values_from (plain_type ty.now ∷ []) column text.now) }
+{
+    let end = column + text.len() as u32;
+    let (value, rest) = next_value(alloc, ty, text, end)?;
+    expect_end(rest, end)?;
+    Ok(value)
+}
+
 // Reads one value more.
-#[tactic(auto, using(crate::proofs::LineReading::one_more, crate::proofs::LineReading::none_more))]
 fn push_next<'a>(
     values: &mut Values,
     alloc: Global,
@@ -65,12 +75,26 @@ fn push_next<'a>(
     ensures read { Tells (λ rest. (plain_values values.new, rest.now)) result (pushed (plain_values values.old) (first_value (plain_type ty.now) (end - length text.now) text.now)) }
     ensures within { IfOk result (λ rest. length rest.now ≤ length text.now) }
 {
+    let (value, rest) = next_value(alloc, ty, text, end)?;
+    values.push(value)?;
+    Ok(rest)
+}
+
+// The value behind blanks, and what is behind it.
+#[tactic(auto, using(crate::proofs::LineReading::value_there, crate::proofs::LineReading::no_value_there))]
+fn next_value<'a>(
+    alloc: Global,
+    ty: &Ty,
+    text: &'a [u8],
+    end: u32,
+) -> Result<(Value, &'a [u8]), LineFault>
+    requires { length text.now ≤ end }
+    ensures read { Tells (λ x. (plain_value x.0, x.1.now)) result (first_value (plain_type ty.now) (end - length text.now) text.now) }
+    ensures within { IfOk result (λ x. length x.1.now ≤ length text.now) }
+{
     let front = skip_blanks(text);
     match front_of(alloc, ty, front) {
-        Ok((value, rest)) => {
-            values.push(value)?;
-            Ok(rest)
-        }
+        Ok(read) => Ok(read),
         Err(ValueFault::BadValue) => Err(LineFault::BadValue(end - front.len() as u32)),
         Err(ValueFault::NoMemory) => Err(LineFault::NoMemory),
     }

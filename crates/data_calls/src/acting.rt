@@ -75,11 +75,8 @@ pub fn acts_in(parts: &Parts, name: &[u8]) -> Result<Acting, Reply>
 pub fn acting_in(parts: &Parts, name: &[u8]) -> Option<Acting>
     ensures { (k : Kept) → IsAt parts.now k → IfSome result (IsNamed k name.now) }
 {
-    let Some(found) = parts.session(name) else {
-        return None;
-    };
-    match acting_for(found) {
-        Some(acting) => Some(acting),
-        None => None,
+    match acts_in(parts, name) {
+        Ok(acting) => Some(acting),
+        Err(_) => None,
     }
 }

@@ -20,7 +20,7 @@ use Rattle.pss_machine.specs.Alone.{is_taken, first_taken}
 use Rattle.pss_laws.proofs.Listing.{no_others}
 use Rattle.pss_laws.proofs.Logic.{and_left, and_right}
 use Rattle.owner_view.specs.Keyed.{Pair, keyed, all_keyed, keys_of}
-use Rattle.storage_home.specs.Indexes.{Indexes, found_at, is_key_reserved, lists, TurnsFound, MayPut}
+use Rattle.storage_home.specs.Indexes.{KeyIndexes, found_at, is_key_reserved, lists, TurnsFound, MayPut}
 use Rattle.owner_view.specs.Overlay.{HasHolders}
 use Rattle.owner_view.specs.Views.{seen_with, IsOwnHolder}
 use Rattle.owner_view.proofs.Owning.{own_seen, not_held, contrary, lists_keyed}
@@ -55,7 +55,7 @@ or_behind false x e = e
 
 -- ---- keys that no other object holds
 
-module _ (S : Schema) (M : Catalog) (c : Changes) (s : ℕ) (y : Object) (old between : Indexes) (unique : IsUnique S (seen_with M c)) (before : HasHolders S c old)
+module _ (S : Schema) (M : Catalog) (c : Changes) (s : ℕ) (y : Object) (old between : KeyIndexes) (unique : IsUnique S (seen_with M c)) (before : HasHolders S c old)
     (taken : TurnsFound old between (keys_of S (get (seen_with M c) s)) None) where
   free : (k : KeyNo) → is_taken S (seen_with M c) s y k ≡ false → found_at between k.0 (key_bytes S k y.values) ≡ None
   free k none = taken k.0 bytes ∙ by (lists had k.0 bytes) refl (found_at old k.0 bytes) (before k bytes)

@@ -19,7 +19,7 @@ use Rattle.pss_catalog.proofs.Listing.{tie}
 use Rattle.pss_machine.specs.Changes.{Changes}
 use Rattle.pss_machine.specs.Homes.{keys_at}
 use Rattle.owner_view.specs.Keyed.{keyed, all_keyed, keys_of}
-use Rattle.storage_home.specs.Indexes.{Indexes, found_at, lists}
+use Rattle.storage_home.specs.Indexes.{KeyIndexes, found_at, lists}
 use Rattle.owner_view.specs.Overlay.{HasHolders, FoundAfter}
 use Rattle.owner_view.specs.Views.{seen_with, IsOwnHolder}
 use Rattle.owner_view.proofs.Holding.{seen_at}
@@ -86,7 +86,7 @@ module _ (S : Schema) (M : Catalog) (c : Changes) (s : ℕ) (state : Option Obje
   pub own_seen : (t : ℕ) (x : Object) → get c t ≡ Some (Some x) → get (seen_with M c) t ≡ Some x
   own_seen t x is = seen_at M c t ∙ ap (λ o. unwrap_or o (get M t)) is
 
-  module _ (old new : Indexes) (unique : IsUnique S (seen_with M c)) (before : HasHolders S c old)
+  module _ (old new : KeyIndexes) (unique : IsUnique S (seen_with M c)) (before : HasHolders S c old)
       (found : FoundAfter old new s (keys_of S (get (seen_with M c) s)) (keys_of S state)) (k : KeyNo) (bytes : List ℕ) where
     abbrev Has : Bool → Type 0
     Has b = lists (keys_of S state) k.0 bytes ≡ b

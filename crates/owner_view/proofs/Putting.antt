@@ -10,7 +10,7 @@ use Rattle.owner_view.specs.declared.owned.Owned.{Owned}
 use Rattle.owner_view.specs.declared.states.Slot.{Slot}
 use Rattle.owner_view.specs.declared.states.Slot.TheVariants as slot
 use Rattle.owner_view.specs.declared.step.Put.{Put}
-use Rattle.storage_home.specs.Indexes.{Indexes, lists, TurnsFound, KeepsKeysReserved, MayPut}
+use Rattle.storage_home.specs.Indexes.{KeyIndexes, lists, TurnsFound, KeepsKeysReserved, MayPut}
 use Rattle.owner_view.specs.Keyed.{Pair, keys_of}
 use Rattle.owner_view.specs.Overlay.{changes_in, indexes_in, FoundAfter, HasHolders}
 use Rattle.owner_view.specs.Owned.{MayPutIn}
@@ -39,7 +39,7 @@ module _ (owned : Owned) (put : Put) (may : MayPutIn owned put) where
   abbrev V : Catalog
   V = seen_with may.catalog changes
 
-  pub has_may : (between : Indexes) → TurnsFound (indexes_in owned.overlay) between put.pairs.had.items None → KeepsKeysReserved (indexes_in owned.overlay) between → MayPut between put.pairs.has.items
+  pub has_may : (between : KeyIndexes) → TurnsFound (indexes_in owned.overlay) between put.pairs.had.items None → KeepsKeysReserved (indexes_in owned.overlay) between → MayPut between put.pairs.has.items
   has_may between turned keeps = subst (MayPut between) (sym may.is.has) (by put.slot may.is.may may.is.has)
     where
       by : (s : Slot) → MayStand S V put.serial s → put.pairs.has.items ≡ keys_of S (state_put s) → MayPut between (keys_of S (state_put s))

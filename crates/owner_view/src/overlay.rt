@@ -2,13 +2,13 @@
 ghost use Rattle.std.specs.Prelude.{◌≡◌, [], None, IfOk, OnOk, IsSome};
 ghost use Rattle.std.specs.FinMap as map;
 ghost use Rattle.owner_view.specs.States.{slot_at, slot_state, told_state, with_told, AreInOrder};
-ghost use Rattle.storage_home.specs.Indexes.{Indexes as Table, found_at, MayPut, KeepsFound, TurnsFound, KeepsKeysReserved};
+ghost use Rattle.storage_home.specs.Indexes.{KeyIndexes as Table, found_at, MayPut, KeepsFound, TurnsFound, KeepsKeysReserved};
 ghost use Rattle.owner_view.specs.Overlay.{changes_in, indexes_in, IsReady, FoundAfter};
 
 use crate::states::{self, Slot, States, Told, told_at};
 use pss_base::{Bytes, NoMemory};
 use std::alloc::Global;
-use storage_home::indexes::{self, Indexes};
+use storage_home::indexes::{self, KeyIndexes};
 use type_layout::KeyNo;
 
 /// An owner's changes by serial, and an index for each key that was reserved for them.
@@ -16,7 +16,7 @@ use type_layout::KeyNo;
 pub struct Overlay {
     alloc: Global,
     states: States,
-    indexes: Indexes,
+    indexes: KeyIndexes,
 }
 
 impl Overlay {

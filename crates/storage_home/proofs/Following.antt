@@ -11,7 +11,7 @@ use Rattle.pss_catalog.proofs.Forest.{same_place, other_place}
 use Rattle.storage_home.specs.Rows.{Chunks, object_at, TurnsObject}
 use Rattle.storage_home.specs.declared.extents.Block.{Block}
 use Rattle.storage_home.specs.Extents.{is_held_in, TurnsHeldIn}
-use Rattle.storage_home.specs.Indexes.{Indexes, found_at, lists, TurnsFound}
+use Rattle.storage_home.specs.Indexes.{KeyIndexes, found_at, lists, TurnsFound}
 use Rattle.storage_home.specs.Kept.{stored, IsHolder, is_object_of}
 use Rattle.storage_home.proofs.Places.{by_test}
 use Rattle.storage_home.proofs.Keeping.{same_or_not, gone, stays, was_there, come, others}
@@ -22,7 +22,7 @@ RowsAre S M rows = (serial : ℕ) → object_at serial rows ≡ option_map (stor
 abbrev pub ExtentsAre : Catalog → List (BTreeMap ℕ Block) → Type 0
 ExtentsAre M extents = (home serial : ℕ) → is_held_in extents home serial ≡ is_object_of home (get M serial)
 
-abbrev pub KeysAre : Schema → Catalog → Indexes → Type 0
+abbrev pub KeysAre : Schema → Catalog → KeyIndexes → Type 0
 KeysAre S M keys = (key : KeyNo) (bytes : List ℕ) (serial : ℕ) → (found_at keys key.0 bytes ≡ Some serial) ↔ IsHolder S M key bytes serial
 
 module _ (S : Schema) (M : Catalog) (s : ℕ) where
@@ -76,7 +76,7 @@ module _ (S : Schema) (M : Catalog) (s : ℕ) where
 
   pub keys_without :
       (object : Object) → get M s ≡ Some object → (pairs : List (KeyNo × List ℕ)) → ((key : KeyNo) (bytes : List ℕ) → lists pairs key.0 bytes ≡ holds S key bytes object)
-      → (old new : Indexes) → KeysAre S M old → TurnsFound old new pairs None → KeysAre S (remove M s) new
+      → (old new : KeyIndexes) → KeysAre S M old → TurnsFound old new pairs None → KeysAre S (remove M s) new
   keys_without object is pairs listed old new are turns key bytes t = (λ found. down (lists pairs key.0 bytes) refl (sym (turns key.0 bytes) ∙ found), λ holder. turns key.0 bytes ∙ up holder (lists pairs key.0 bytes) refl)
     where
       down : (b : Bool) → lists pairs key.0 bytes ≡ b → cond b None (found_at old key.0 bytes) ≡ Some t → IsHolder S (remove M s) key bytes t
@@ -97,7 +97,7 @@ module _ (S : Schema) (M : Catalog) (s : ℕ) where
 
   pub keys_with :
       (object : Object) → get M s ≡ None → IsUnique S (insert M s object) → (pairs : List (KeyNo × List ℕ)) → ((key : KeyNo) (bytes : List ℕ) → lists pairs key.0 bytes ≡ holds S key bytes object)
-      → (old new : Indexes) → KeysAre S M old → TurnsFound old new pairs (Some s) → KeysAre S (insert M s object) new
+      → (old new : KeyIndexes) → KeysAre S M old → TurnsFound old new pairs (Some s) → KeysAre S (insert M s object) new
   keys_with object none unique pairs listed old new are turns key bytes t = (λ found. down (lists pairs key.0 bytes) refl (sym (turns key.0 bytes) ∙ found), λ holder. turns key.0 bytes ∙ up holder (same_or_not t s) (lists pairs key.0 bytes) refl)
     where
       down : (b : Bool) → lists pairs key.0 bytes ≡ b → cond b (Some s) (found_at old key.0 bytes) ≡ Some t → IsHolder S (insert M s object) key bytes t

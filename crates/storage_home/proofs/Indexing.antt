@@ -6,19 +6,19 @@ use Rattle.std.specs.Str.{bytes_eq}
 use Rattle.type_layout.specs.declared.key.KeyNo.{KeyNo}
 use Rattle.type_layout.specs.Schemas.{given}
 use Rattle.key_index.specs.Index.{Index}
-use Rattle.storage_home.specs.Indexes.{Indexes, index_at, found_at, is_key_reserved, is_pair, lists, TurnsIndex, TurnsFoundAt, TurnsKeyReservedAt, MayPut}
+use Rattle.storage_home.specs.Indexes.{KeyIndexes, index_at, found_at, is_key_reserved, is_pair, lists, TurnsIndex, TurnsFoundAt, TurnsKeyReservedAt, MayPut}
 use Rattle.storage_home.proofs.Holding.{same_bytes_turned}
 use Rattle.storage_home.proofs.Places.{by_test, same_number}
 
 module _ {A : Type 0} (part : Index → List ℕ → A) (d : A) where
   -- a part of the index of a key, where the key has one
-  abbrev pub part_at : Indexes → ℕ → List ℕ → A
+  abbrev pub part_at : KeyIndexes → ℕ → List ℕ → A
   part_at indexes key q = given (index_at key indexes) d (λ i. part i q)
 
-  pub part_of : (indexes : Indexes) (k : ℕ) (a : Index) → Some a ≡ index_at k indexes → (q : List ℕ) → part a q ≡ part_at indexes k q
+  pub part_of : (indexes : KeyIndexes) (k : ℕ) (a : Index) → Some a ≡ index_at k indexes → (q : List ℕ) → part a q ≡ part_at indexes k q
   part_of indexes k a is q = ap (λ o. given o d (λ i. part i q)) is
 
-  module _ (old new : Indexes) (k : ℕ) (b : Index) (turns : TurnsIndex old new k (Some b)) where
+  module _ (old new : KeyIndexes) (k : ℕ) (b : Index) (turns : TurnsIndex old new k (Some b)) where
     pub one_turned : (bytes : List ℕ) (w : A) → ((q : List ℕ) → part b q ≡ cond (bytes_eq q bytes) w (part_at old k q)) → (key : ℕ) (q : List ℕ) → part_at new key q ≡ cond ((k == key) && bytes_eq q bytes) w (part_at old key q)
     one_turned bytes w one key q =
         ap (λ o. given o d (λ i. part i q)) (turns key)
@@ -45,7 +45,7 @@ no_either true r h = cc
 no_either false r h = (refl, h)
 
 -- after one key was put, the others may be put
-pub may_put_rest : (now new : Indexes) (p : KeyNo × List ℕ) (serial : ℕ) (rest : List (KeyNo × List ℕ)) → TurnsFoundAt now new p.0.0 p.1 (Some serial) → TurnsKeyReservedAt now new p.0.0 p.1 false → lists rest p.0.0 p.1 ≡ false → MayPut now rest → MayPut new rest
+pub may_put_rest : (now new : KeyIndexes) (p : KeyNo × List ℕ) (serial : ℕ) (rest : List (KeyNo × List ℕ)) → TurnsFoundAt now new p.0.0 p.1 (Some serial) → TurnsKeyReservedAt now new p.0.0 p.1 false → lists rest p.0.0 p.1 ≡ false → MayPut now rest → MayPut new rest
 may_put_rest now new p serial [] found reserved other may = tt
 may_put_rest now new p serial (q ∷ qs) found reserved other may =
     let split = no_either (is_pair q p.0.0 p.1) (lists qs p.0.0 p.1) other in

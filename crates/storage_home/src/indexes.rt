@@ -14,10 +14,10 @@ use type_layout::KeyNo;
 
 /// Indexes by the numbers of their keys. A schema may have thousands of keys, of which few are used: an index comes to be when
 /// its key is first reserved.
-pub type Indexes = IndexMap<u32, KeyIndex, BuildHasherDefault<NumberHasher>>;
+pub type KeyIndexes = IndexMap<u32, KeyIndex, BuildHasherDefault<NumberHasher>>;
 
 /// No index. It takes no memory.
-pub fn none(alloc: Global) -> Indexes
+pub fn none(alloc: Global) -> KeyIndexes
     ensures { result.entries ≡ [] }
 {
     IndexMap::with_hasher(alloc, BuildHasherDefault::new())
@@ -27,7 +27,7 @@ pub fn none(alloc: Global) -> Indexes
 const MOST_KEPT: usize = 64;
 
 /// Takes all indexes away. The memory of a few places stays for those that come next.
-pub fn clear(indexes: &mut Indexes, alloc: Global)
+pub fn clear(indexes: &mut KeyIndexes, alloc: Global)
     ensures { indexes.new.entries ≡ [] }
 {
     if indexes.capacity() <= MOST_KEPT {
@@ -38,7 +38,7 @@ pub fn clear(indexes: &mut Indexes, alloc: Global)
 }
 
 /// The serial of the object that holds a key with these bytes, none where nothing does.
-pub fn find(indexes: &Indexes, key: KeyNo, bytes: &[u8]) -> Option<u64>
+pub fn find(indexes: &KeyIndexes, key: KeyNo, bytes: &[u8]) -> Option<u64>
     ensures { result ≡ found_at indexes.now.entries key.0 bytes.now }
 {
     match indexes.get(&key.0) {
@@ -52,7 +52,7 @@ pub fn find(indexes: &Indexes, key: KeyNo, bytes: &[u8]) -> Option<u64>
 /// `NoMemory`: some of them may be reserved, and what was reserved stays so.
 pub fn reserve_all(
     alloc: Global,
-    indexes: &mut Indexes,
+    indexes: &mut KeyIndexes,
     pairs: &[(KeyNo, Bytes)],
 ) -> Result<(), NoMemory>
     ensures found { KeepsFound indexes.old.entries indexes.new.entries }
@@ -65,7 +65,12 @@ pub fn reserve_all(
     Ok(())
 }
 
-fn reserve(alloc: Global, indexes: &mut Indexes, key: KeyNo, bytes: &[u8]) -> Result<(), NoMemory>
+fn reserve(
+    alloc: Global,
+    indexes: &mut KeyIndexes,
+    key: KeyNo,
+    bytes: &[u8],
+) -> Result<(), NoMemory>
     ensures found { KeepsFound indexes.old.entries indexes.new.entries }
     ensures ok { OnOk result (TurnsKeyReservedAt indexes.old.entries indexes.new.entries key.0 bytes.now true) }
     ensures stay { StayReserved indexes.old.entries indexes.new.entries }
@@ -77,7 +82,7 @@ fn reserve(alloc: Global, indexes: &mut Indexes, key: KeyNo, bytes: &[u8]) -> Re
 }
 
 // Reserves a key that has no index yet.
-fn add(alloc: Global, indexes: &mut Indexes, key: KeyNo, bytes: &[u8]) -> Result<(), NoMemory>
+fn add(alloc: Global, indexes: &mut KeyIndexes, key: KeyNo, bytes: &[u8]) -> Result<(), NoMemory>
     requires { index_at key.0 indexes.old.entries ≡ None }
     ensures found { KeepsFound indexes.old.entries indexes.new.entries }
     ensures ok { OnOk result (TurnsKeyReservedAt indexes.old.entries indexes.new.entries key.0 bytes.now true) }
@@ -99,7 +104,7 @@ fn reserved(alloc: Global, bytes: &[u8]) -> Result<KeyIndex, NoMemory>
 }
 
 /// Takes keys from their holders, where they have some. What is reserved stays so. It takes no memory.
-pub fn take_all(indexes: &mut Indexes, pairs: &[(KeyNo, Bytes)])
+pub fn take_all(indexes: &mut KeyIndexes, pairs: &[(KeyNo, Bytes)])
     ensures found { TurnsFound indexes.old.entries indexes.new.entries pairs.now None }
     ensures reserved { KeepsKeysReserved indexes.old.entries indexes.new.entries }
 {
@@ -108,7 +113,7 @@ pub fn take_all(indexes: &mut Indexes, pairs: &[(KeyNo, Bytes)])
     }
 }
 
-fn take(indexes: &mut Indexes, key: KeyNo, bytes: &[u8])
+fn take(indexes: &mut KeyIndexes, key: KeyNo, bytes: &[u8])
     ensures found { TurnsFoundAt indexes.old.entries indexes.new.entries key.0 bytes.now None }
     ensures reserved { KeepsKeysReserved indexes.old.entries indexes.new.entries }
 {
@@ -118,7 +123,7 @@ fn take(indexes: &mut Indexes, key: KeyNo, bytes: &[u8])
 }
 
 /// Gives reserved keys that nothing holds to the object with a serial, and ends their reservations. It takes no memory.
-pub fn put_all(indexes: &mut Indexes, pairs: &[(KeyNo, Bytes)], serial: u64)
+pub fn put_all(indexes: &mut KeyIndexes, pairs: &[(KeyNo, Bytes)], serial: u64)
     requires { MayPut indexes.old.entries pairs.now }
     ensures found { TurnsFound indexes.old.entries indexes.new.entries pairs.now (Some serial) }
     ensures reserved { TurnsKeysReserved indexes.old.entries indexes.new.entries pairs.now false }
@@ -128,7 +133,7 @@ pub fn put_all(indexes: &mut Indexes, pairs: &[(KeyNo, Bytes)], serial: u64)
     }
 }
 
-fn put(indexes: &mut Indexes, key: KeyNo, bytes: &[u8], serial: u64)
+fn put(indexes: &mut KeyIndexes, key: KeyNo, bytes: &[u8], serial: u64)
     requires reserved { is_key_reserved indexes.old.entries key.0 bytes.now ≡ true }
     requires free { found_at indexes.old.entries key.0 bytes.now ≡ None }
     ensures found { TurnsFoundAt indexes.old.entries indexes.new.entries key.0 bytes.now (Some serial) }

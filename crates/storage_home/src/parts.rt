@@ -1,7 +1,7 @@
 // What is kept of the objects of a store.
 use crate::counts::Count;
 use crate::extents::Extent;
-use crate::indexes::Indexes;
+use crate::indexes::KeyIndexes;
 use crate::rows::Rows;
 use pss_catalog::Families;
 use std::alloc::Global;
@@ -19,5 +19,5 @@ pub struct Parts {
     /// For each home, from number 1.
     pub extents: Vec<Extent>,
     pub counts: Vec<Count>,
-    pub keys: Indexes,
+    pub keys: KeyIndexes,
 }

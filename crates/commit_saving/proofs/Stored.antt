@@ -4,7 +4,7 @@ use Rattle.std.proofs.lemmas.Bool.{false≢true, true≢false}
 use Rattle.std.specs.Prelude.{◌==◌, is_some, Result, Ok, Err, OnOk}
 use Rattle.pss_disk.specs.Moments.{IsImage, Moment, Range, Through}
 use Rattle.pss_disk.specs.Octets.{StaysOutside}
-use Rattle.pss_disk.proofs.Passing.{none_came, then_come, weaker}
+use Rattle.pss_disk.proofs.Passing.{then_come, weaker}
 use Rattle.type_layout.specs.declared.schema.Schema.{Schema}
 use Rattle.pss_catalog.specs.Catalog.{Catalog}
 use Rattle.page_store.specs.Stores.{AllHave}
@@ -27,11 +27,6 @@ pub stays_told : (range : Range) (old new : Option (List ℕ)) → StaysOutside 
 stays_told range None new stays is = absurd (false≢true is)
 stays_told range (Some c) None stays is = absurd stays
 stays_told range (Some c) (Some d) stays is = refl
-
--- a content that stays is told where it was
-pub told_same : (P : List ℕ → Type 0) (o : Option (List ℕ)) → IfSome o (λ c. P c → IfTold o P)
-told_same P None = tt
-told_same P (Some c) = λ p. (c, refl, p)
 
 -- a premise may be had from what is known of the content
 pub some_under : (o : Option (List ℕ)) (A : Type 0) (P Q : List ℕ → Type 0) → ((c : List ℕ) → P c → A) → (A → IfSome o (λ c. P c → Q c)) → IfSome o (λ c. P c → Q c)
@@ -122,22 +117,3 @@ module _ (S : Schema) (M N : Catalog) (saved next : ℕ) (cs : List Change) (som
       by : (o : Option (List ℕ)) → IfSome o (λ c. IsPrepared S M saved before (body_for next cs) N c → Through x y (AllHave (StandsEither S M saved N next))) → IfSome o (λ c. IsMounted S M saved before c → Through x y (AllHave (StandsEither S M saved N (saved_next saved next cs))))
       by None came = tt
       by (Some c) came = λ mounted. subst (λ (n : ℕ). Through x y (AllHave (StandsEither S M saved N n))) (sym (next_of saved next cs some)) (came (record { mounted = mounted; changed = changed_of S M N saved next cs some leaves }))
-
--- no changes leave all as it was
-module _ (S : Schema) (M N : Catalog) (saved next : ℕ) (cs : List Change) (none : cs ≡ []) (leaves : Leaves S M saved next cs N) (store : Store) where
-  pub saved_none : (o : Option (List ℕ)) → IfSome o (λ c. IsMounted S M saved store c → IfTold o (IsMounted S N (saved_next saved next cs) store))
-  saved_none = by cs none leaves
-    where
-      by : (xs : List Change) → xs ≡ [] → Leaves S M saved next xs N → (o : Option (List ℕ)) → IfSome o (λ c. IsMounted S M saved store c → IfTold o (IsMounted S N (saved_next saved next xs) store))
-      by [] is same None = tt
-      by [] is same (Some c) = λ mounted. (c, refl, subst (λ (K : Catalog). IsMounted S K saved store c) (sym same) mounted)
-      by (x ∷ xs) is same o = absurd cc
-
-  pub images_none : (x : List Moment) (o : Option (List ℕ)) → IfSome o (λ c. IsMounted S M saved store c → Through x x (AllHave (StandsEither S M saved N (saved_next saved next cs))))
-  images_none x None = tt
-  images_none x (Some c) = λ mounted. none_came x (AllHave (StandsEither S M saved N (saved_next saved next cs)))
-
--- where nothing came, each image stands for what was
-pub still_stands : (S : Schema) (M : Catalog) (saved : ℕ) (store : Store) (x : List Moment) (o : Option (List ℕ)) → IfSome o (λ c. IsMounted S M saved store c → Through x x (AllHave (Stands S M saved)))
-still_stands S M saved store x None = tt
-still_stands S M saved store x (Some c) = λ mounted. none_came x (AllHave (Stands S M saved))

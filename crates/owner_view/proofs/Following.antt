@@ -1,5 +1,5 @@
 -- The step that follows a member.
-use Rattle.std.proofs.Common.{◌≡◌, ℕ, List, [], ◌∷◌, Option, Some, None, refl, sym, ap, subst, ◌∙◌}
+use Rattle.std.proofs.Common.{◌≡◌, ℕ, List, [], ◌∷◌, Option, Some, sym, ap, ◌∙◌}
 use Rattle.std.specs.List.{slice_get}
 use Rattle.pss_base.specs.declared.pid.Pid.{Pid}
 use Rattle.type_layout.specs.declared.schema.Schema.{Schema}
@@ -7,21 +7,14 @@ use Rattle.type_layout.specs.Schemas.{given}
 use Rattle.type_layout.specs.Types.{PlainValue}
 use Rattle.pss_catalog.specs.Catalog.{Object, Catalog, references}
 use Rattle.pss_machine.specs.declared.level.Level.{Level}
-use Rattle.pss_machine.specs.declared.level.Level.TheVariants.{Serializable, ReadCommitted, Basic}
 use Rattle.pss_machine.specs.declared.lock.Need.{Need}
 use Rattle.pss_machine.specs.declared.lock.Mode.TheVariants.{S as Read}
 use Rattle.pss_machine.specs.Operations.{Ask, Follow, Gone}
 use Rattle.pss_machine.specs.Alone.{answers, followed, object_of}
 use Rattle.pss_machine.specs.Needs.{object_need, targets}
 use Rattle.owner_view.specs.declared.step.Step.{Step}
-use Rattle.owner_view.specs.Steps.{with_reads, changes_put, MayBePut, ComesTo, IsNowhere, IsStep}
+use Rattle.owner_view.specs.Steps.{with_reads, ComesTo, IsStep}
 use Rattle.owner_view.proofs.Needing.{needs_are}
-
--- what is read after what was read
-pub both_read : (level : Level) (need : Need) (more : List Need) → with_reads level (with_reads level [] (need ∷ [])) more ≡ with_reads level [] (need ∷ more)
-both_read Serializable need more = refl
-both_read ReadCommitted need more = refl
-both_read Basic need more = refl
 
 module _ (S : Schema) (level : Level) (V : Catalog) (p : Pid) (member : ℕ) where
   abbrev needed : Option Object → List Need
@@ -36,12 +29,4 @@ module _ (S : Schema) (level : Level) (V : Catalog) (p : Pid) (member : ℕ) whe
         ∙ ap (λ (o : Option Object). given o (Gone p) (λ object. given (slice_get object.values member) (Gone p) (followed V p))) (sym there);
     changes = r.changes;
     put = r.put;
-  }
-
-  pub nowhere_is : (step : Step) → object_of V p ≡ None → IsNowhere level p step → IsStep S level V (Ask (Follow p member)) step
-  nowhere_is step none r = record {
-    needs = r.needs ∙ ap needed (sym none) ∙ sym (needs_are S level V (Ask (Follow p member)));
-    answer = r.answer ∙ ap (λ (o : Option Object). given o (Gone p) (λ object. given (slice_get object.values member) (Gone p) (followed V p))) (sym none);
-    changes = ap changes_put r.put;
-    put = subst (MayBePut S V) (sym r.put) tt;
   }

@@ -24,9 +24,6 @@ use Rattle.owner_view.specs.Views.{seen_with, IsHolder, IsOwnHolder, holder_of, 
 pub seen_at : (M : Catalog) (c : Changes) (s : ℕ) → get (seen_with M c) s ≡ unwrap_or (get c s) (get M s)
 seen_at M c s = found_over M (listed c) s ∙ ap (λ o. unwrap_or o (get M s)) (last_listed c s)
 
-same_object : (o : Option Object) (x y : Object) → o ≡ Some x → o ≡ Some y → x ≡ y
-same_object o x y p q = cc
-
 no_bool : {A : Type 0} (b : Bool) → b ≡ true → b ≡ false → A
 no_bool b p q = absurd cc
 

@@ -41,9 +41,6 @@ pub destroy_needs : (S : Schema) (level : Level) (M : Catalog) (p : Pid) (object
 destroy_needs S level M p object there =
     ap (λ (l : List Need). with_reads level l []) (whole_are S object p.serial ∙ ap (λ (o : Option Object). object_need Write p.serial ∷ given o [] (object_keys S)) (sym there)) ∙ sym (needs_are S level M (Destroy p))
 
-pub destroy_gone : (S : Schema) (level : Level) (M : Catalog) (p : Pid) → object_of M p ≡ None → with_reads level (object_need Write p.serial ∷ []) [] ≡ needs S level M (Destroy p)
-destroy_gone S level M p none = ap (λ (o : Option Object). with_reads level (object_need Write p.serial ∷ given o [] (object_keys S)) []) (sym none) ∙ sym (needs_are S level M (Destroy p))
-
 -- ---- a set
 
 changed_pairs : (S : Schema) (a b : List PlainValue) (keys : List KeyNo) → differing (keyed S a keys) (keyed S b keys) ≡ keyed S a (filter (λ k. not (bytes_eq (key_bytes S k a) (key_bytes S k b))) keys)

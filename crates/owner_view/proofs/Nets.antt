@@ -1,7 +1,6 @@
 -- What changes come to, slot by slot.
 use Rattle.std.proofs.Common.{◌≡◌, ◌≤◌, ℕ, ◌+◌, Bool, true, false, cond, ◌==◌, List, [], ◌∷◌, ◌++◌, Option, Some, None, refl, sym, ap, subst, ◌∙◌, arith}
 use Rattle.std.specs.Prelude.{filter, IfSome}
-use Rattle.std.specs.FinMap.{get}
 use Rattle.std.specs.Option.{option_to_list}
 use Rattle.std.specs.Str.{bytes_eq}
 use Rattle.std.proofs.lemmas.Bool.{eq-eqb}
@@ -26,8 +25,7 @@ use Rattle.pss_laws.proofs.Nets.{state_is}
 use Rattle.owner_view.specs.declared.states.Slot.{Slot}
 use Rattle.owner_view.specs.Net.{is_net, AreNet, IsNetAt, IsNetIn}
 use Rattle.owner_view.specs.Seen.{Fits}
-use Rattle.owner_view.specs.States.{slot_at, slot_state, changes_of}
-use Rattle.owner_view.proofs.Stating.{get-changes_of}
+use Rattle.owner_view.specs.States.{slot_state}
 use Rattle.owner_view.proofs.Told.{told_in, SlotsRise}
 
 -- ---- what is the same
@@ -144,8 +142,3 @@ module _ (S : Schema) (M : Catalog) where
       by : (o : Option Change) → IfSome o (λ c. c.put.serial ≡ e.0) → SlotsRise (least_next 0 (old ++ option_to_list o)) fs
       by None h = subst (λ (l : List Change). SlotsRise (least_next 0 l) fs) (sym (append-nil old)) (let l = both.0 in slots_lower (least_next 0 old) (e.0 + 1) fs (omega (arith, l)) both.1)
       by (Some c) h = subst (λ (n : ℕ). SlotsRise n fs) (sym (next_of 0 old c ∙ ap (λ (n : ℕ). n + 1) h)) both.1
-
--- ---- what stands in slots
-
-pub slot_told : (es : List (ℕ × Slot)) (s : ℕ) (slot : Slot) (x : Object) → slot_at s es ≡ Some slot → slot_state slot ≡ Some (Some x) → get (changes_of es) s ≡ Some (Some x)
-slot_told es s slot x at is = get-changes_of es s ∙ ap (λ (o : Option Slot). given o None slot_state) at ∙ is

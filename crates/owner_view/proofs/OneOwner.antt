@@ -5,11 +5,10 @@ use Rattle.std.specs.FinMap.{get, empty, len, get-empty, len-empty}
 use Rattle.type_layout.specs.declared.schema.Schema.{Schema}
 use Rattle.type_layout.specs.Schemas.{given}
 use Rattle.pss_catalog.specs.Catalog.{Object}
-use Rattle.pss_machine.specs.Changes.{Changes}
 use Rattle.owner_view.specs.declared.owned.Owned.{Owned}
-use Rattle.storage_home.specs.Indexes.{index_at, found_at, KeepsFound}
+use Rattle.storage_home.specs.Indexes.{index_at}
 use Rattle.owner_view.specs.Overlay.{indexes_in}
-use Rattle.owner_view.specs.Owned.{changed_by, IsCounted, IsUnder, IsSame}
+use Rattle.owner_view.specs.Owned.{changed_by, IsCounted, IsUnder}
 use Rattle.owner_view.specs.Views.{IsOwnHolder}
 
 -- who has changed nothing holds no key
@@ -20,12 +19,3 @@ nothing_under o changes indexes S k bytes =
 
 pub nothing_counted : (o : Owned) → changed_by o ≡ empty → o.changed ≡ 0 → IsCounted o
 nothing_counted o changes count = count ∙ sym (ap len changes ∙ len-empty nat_cmp (Option Object))
-
--- likewise where its parts tell the same
-pub same_parts : (old new : Owned) → new.level ≡ old.level → new.changed ≡ old.changed → changed_by new ≡ changed_by old → KeepsFound (indexes_in old.overlay) (indexes_in new.overlay) → IsSame old new
-same_parts old new level count changes found = record {
-  level = level;
-  changes = changes;
-  counted = λ counted. count ∙ counted ∙ ap len (sym changes);
-  under = λ S under k bytes. subst (λ (c : Changes). IsOwnHolder S c k bytes (found_at (indexes_in new.overlay) k.0 bytes)) (sym changes) (subst (IsOwnHolder S (changed_by old) k bytes) (sym (found k.0 bytes)) (under k bytes));
-}

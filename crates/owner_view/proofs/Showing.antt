@@ -9,7 +9,6 @@ use Rattle.type_layout.specs.declared.home.HomeNo.{HomeNo}
 use Rattle.type_layout.specs.declared.key.KeyNo.{KeyNo}
 use Rattle.type_layout.specs.declared.schema.Schema.{Schema}
 use Rattle.type_layout.specs.Schemas.{home_at, members_at, given}
-use Rattle.type_layout.specs.Keys.{IsRecordWith}
 use Rattle.type_layout.specs.Values.{IsRecord}
 use Rattle.type_layout.specs.Spelling.{record_spelling}
 use Rattle.type_layout.specs.declared.schema.Home.{Home}
@@ -52,9 +51,6 @@ module _ (S : Schema) (seen : Seen) (changed : Bor Changed) (is : seen ≡ Own c
   pub own_values : (s : IsShown S seen) → changed.now.record ≡ s.object.values
   own_values s = ap (λ (o : Object). o.values) (subst (λ (x : Seen). IsSeen S x s.object) is s.is)
 
-  pub own_home : (s : IsShown S seen) → changed.now.home ≡ s.object.home
-  own_home s = ap (λ (o : Object). o.home) (subst (λ (x : Seen). IsSeen S x s.object) is s.is)
-
 -- there are as many values as members
 pub as_many : (S : Schema) (object : Object) → Fits S object → length object.values ≡ length (members_at S object.home)
 as_many S object fits = by (members_at S object.home) object.values fits.is_record
@@ -68,16 +64,6 @@ as_many S object fits = by (members_at S object.home) object.values fits.is_reco
 pub home_shown : (S : Schema) (seen : Seen) (s : IsShown S seen) → home_seen seen ≡ s.object.home
 home_shown S (Stored home bytes) s = s.is.0
 home_shown S (Own changed) s = ap (λ (o : Object). o.home) s.is
-
--- the record of a home that has the key
-pub is_record_with : (S : Schema) (k : KeyNo) (object : Object) → Fits S object → HasKey S object.home k → IsRecordWith S k object.values
-is_record_with S k object fits key = record {
-  number = object.home;
-  home = key.home;
-  there = key.there;
-  keyed = key.keyed;
-  of_home = subst (λ o. IsRecord (given o [] (λ (x : Home). x.layout.members)) object.values) key.there fits.is_record;
-}
 
 -- a member's value, copied from the values of the program
 pub copied : (vs : List PlainValue) (all : List Value) (member : ℕ) (v : Value) → map plain_value all ≡ vs → member < length all → v ≡ get_or all member v → slice_get vs member ≡ Some (plain_value v)

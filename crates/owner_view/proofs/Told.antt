@@ -125,10 +125,6 @@ module _ (test : Object → Bool) where
       let more : lost test M (told_in es) ≡ given (slot_state e.1) 0 (λ state. one_where test (get M e.0)) + lost test M (told_in fs) = ap (λ (l : Slots). lost test M (told_in l)) is ∙ lost_more M e fs in
       omega (arith, one, so_far, more)
 
--- no more is counted than slots have passed
-pub few_turn : (e : ℕ × Slot) (es fs : Slots) (n x all : ℕ) → es ≡ e ∷ fs → x ≤ 1 → n + length es ≤ all → n + x + length fs ≤ all
-few_turn e es fs n x all is one so_far = (let more : length es ≡ suc (length fs) = ap length is in omega (arith, one, so_far, more))
-
 -- ---- what they leave of an extent
 
 module _ (test : Object → Bool) (e : ℕ × Slot) (es fs : Slots) (is : es ≡ e ∷ fs) where

@@ -1,6 +1,6 @@
 -- Octets that are changes, one behind the other.
 use Rattle.std.proofs.Common.{ℕ, ◌≡◌, ◌+◌, ◌<◌, List, [], ◌∷◌, ◌++◌, length, drop, refl, sym, ap, ◌∙◌, subst, arith, append_assoc, append-nil, length-append, length-drop}
-use Rattle.std.proofs.lemmas.List.{drop-drop, drop_all}
+use Rattle.std.proofs.lemmas.List.{drop-drop}
 use Rattle.std.specs.List.{AllByRecursion, flat_map}
 use Rattle.pss_base.specs.declared.put.Put.{Put}
 use Rattle.pss_recovery.specs.Bodies.{IsSpellable, change_octets}
@@ -49,13 +49,6 @@ module _ (octets : List ℕ) (k count : ℕ) (puts : List Put) (at : ℕ) (so_fa
   nothing_left all others are =
       let none = none_left puts others (drop at octets) so_far.each are.each (so_far.count ∙ all ∙ sym are.count_) (same_octets others are) in
       omega (arith, length-drop at octets, ap length none, so_far.within)
-
-  pub all_read : k ≡ count → at ≡ length octets → AreChanges octets count puts
-  all_read all end = record {
-    count_ = so_far.count ∙ all;
-    each = so_far.each;
-    spelled = sym so_far.read ∙ ap (λ l. spelled puts ++ l) (drop_all at octets (omega (arith, end))) ∙ append-nil (spelled puts);
-  }
 
   pub one_more : (head : ChangeHead) → Begins head (drop at octets) → (more : List Put) → more ≡ puts ++ change_in head (drop at octets) ∷ [] → AreSoFar octets (k + 1) more (at + (16 + head.len))
   one_more head begins more is =

@@ -1,7 +1,7 @@
 -- Two shapes, home by home.
-use Rattle.std.proofs.Common.{ℕ, zero, suc, ◌≡◌, ◌+◌, ◌<◌, ◌≤◌, if◌then◌else◌, List, [], ◌∷◌, ◌++◌, length, take, drop, refl, sym, ap, ◌∙◌, ⊎_elim, arith, length-drop, length-take}
+use Rattle.std.proofs.Common.{ℕ, zero, suc, ◌≡◌, ◌+◌, ◌<◌, ◌≤◌, if◌then◌else◌, List, [], ◌++◌, length, take, drop, refl, sym, ap, ◌∙◌, ⊎_elim, arith, length-drop, length-take}
 use Rattle.std.proofs.lemmas.Bool.Decides.{eqb_tells}
-use Rattle.std.proofs.lemmas.List.{drop-drop, drop_all, take-append-drop}
+use Rattle.std.proofs.lemmas.List.{drop-drop, drop_all}
 use Rattle.std.proofs.Math.Seq.{take-add}
 use Rattle.type_layout.specs.Schemas.{given, nth}
 use Rattle.pss_recovery.specs.Shapes.{DifferAt, homes_of, lines_of}
@@ -43,17 +43,6 @@ module _ (shape other : List ℕ) (at home end their_end : ℕ) (agree : AgreeUp
   same_end : take end (drop at shape) ≡ take their_end (drop at other) → end ≡ their_end
   same_end e = as_long (drop at shape) (drop at other) end their_end own.within their.within e
 
-  -- nothing is left
-  pub all_same : take end (drop at shape) ≡ take their_end (drop at other) → end ≡ 0 → shape ≡ other
-  all_same e none =
-      let a : drop at shape ≡ [] = nothing (drop at shape) (λ lt. omega (arith, own.some lt, none)) in
-      let b : drop at other ≡ [] = nothing (drop at other) (λ lt. omega (arith, their.some lt, none, same_end e)) in
-      sym (take-append-drop at shape) ∙ ap (λ l. take at shape ++ l) a ∙ ap (λ l. l ++ []) agree.front ∙ ap (λ l. take at other ++ l) (sym b) ∙ take-append-drop at other
-    where
-      nothing : (l : List ℕ) → (0 < length l → ⊥) → l ≡ []
-      nothing [] h = refl
-      nothing (x ∷ l) h = absurd (h (omega arith))
-
   -- one home more
   pub agree_on : take end (drop at shape) ≡ take their_end (drop at other) → 0 < end → AgreeUpTo shape other (at + end) (home + 1)
   agree_on e some =
@@ -69,14 +58,3 @@ module _ (shape other : List ℕ) (at home end their_end : ℕ) (agree : AgreeUp
         lines_other = λ h. ap (lines_of other) (let q : home + 1 + h ≡ home + suc h = omega arith in q) ∙ agree.lines_other (suc h) ∙ later_lines (drop at other) their_end their h
             ∙ ap (λ l. lines_of l (suc h)) (ap (λ n. drop n (drop at other)) (sym same) ∙ drop-drop end at other);
       }
-
--- nothing was compared yet
-pub none_compared : (shape other : List ℕ) → AgreeUpTo shape other 0 1
-none_compared shape other =
-    record { within = omega arith; within_other = omega arith; some = omega arith; few = omega arith; front = refl; before = λ h lt. ap (lines_of shape) (zero_of h lt) ∙ ap (lines_of other) (sym (zero_of h lt)); lines = λ h. ap (lines_of shape) (one_more h); lines_other = λ h. ap (lines_of other) (one_more h) }
-  where
-    zero_of : (h : ℕ) → h < 1 → h ≡ 0
-    zero_of h lt = omega (arith, lt)
-
-    one_more : (h : ℕ) → 1 + h ≡ suc h
-    one_more h = omega arith

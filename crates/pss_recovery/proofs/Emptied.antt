@@ -19,7 +19,7 @@ use Rattle.page_store.specs.Switch.{Old}
 use Rattle.page_format.specs.declared.objects.Stored.{Stored}
 use Rattle.page_store.proofs.Givens.{apart_from}
 use Rattle.pss_recovery.specs.Loading.{AreLoaded}
-use Rattle.pss_recovery.specs.Mounted.{HasNoRecord, IsMounted, IsWhole}
+use Rattle.pss_recovery.specs.Mounted.{IsMounted, IsWhole}
 use Rattle.pss_recovery.specs.Stands.{IsLoaded, Stands}
 use Rattle.pss_recovery.specs.declared.parts.Parts.{Parts}
 use Rattle.pss_recovery.proofs.Goodness.{mounted_good}
@@ -127,10 +127,6 @@ module _ (S : Schema) (M : Catalog) (next : ℕ) (store : Parts) (c : List ℕ) 
     where
       there : (l : List ℕ) → journal_end ≤ length l → slice_get l journal_start ≡ Some (octet_at l journal_start)
       there l long = slice_get-get_or l journal_start 0 (omega (arith, long))
-
--- a closed first gate has no record behind it
-pub closed_empty : (image : List ℕ) → IsClosed image journal_start → HasNoRecord image
-closed_empty image closed epoch = record { chain = refl; ends = inl closed }
 
 -- ---- for each content that is told
 

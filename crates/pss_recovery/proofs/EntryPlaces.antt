@@ -48,9 +48,6 @@ pub record ArePassed (image : List ℕ) (all rest : List ℕ) (passed : ℕ) : T
   pub count : length (entry_places image all) ≡ passed + length (entry_places image rest)
   pub same : (i : ℕ) → get_or (entry_places image all) (passed + i) 0 ≡ get_or (entry_places image rest) i 0
 
-pub none_passed : (image slots : List ℕ) → ArePassed image slots slots 0
-none_passed image slots = record { count = omega arith; same = λ i. ap (λ n. get_or (entry_places image slots) n 0) (let e : 0 + i ≡ i = omega arith in e) }
-
 pub one_passed : (image all : List ℕ) (slot : ℕ) (rest : List ℕ) (passed next : ℕ) → next ≡ passed + entry_count image (slot_start slot) → ArePassed image all (slot ∷ rest) passed → ArePassed image all rest next
 one_passed image all slot rest passed next is so =
     let count = entry_count image (slot_start slot) in
@@ -73,12 +70,6 @@ place_here image all slot rest passed left lt so =
 pub walk_on : (image : List ℕ) (start k at len next : ℕ) → at ≡ place_of k image (entries_start start) → len ≡ number4 image (at + 4) → next ≡ at + (16 + len) → next ≡ place_of (k + 1) image (entries_start start)
 walk_on image start k at len next here is e =
     e ∙ ap (λ n. at + (16 + n)) is ∙ (let h : at + (16 + number4 image (at + 4)) ≡ behind_entry image at = omega arith in h) ∙ ap (behind_entry image) here ∙ sym (place_step image k (entries_start start))
-
--- an entry that is there ends in its page
-pub inside : (image : List ℕ) (slot k : ℕ) → IsPage image (slot_start slot) slot → k < entry_count image (slot_start slot) → place_of k image (entries_start (slot_start slot)) + 16 ≤ slot_start slot + 16384
-inside image slot k page lt =
-    let fit = page.fit k lt in
-    omega (arith, fit.within, page.head.used)
 
 -- ---- what the walk over the pages finds
 
@@ -104,9 +95,6 @@ module _ (slots : List ℕ) (j : ℕ) (lt : j < length slots) (index left count 
   pub passed_on : (image : List ℕ) → count ≤ left → ArePassed image slots (drop j slots) (index - left) → count ≡ number4 image (slot_start slot + 20) → ArePassed image slots (drop (j + 1) slots) (index - (left - count))
   passed_on image less passed is =
       one_passed image slots slot (drop (j + 1) slots) (index - left) (index - (left - count)) (omega (arith, is, less, le)) (subst (λ (l : List ℕ). ArePassed image slots l (index - left)) (drop_next slots j lt) passed)
-
-pub passed_all : (image slots : List ℕ) (index left : ℕ) (rest : List ℕ) → rest ≡ [] → ArePassed image slots rest (index - left) → index < length (entry_places image slots) → ⊥
-passed_all image slots index left rest none passed within = omega (arith, passed.count, ap (λ l. length (entry_places image l)) none, within)
 
 pub found_told : {E : Type 0} (slots : List ℕ) (j : ℕ) (lt : j < length slots) (index left count : ℕ) → left ≤ index → (r : Result ℕ E) (old now : Option (List ℕ)) → now ≡ old → IfSome old (λ image. ArePassed image slots (drop j slots) (index - left))
     → IfSome old (λ image. count ≡ number4 image (slot_start (get_or slots j 0) + 20)) → left < count

@@ -48,10 +48,6 @@ module _ (S : Schema) (image : List ℕ) where
   base_once : (root : Root) (base other : Catalog) → IsLoaded S root base image → IsLoaded S root other image → base ≡ other
   base_once root base other a b = loaded_once S root.next (rows_in image root.slots) empty base other a.loaded b.loaded
 
-  -- what was read is the same, under the same root
-  abbrev same_root : (root other : Root) (base : Catalog) (end : ℕ) (bodies : List (List ℕ)) → other ≡ root → IsRead S other base end bodies image → IsRead S root base end bodies image
-  same_root root other base end bodies e read = subst (λ (r : Root). IsRead S r base end bodies image) e read
-
   module _ (root : Root) (base other : Catalog) (end last : ℕ) (bodies others : List (List ℕ)) (a : IsRead S root base end bodies image) (b : IsRead S root other last others image) where
     bodies_once : others ≡ bodies
     bodies_once = (holds_one_list root.epoch last end others bodies image b.journal a.journal).0

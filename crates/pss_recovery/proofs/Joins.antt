@@ -14,7 +14,7 @@ use Rattle.pss_recovery.specs.Loading.{most_octets}
 use Rattle.pss_recovery.specs.Replaying.{AreMade, IsChanged, IsMade, Rise}
 use Rattle.pss_recovery.specs.declared.body.Body.{Body}
 use Rattle.pss_recovery.specs.inner.Adding.{MayMake}
-use Rattle.pss_recovery.specs.inner.Altering.{HasNewKeys, HasState, IsKeptSound, MayAlter}
+use Rattle.pss_recovery.specs.inner.Altering.{HasNewKeys, IsKeptSound, MayAlter}
 use Rattle.pss_recovery.specs.inner.Remaking.{AreApplied, AreJoined, IsMadeOf, IsOrdered, MakeSteps, MakesStep, StaysWithin}
 use Rattle.pss_recovery.proofs.Additions.{home_there}
 use Rattle.pss_recovery.proofs.Rows.{one_object}
@@ -23,12 +23,6 @@ abbrev pub kept_sound : (S : Schema) (M : Catalog) (homes : Homes) → IsKept S 
 kept_sound S M homes kept = record { kept = kept; sound = kept.each }
 
 -- ---- one put
-
-abbrev pub may_alter : (S : Schema) (M : Catalog) (next : ℕ) (put : Put) (step : Step) → IsMade S M next put step → MayAlter M put
-may_alter S M next put step made = record { home = made.home; there = made.there }
-
-abbrev pub has_state : (S : Schema) (M : Catalog) (next : ℕ) (put : Put) (step : Step) → IsMade S M next put step → HasState S next put step.state
-has_state S M next put step made = record { stored = made.step_.1; short = made.short; refers = made.refers }
 
 abbrev pub makes_step : (S : Schema) (M : Catalog) (next : ℕ) (change : Change) → AreKeysOf S (get M change.put.serial) change.old_keys → MayAlter M change.put → HasNewKeys S next change.put change.new_keys → MakesStep S M next change.put change
 makes_step S M next change old may new = record {
@@ -174,9 +168,6 @@ is_made_of S M next body changes homes ordered made applied = record {
   };
   kept = applied.kept;
 }
-
-abbrev pub is_ordered_of : (S : Schema) (M : Catalog) (next : ℕ) (body : Body) (N : Catalog) → IsChanged S M next body N → IsOrdered next body
-is_ordered_of S M next body N changed = record { some = changed.some; few = changed.few; later = changed.later; rise = changed.rise }
 
 -- what a body makes stays within its limits
 pub stays_of : (S : Schema) (M : Catalog) (next : ℕ) (body : Body) (N : Catalog) (steps : List Step) → AreMade S M body.next body.puts steps → IsChanged S M next body N → StaysWithin S M steps

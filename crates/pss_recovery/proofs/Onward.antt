@@ -1,5 +1,5 @@
 -- One row after the other.
-use Rattle.std.proofs.Common.{ℕ, zero, suc, ◌≡◌, ◌⊎◌, ◌+◌, ◌*◌, ◌^◌, ◌<◌, ◌≤◌, List, [], ◌∷◌, ◌++◌, length, take, None, Some, refl, sym, ap, ◌∙◌, subst, arith, append_assoc, append-nil, length-append}
+use Rattle.std.proofs.Common.{ℕ, zero, suc, ◌≡◌, ◌⊎◌, ◌+◌, ◌≤◌, List, [], ◌∷◌, ◌++◌, length, take, None, Some, refl, sym, ap, ◌∙◌, subst, arith, append_assoc, append-nil, length-append}
 use Rattle.std.specs.List.{AllByRecursion, slice_get}
 use Rattle.std.specs.FinMap.{empty, get, insert}
 use Rattle.pss_base.specs.declared.put.Put.{Put}
@@ -29,10 +29,6 @@ weights_both : (xs ys : List Put) → weights (xs ++ ys) ≡ weights xs + weight
 weights_both [] ys = omega arith
 weights_both (x ∷ xs) ys = omega (arith, weights_both xs ys)
 
-sixteen : (rows : List Put) → 16 * length rows ≤ weights rows
-sixteen [] = omega arith
-sixteen (row ∷ rows) = omega (arith, sixteen rows)
-
 new_on : (N : Catalog) (serial : ℕ) (object : Object) (rows : List Put) → AllByRecursion (λ other. serial ≡ other.serial → ⊥) rows → AllByRecursion (λ row. get N row.serial ≡ None) rows → AllByRecursion (λ row. get (insert N serial object) row.serial ≡ None) rows
 new_on N serial object [] apart new = tt
 new_on N serial object (row ∷ rows) apart new = (others N serial object row.serial (λ e. apart.0 (sym e)) ∙ new.0, new_on N serial object rows apart.1 new.1)
@@ -52,9 +48,6 @@ module _ (S : Schema) (next : ℕ) (all : List Put) (row : Put) (rest : List Put
 
   abbrev pub may_come : MayCome S so_far.catalog homes row
   may_come = record { kept = so_far.kept; none = so_far.may.new.0; unique = so_far.unique; bounded = fits_all }
-
-  pub index_fits : index + 1 < 2 ^ 64
-  index_fits = omega (arith, so_far.bounded, sum_of_all, sixteen so_far.front, so_far.count)
 
   pub one_on : (new : Homes) → IsOneMore S next so_far.catalog row new → AreSoFar S next all rest (index + 1) new
   one_on new more = record {

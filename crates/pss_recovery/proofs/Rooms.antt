@@ -1,5 +1,5 @@
 -- Room for a body.
-use Rattle.std.proofs.Common.{ℕ, ◌≡◌, ◌*◌, ◌^◌, ◌<◌, ◌≤◌, List, [], ◌∷◌, ◌++◌, length, max, Option, None, Some, IfSome, Result, Ok, Err, OnErr, OnOk, length-append, refl, sym, ap, ◌∙◌, subst, arith}
+use Rattle.std.proofs.Common.{ℕ, ◌≡◌, ◌*◌, ◌≤◌, List, [], ◌∷◌, ◌++◌, length, max, Option, None, Some, IfSome, Result, Ok, Err, OnErr, OnOk, length-append, refl, sym, ap, ◌∙◌, subst, arith}
 use Rattle.std.specs.Int.{to_be_bytes, w32, w64}
 use Rattle.std.specs.List.{AllByRecursion, flat_map}
 use Rattle.pss_base.specs.declared.put.Put.{Put}
@@ -8,7 +8,7 @@ use Rattle.pss_catalog.specs.Catalog.{Catalog}
 use Rattle.redo_journal.specs.Journal.{IsReady, Position}
 use Rattle.page_store.specs.Kept.{IsKept, Kept}
 use Rattle.page_format.specs.Objects.{HasRecord, IsRightPut}
-use Rattle.pss_recovery.specs.Bodies.{HasLength, body_octets, change_head, change_octets, record_octets}
+use Rattle.pss_recovery.specs.Bodies.{body_octets, change_head, change_octets, record_octets}
 use Rattle.pss_recovery.specs.Mounted.{IsMounted}
 use Rattle.pss_recovery.specs.Noted.{AreNoted}
 use Rattle.pss_recovery.specs.declared.body.Body.{Body}
@@ -40,14 +40,6 @@ pub short_body : (body : Body) → length body.puts ≤ 256 → AllByRecursion I
 short_body body few right =
     let numbers = to_be_bytes w32 (length body.puts) ++ flat_map change_octets body.puts in
     omega (arith, few, length-append (to_be_bytes w64 body.next) numbers, length-append (to_be_bytes w32 (length body.puts)) (flat_map change_octets body.puts), short_changes body.puts right)
-
-length_of : (bytes : Option (List ℕ)) → IfSome bytes HasRecord → IfSome bytes (λ octets. (1 ≤ length octets) × (length octets < 2 ^ 32))
-length_of None has = tt
-length_of (Some octets) has = (has.some, omega (arith, has.most))
-
-pub have_lengths : (puts : List Put) → AllByRecursion IsRightPut puts → AllByRecursion HasLength puts
-have_lengths [] right = tt
-have_lengths (put ∷ puts) right = (length_of put.bytes right.0, have_lengths puts right.1)
 
 -- ---- room in memory
 

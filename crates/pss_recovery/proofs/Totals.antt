@@ -84,6 +84,3 @@ module _ (changes : List Change) (i : ℕ) (change : Change) (lt : i < length ch
 
   pub old_there : (S : Schema) (M : Catalog) → old_weights S M (drop i changes) ≡ weight_at S M change.put.serial + old_weights S M (drop (i + 1) changes)
   old_there S M = ap (old_weights S M) front
-
-  pub new_there : new_weights (drop i changes) ≡ put_weight change.put + new_weights (drop (i + 1) changes)
-  new_there = ap new_weights front

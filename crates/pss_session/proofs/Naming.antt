@@ -36,9 +36,6 @@ has (Some v) h = record { value = v; is = refl; holds = h }
 have : {A : Type 0} (P : A → Type 0) (o : Option A) (v : A) → o ≡ Some v → P v → IsSomeAnd o P
 have P o v is p = subst (λ x. IsSomeAnd x P) (sym is) p
 
-pub none_named : AreNamed (λ n. None) (λ name. None)
-none_named = record { found = λ n r e. no_value r e; only = λ name s e. no_value s e }
-
 module _ (row : ℕ → Option SessionRecord) (names : List ℕ → Option SessionNo) (named : AreNamed row names) where
   -- a session comes under a free name
   pub named_open : (row2 : ℕ → Option SessionRecord) (names2 : List ℕ → Option SessionNo) (k : ℕ) (r : SessionRecord) → names r.name ≡ None → row k ≡ None → ((q : ℕ) → row2 q ≡ cond (k == q) (Some r) (row q))

@@ -34,13 +34,6 @@ some : {A : Type 0} {v : A} (o : Option A) → o ≡ Some v → IsSome o
 some None e = no_value _ e
 some (Some v) e = search rules
 
-apart_eq : (a b : ℕ) → a < b → (b == a) ≡ false
-apart_eq a b lt = by (b == a) refl
-  where
-    by : (t : Bool) → (b == a) ≡ t → t ≡ false
-    by true e = absurd (omega (arith, lt, eqb-true b a e))
-    by false e = refl
-
 module _ (old new : Register) (sound : IsSound old) where
   -- nobody has the next number
   pub next_free : row_at old.rows.entries (old.last + 1) ≡ None

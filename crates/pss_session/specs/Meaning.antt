@@ -1,5 +1,5 @@
 -- Which sessions there are, and what calls make of them.
-use Rattle.std.specs.Prelude.{ℕ, ◌≡◌, ◌⊎◌, ◌+◌, ◌&&◌, ◌||◌, List, find, Option, Some, Bool, false, is_some, refl}
+use Rattle.std.specs.Prelude.{ℕ, ◌≡◌, ◌⊎◌, ◌+◌, ◌&&◌, ◌||◌, List, find, Option, Bool, false, is_some, refl}
 use Rattle.std.specs.Option.{option_map}
 use Rattle.std.specs.Coded.{Coded, code_by, coded×, coded_ℕ}
 use Rattle.std.specs.FinMap as map
@@ -12,7 +12,7 @@ use Rattle.pss_machine.specs.declared.session.Kind.{Kind}
 use Rattle.pss_machine.specs.declared.session.Kind.TheVariants.{Transactional}
 use Rattle.pss_machine.specs.declared.session.Access.{Access}
 use Rattle.pss_machine.specs.declared.session.Association.{Association}
-use Rattle.pss_machine.specs.declared.session.Association.TheVariants.{NoTransaction, Active, Suspended}
+use Rattle.pss_machine.specs.declared.session.Association.TheVariants.{NoTransaction, Suspended}
 use Rattle.pss_machine.specs.declared.session.View.{View}
 use Rattle.pss_machine.specs.declared.session.View.TheVariants.{Committed, Kept}
 use Rattle.pss_machine.specs.Maps.{each, with_at}
@@ -70,14 +70,6 @@ associated m s association = record { sessions = with_at m.sessions s.0 (with_as
 -- it may start in the transaction: it is in none, or suspended with this one
 abbrev pub MayStart : OwnerNo → Session → Type 0
 MayStart n session = (session.kind ≡ Transactional) × ((session.association ≡ NoTransaction) ⊎ (session.association ≡ Suspended n))
-
--- it is active with the transaction
-abbrev pub IsActive : OwnerNo → Session → Type 0
-IsActive n session = (session.kind ≡ Transactional) × (session.association ≡ Active n)
-
--- it is active or suspended with the transaction
-abbrev pub IsOpen : OwnerNo → Session → Type 0
-IsOpen n session = (session.kind ≡ Transactional) × (open_in session.association ≡ Some n)
 
 -- a transaction is gone, and no session is in it
 abbrev pub finished : Meaning → OwnerNo → Meaning

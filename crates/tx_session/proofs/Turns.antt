@@ -45,13 +45,6 @@ kept_of held es n owner at = by (owned_at n es) refl (sym (get_owner held es n) 
     by None is e = cc
     by (Some o) is e = (o, is, cc)
 
-pub none_kept : (held : Held) (es : List (ℕ × Owned)) (n : ℕ) → get (owners_of held es) n ≡ None → owned_at n es ≡ None
-none_kept held es n none = by (owned_at n es) refl (sym (get_owner held es n) ∙ none)
-  where
-    by : (o : Option Owned) → owned_at n es ≡ o → option_map (plain_owner held n) o ≡ None → owned_at n es ≡ None
-    by None is e = is
-    by (Some o) is e = cc
-
 -- ---- one of them turns
 
 not_same : (n q : ℕ) → (n == q) ≡ false → eq_by_cmp nat_cmp q n ≡ false
@@ -163,7 +156,3 @@ turned_by Turns es fs n a b was turns one = record {
   here = subst (λ o. Both Turns o (owned_at n fs)) was (subst (Both Turns (Some a)) (sym (turned_here es fs n (Some b) turns)) one);
   others = turned_others es fs n (Some b) turns;
 }
-
--- there is none with this number
-pub none_stays : (Turns : Owned → Owned → Type 0) (es : List (ℕ × Owned)) (n : ℕ) → owned_at n es ≡ None → TurnsBy Turns es es n
-none_stays Turns es n none = record { here = subst (λ o. Both Turns o o) (sym none) tt; others = λ q other. refl }

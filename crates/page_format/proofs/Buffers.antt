@@ -1,5 +1,5 @@
 -- Octets that were read of an image, as an image of their own.
-use Rattle.std.proofs.Common.{ℕ, ◌≡◌, ◌↔◌, ◌<◌, ◌≤◌, ◌+◌, List, length, None, Some, IfSome, Result, Ok, Err, IfOk, IfErr, OnOk, take, drop, replicate, sym, ap, ◌∙◌, subst, arith, length-drop}
+use Rattle.std.proofs.Common.{ℕ, ◌≡◌, ◌↔◌, ◌<◌, ◌≤◌, ◌+◌, List, length, None, Some, IfSome, Result, Ok, Err, IfOk, IfErr, take, drop, replicate, sym, ap, ◌∙◌, subst, arith, length-drop}
 use Rattle.std.proofs.lemmas.List.{take-append-le}
 use Rattle.std.specs.Int.{from_be_bytes, w32, w64}
 use Rattle.std.specs.declared.option.Option.{Option}
@@ -69,12 +69,3 @@ told_same o p P e h = subst (λ x. IfSome x P) e h
 -- a part that lies inside
 pub part_inside : (at count : ℕ) (image : List ℕ) → at + count ≤ length image → octets_in (record { at = at; count = count }) image ≡ take count (drop at image)
 part_inside at count image le = take-append-le count (drop at image) (replicate count 0) (omega (arith, le, length-drop at image))
-
-pub on_ok_told : {T E : Type 0} (r : Result T E) (o : Option (List ℕ)) (A B P : List ℕ → Type 0) → IfSome o A → IfSome o B → ((image : List ℕ) → A image → B image → OnOk r (P image)) → OnOk r (IfSome o P)
-on_ok_told (Ok t) None A B P a b f = tt
-on_ok_told (Ok t) (Some c) A B P a b f = f c a b
-on_ok_told (Err e) o A B P a b f = tt
-
--- octets that were read from a place on
-pub copies_of : (at base n : ℕ) (octets : List ℕ) (content : Option (List ℕ)) → at ≡ base → length octets ≡ n → IfSome content (λ c. octets ≡ octets_in (range_of at octets) c) → IfSome content (IsCopy base n octets)
-copies_of at base n octets content same len h = some_weaker content _ (IsCopy base n octets) (λ image is. copy_of base n octets image len (is ∙ ap (λ k. octets_in (range_of k octets) image) same)) h

@@ -1,11 +1,10 @@
 -- The first wrong field of a root.
-use Rattle.std.proofs.Common.{ℕ, ◌≡◌, ⊎_elim, inl, inr, ◌+◌, ◌<◌, ◌≤◌, List, length, get_or, slice_index, refl, sym, ap, ◌∙◌, subst, arith}
-use Rattle.std.proofs.lemmas.Bool.{cases_lt}
+use Rattle.std.proofs.Common.{ℕ, ◌≡◌, inl, inr, ◌+◌, ◌<◌, ◌≤◌, List, length, get_or, slice_index, refl, sym, ap, ◌∙◌, subst, arith}
 use Rattle.pss_base.specs.declared.damage.DamageKind.TheVariants as kind
 use Rattle.pss_disk.specs.Parts.{Stands}
 use Rattle.page_format.specs.Places.{area_start, slot_end}
 use Rattle.page_format.specs.Refusals.{IsRootRefusal}
-use Rattle.page_format.specs.Roots.{HasRoot, IsWithinLimits, IsWrongField, IsWrongFirst, IsWrongSlot, IsWrongSlotField, slot_field, slot_in}
+use Rattle.page_format.specs.Roots.{HasRoot, IsWrongField, IsWrongFirst, IsWrongSlot, IsWrongSlotField, slot_field, slot_in}
 use Rattle.page_format.specs.declared.current.Current.{Current}
 use Rattle.page_format.specs.declared.fault.RootFault.TheVariants.{Damaged}
 use Rattle.page_format.specs.declared.root.Root.{Root}
@@ -73,9 +72,6 @@ module _ (found : Current) (image : List ℕ) (is : IsCurrentHead found image) w
     as_listed : (k : ℕ) → k < length slots → IsWrongSlot (slot_in image found.area) (length image) k → IsWrongSlot (slice_index slots) len k
     as_listed k lt w = wrong_slot_same (slot_in image found.area) (slice_index slots) len k (λ i le. sym (listed k lt i le)) (subst (λ n. IsWrongSlot (slot_in image found.area) n k) same_length w)
 
-    in_count : (k : ℕ) → k < length slots → k < found.head.page_count
-    in_count k lt = omega (arith, lt, its.count)
-
     pub slot_first : (at : ℕ) → at < length slots → IsWrongSlot (slice_index slots) len at → ((k : ℕ) → k < at → IsWrongSlot (slice_index slots) len k → ⊥) → IsWrongFirst image (slot_field found.area at)
     slot_first at lt w none = record {
       area = found.area;
@@ -120,14 +116,3 @@ whole_root len found slots shape image root same opened right its all short stan
       };
       right = none_wrong found image opened.found_ len slots opened.len_ right its all;
     })
-
-pub within_limits : (len : ℕ) (found : Current) (slots shape : List ℕ) → found.area ≤ 1 → IsRightHead found.head → AreRight len slots → length slots ≡ found.head.page_count → length shape ≡ found.head.shape_length
-    → IsWithinLimits (record { area = found.area; epoch = found.head.epoch; next = found.head.next; shape = shape; slots = slots })
-within_limits len found slots shape area right all count short = record {
-  area_ = area;
-  next_ = right.next;
-  shape_ = omega (arith, short, right.shape_length);
-  slots_ = omega (arith, count, right.page_count);
-  below = λ k lt. ⊎_elim {A = get_or slots k 0 < 16384} {B = 16384 ≤ get_or slots k 0} {C = get_or slots k 0 < 16384} (λ less. less) (λ more. absurd (all k lt (inl more))) (cases_lt (get_or slots k 0) 16384);
-  once = λ j k less lt e. all k lt (inr (inr (j, less, e)));
-}

@@ -59,9 +59,6 @@ filled_more : (closed : List (List Entry)) (last : List Entry) → AreFilled clo
 filled_more [] last are is = (is, tt)
 filled_more (page ∷ closed) last are is = (are.0, filled_more closed last are.1 is)
 
-pub packed_none : ArePackedSoFar [] [] [] 0
-packed_none = record { all = refl; begun = λ _. refl; used_ = refl; most = omega arith; filled = tt; closed_ = (tt, tt) }
-
 pub packed_there : (es : List Entry) (closed : List (List Entry)) (last : List Entry) (used : ℕ) (e : Entry) → ArePackedSoFar es closed last used → used + size_of e ≤ 16344 → ArePackedSoFar (es ++ e ∷ []) closed (last ++ e ∷ []) (used + size_of e)
 packed_there es closed last used e so_far fits = record {
   all = sym (append_assoc (entries_on closed) last (e ∷ [])) ∙ ap (λ l. l ++ e ∷ []) so_far.all;
@@ -123,11 +120,6 @@ range_one puts start k put le lt is =
 range_begun : (puts : List Put) (k : ℕ) (put : Put) → k < length puts → put ≡ get_or puts k put → slice_range puts k (k + 1) ≡ put ∷ []
 range_begun puts k put lt is = range_one puts k k put (omega arith) lt is ∙ ap (λ l. l ++ put ∷ []) (ap (λ (n : ℕ). take n (drop k puts)) (let h : k - k ≡ 0 = omega arith in h))
 
--- serials in a row, with one more
-row_none : (row : Option ℕ) → IfSome row (λ first. AreInARow first [])
-row_none None = tt
-row_none (Some first) = tt
-
 row_one : (first : ℕ) (es : List Entry) (e : Entry) → AreInARow first es → e.serial ≡ first + length es → AreInARow first (es ++ e ∷ [])
 row_one first [] e are is = (omega (arith, is), tt)
 row_one first (x ∷ es) e are is = (are.0, row_one (suc first) es e are.1 (omega (arith, is)))
@@ -145,10 +137,6 @@ row_range puts start k put old None le lt is with_ are = tt
 row_range puts start k put old (Some first) le lt is with_ are =
     subst (λ (l : List Entry). AreInARow first l) (sym (ap entries_left (range_one puts start k put le lt is) ∙ left-append (slice_range puts start k) (put ∷ [])))
     (row_one first (entries_left (slice_range puts start k)) (entry_left put) (subst (λ (o : Option ℕ). IfSome o (λ first. AreInARow first (entries_left (slice_range puts start k)))) with_.0 are) (omega (arith, with_.1, length-range puts start k le (omega (arith, lt)))))
-
--- the first page after an entry that went into it
-pub filled_none : (puts : List Put) (row : Option ℕ) → AreFilledUpTo puts [] (record { start = 0; end = 0; used = 0; row = row })
-filled_none puts row = record { begun = omega arith; packed = packed_none; row = row_none row }
 
 pub filled_put : (puts : List Put) (closed : List (List Entry)) (filling : Filling) (put : Put) (size : ℕ) (row : Option ℕ) → IfSome row (λ first. (filling.row ≡ Some first) × (put.serial ≡ first + (filling.end - filling.start))) → size ≡ size_of (entry_left put) → filling.end < length puts → put ≡ get_or puts filling.end put → filling.used + size ≤ 16344 → AreFilledUpTo puts closed filling
     → AreFilledUpTo puts closed (record { start = filling.start; end = filling.end + 1; used = filling.used + size; row = row })

@@ -71,14 +71,6 @@ packed_more image xs s before after is new packed j k less lt sj sk = ⊎_elim o
         let jl : j < length xs = omega (arith, less, e) in
         ⊎_elim (λ n. none_small image xs before is n.1 j jl (subst (IsSmall image) (get_or_append_left xs (s ∷ []) 0 j jl) sj)) (λ o. o.0 this) new
 
-pub nothing_gathered : (next : ℕ) (image : List ℕ) → AreGatheredOf next [] [] [] None image
-nothing_gathered next image = record {
-  pages = record { whole = λ k lt. absurd (omega (arith, lt)); given = tt; packed = λ j k less lt. absurd (omega (arith, lt)) };
-  places_ = refl;
-  rows_ = refl;
-  small_ = λ j lt. absurd (omega (arith, lt));
-}
-
 module _ (next : ℕ) (image : List ℕ) (xs : List ℕ) (slot : ℕ) (places : List (ℕ × ℕ)) (rows : List Put) (small : Option ℕ) (so_far : AreGatheredOf next xs places rows small image) where
   seen : keys_of places ≡ serials_of (entries_in image xs)
   seen = ap keys_of so_far.places_ ∙ keys_are_serials image xs

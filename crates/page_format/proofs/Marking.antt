@@ -1,8 +1,7 @@
 -- Flags of slots are set and read.
-use Rattle.std.proofs.Common.{ℕ, zero, suc, ◌≡◌, ⊎_elim, ◌+◌, ◌<◌, ◌≤◌, ◌==◌, ◌||◌, Bool, true, false, cond, List, [], ◌∷◌, ◌++◌, length, get_or, set, take, drop, refl, sym, ap, ◌∙◌, subst, arith, length-append}
+use Rattle.std.proofs.Common.{ℕ, zero, suc, ◌≡◌, ⊎_elim, ◌+◌, ◌<◌, ◌≤◌, ◌||◌, Bool, true, false, cond, List, [], ◌∷◌, ◌++◌, length, get_or, set, take, drop, refl, sym, ap, ◌∙◌, subst, arith, length-append}
 use Rattle.std.proofs.lemmas.Bool.{cases_eq, cases_lt, true≢false}
 use Rattle.std.proofs.Math.Seq.{take-append_seam}
-use Rattle.std.proofs.lemmas.List.Folds.{list_any_more}
 use Rattle.std.proofs.lemmas.List.Sums.{count_by_more_no, count_by_more_yes, sum_by-set}
 use Rattle.page_format.specs.Packing.{AreLeastFree, is_among}
 use Rattle.page_format.specs.inner.Freeing.{AreLeastUnmarked, AreUnmarkedBelow}
@@ -15,16 +14,6 @@ pub none_marked : (marks : List Bool) → ((k : ℕ) → get_or marks k false �
 none_marked [] none = refl
 none_marked (true ∷ marks) none = absurd (true≢false (none 0))
 none_marked (false ∷ marks) none = none_marked marks (λ k. none (suc k))
-
-turn : (a b c : Bool) → (a || (b || c)) ≡ ((b || a) || c)
-turn true true c = refl
-turn true false c = refl
-turn false true c = refl
-turn false false c = refl
-
--- one more slot was marked
-pub among_more : (slots : List ℕ) (i s : ℕ) (old new : Bool) → i < length slots → new ≡ ((get_or slots i 0 == s) || (is_among s (take i slots) || old)) → new ≡ (is_among s (take (i + 1) slots) || old)
-among_more slots i s old new lt e = e ∙ turn (get_or slots i 0 == s) (is_among s (take i slots)) old ∙ ap (λ b. b || old) (sym (list_any_more (λ slot. slot == s) slots i 0 lt))
 
 module _ (marks : List Bool) (s : ℕ) (free : List ℕ) (so_far : AreUnmarkedBelow marks s free) (lt : s < length marks) where
   -- the next slot is marked
@@ -73,19 +62,6 @@ module _ (marks : List Bool) (s : ℕ) (free : List ℕ) (so_far : AreUnmarkedBe
         (λ same. (length free, omega (arith, longer), at_end (length free) refl ∙ sym same))
         (λ other. let old = so_far.all q (omega (arith, less, other)) none in (old.0, omega (arith, old.1, longer), before_end old.0 old.1 ∙ old.2)) (cases_eq q s);
   }
-
-pub none_below : (marks : List Bool) → AreUnmarkedBelow marks 0 []
-none_below marks = record { count_ = refl; below = λ k lt. absurd (omega (arith, lt)); unmarked = λ k lt. absurd (omega (arith, lt)); rising = λ j k less lt. absurd (omega (arith, lt)); all = λ q lt. absurd (omega (arith, lt)) }
-
--- as many as were asked for
-pub least_below : (marks : List Bool) (s : ℕ) (free : List ℕ) (count : ℕ) → AreUnmarkedBelow marks s free → s ≤ 16384 → length free ≡ count → AreLeastUnmarked marks count free
-least_below marks s free count so_far few is = record {
-  count_ = is;
-  below = λ k lt. let h = so_far.below k lt in omega arith;
-  unmarked = so_far.unmarked;
-  rising = so_far.rising;
-  least = λ q k none lt less. so_far.all q (let h = so_far.below k lt in omega arith) none;
-}
 
 none_of : (a b c : Bool) → c ≡ (a || b) → b ≡ false → c ≡ false → a ≡ false
 none_of true b c e f g = sym e ∙ g

@@ -1,12 +1,11 @@
 -- One entry more.
-use Rattle.std.proofs.Common.{ℕ, zero, suc, ◌≡◌, ◌≢◌, ◌+◌, ◌<◌, ◌≤◌, List, [], ◌∷◌, ◌++◌, map, inl, inr, refl, sym, ap, ◌∙◌, subst, append_assoc, append-nil, arith, below_more}
+use Rattle.std.proofs.Common.{ℕ, zero, suc, ◌≡◌, ◌+◌, ◌<◌, List, [], ◌∷◌, ◌++◌, map, inl, refl, sym, ap, ◌∙◌, subst, append_assoc, append-nil, arith, below_more}
 use Rattle.std.specs.Map.{keys_of}
 use Rattle.pss_base.specs.declared.damage.DamageKind.{DamageKind}
-use Rattle.pss_base.specs.declared.damage.DamageKind.TheVariants as kind
 use Rattle.pss_base.specs.declared.put.Put.{Put}
 use Rattle.pss_disk.specs.Parts.{number8}
 use Rattle.page_format.specs.PageDamage.{AreRightEntries, AreWrongEntries, IsWrongEntry}
-use Rattle.page_format.specs.Pages.{AllFit, AreGiven, Entry, Fits, IsGiven, IsPage, IsPageHead, behind_entry, entries_end, entries_from, entries_of, entry_at, entry_count, place_of, put_of, record_length, serials_of}
+use Rattle.page_format.specs.Pages.{AllFit, AreGiven, Entry, Fits, IsGiven, behind_entry, entries_end, entries_from, entries_of, entry_at, entry_count, place_of, put_of, record_length, serials_of}
 use Rattle.page_format.specs.inner.Gathering.{AreGathered}
 
 pub place_step : (image : List ℕ) (k at : ℕ) → place_of (k + 1) image at ≡ behind_entry image (place_of k image at)
@@ -30,10 +29,6 @@ pub keys_placed : (places : List (ℕ × ℕ)) (slot : ℕ) (es : List Entry) �
 keys_placed [] slot [] = refl
 keys_placed [] slot (e ∷ es) = ap (λ l. e.serial ∷ l) (keys_placed [] slot es)
 keys_placed (p ∷ places) slot es = ap (λ l. p.0 ∷ l) (keys_placed places slot es)
-
-pub none_gathered : (page : List ℕ) (end next slot : ℕ) (places : List (ℕ × ℕ)) (rows : List Put) → 40 ≤ end → AreGathered page end next slot places rows 0 40 places rows
-none_gathered page end next slot places rows le =
-    record { place = refl; within = le; fit = λ j lt. absurd (omega (arith, lt)); given = tt; places_ = sym (append-nil places); rows_ = sym (append-nil rows) }
 
 module _ (page : List ℕ) (end next slot : ℕ) (places_before : List (ℕ × ℕ)) (rows_before : List Put) (k at : ℕ) (places : List (ℕ × ℕ)) (rows : List Put) (so_far : AreGathered page end next slot places_before rows_before k at places rows) where
   seen : keys_of places ≡ keys_of places_before ++ serials_of (entries_from k page 40)
@@ -72,27 +67,5 @@ module _ (page : List ℕ) (end next slot : ℕ) (places_before : List (ℕ × �
             (subst (λ l. IsWrongEntry page end next l place what) seen (subst (λ p. IsWrongEntry page end next (keys_of places) p what) (sym same) wrong));
       })
 
-  pub left_over : end ≡ entries_end page 0 → k ≡ entry_count page 0 → at ≢ end → AreWrongEntries page 0 next (keys_of places_before) at kind.Entry
-  left_over is all ne =
-      inr (record {
-        kind_ = refl;
-        right = subst (AreRightEntries page 0 next (keys_of places_before)) all (right_so_far is);
-        place = so_far.place ∙ ap (λ n. place_of n page 40) all;
-        left = λ e. ne (e ∙ sym is);
-      })
-
-  pub page_whole : end ≡ entries_end page 0 → k ≡ entry_count page 0 → at ≡ end → IsPageHead page 0 slot → IsPage page 0 slot
-  page_whole is all e head = record {
-    head = head;
-    fit = subst (AllFit (entries_end page 0) page 40) all (subst (λ n. AllFit n page 40 k) is so_far.fit);
-    end = ap (λ n. place_of n page 40) (sym all) ∙ sym so_far.place ∙ e ∙ is;
-  }
-
-  pub all_given : k ≡ entry_count page 0 → AreGiven next (keys_of places_before) (serials_of (entries_of page 0))
-  all_given all = subst (λ n. AreGiven next (keys_of places_before) (serials_of (entries_from n page 40))) all so_far.given
-
   pub all_placed : k ≡ entry_count page 0 → places ≡ places_before ++ map (λ e. (e.serial, slot)) (entries_of page 0)
   all_placed all = so_far.places_ ∙ ap (λ n. places_before ++ map (λ e. (e.serial, slot)) (entries_from n page 40)) all
-
-  pub all_rows : k ≡ entry_count page 0 → rows ≡ rows_before ++ map put_of (entries_of page 0)
-  all_rows all = so_far.rows_ ∙ ap (λ n. rows_before ++ map put_of (entries_from n page 40)) all

@@ -122,13 +122,6 @@ settled_gone puts s next none lt so_far = record {
 pub others_after : (puts : List Put) (serial : ℕ) (settled : List Put) → AreSettled puts serial settled → AreOthersSettled puts serial settled
 others_after puts serial settled are = record { before = are.before; others = λ q other. are.all q }
 
--- the same object comes next
-pub others_still : (puts : List Put) (s : Settling) (serial : ℕ) → serial ≡ s.serial → IsSettling puts s → AreOthersSettled puts serial s.settled
-others_still puts s serial same so_far = record {
-  before = before_later s.settled s.serial serial so_far.before (omega (arith, same));
-  others = λ q other. so_far.all q ∙ ap (λ b. cond b s.left (object_at q (entries_left s.settled))) (ap (λ (n : ℕ). q == n) (sym same) ∙ other);
-}
-
 -- a change was taken
 right_left : (home : ℕ) (bytes : Option (List ℕ)) → IfSome bytes HasRecord → IfSome (left_by home bytes) (λ left. HasRecord left.octets)
 right_left home None is = tt

@@ -35,10 +35,6 @@ module _ {X : Type 0} (f : X → List ℕ) where
   next_fits (y ∷ ys) zero x lt at = let len : length (f x) ≡ length (f y) = ap (λ z. length (f z)) at in omega (arith, len, length-append (f y) (flat_map f ys))
   next_fits (y ∷ ys) (suc i) x lt at = omega (arith, next_fits ys i x (omega (arith, lt)) at, length-append (f y) (flat_map f (take i ys)), length-append (f y) (flat_map f ys))
 
-  pub next_length : (xs : List X) (i : ℕ) (x : X) → i < length xs → x ≡ get_or xs i x → length (flat_map f (take (i + 1) xs)) ≡ length (flat_map f (take i xs)) + length (f x)
-  next_length xs i x lt at =
-      ap (λ (n : ℕ). length (flat_map f (take n xs))) (let h : i + 1 ≡ suc i = omega arith in h) ∙ ap length (next_taken xs i x lt at) ∙ length-append (flat_map f (take i xs)) (f x)
-
   -- a buffer with the elements so far takes the next one
   pub put_next : (xs : List X) (i : ℕ) (x : X) (b c d : Filled) (ys : List ℕ) → i < length xs → x ≡ get_or xs i x → c ≡ and_then b (flat_map f (take i xs)) → d ≡ and_then c ys → ys ≡ f x → d ≡ and_then b (flat_map f (take (i + 1) xs))
   put_next xs i x b c d ys lt at before e same =
@@ -125,9 +121,6 @@ entry_parts e =
     append_assoc (to_be_bytes w32 e.home ++ to_be_bytes w32 (length e.octets)) (to_be_bytes w64 e.serial) e.octets ∙ append_assoc (to_be_bytes w32 e.home) (to_be_bytes w32 (length e.octets)) (to_be_bytes w64 e.serial ++ e.octets)
 
 module _ (a b c d e : List ℕ) where
-  five_parts : (((a ++ b) ++ c) ++ d) ++ e ≡ a ++ (b ++ (c ++ (d ++ e)))
-  five_parts = append_assoc ((a ++ b) ++ c) d e ∙ append_assoc (a ++ b) c (d ++ e) ∙ append_assoc a b (c ++ (d ++ e))
-
   module _ (f : List ℕ) where
     six_parts : ((((a ++ b) ++ c) ++ d) ++ e) ++ f ≡ a ++ (b ++ (c ++ (d ++ (e ++ f))))
     six_parts = append_assoc (((a ++ b) ++ c) ++ d) e f ∙ append_assoc ((a ++ b) ++ c) d (e ++ f) ∙ append_assoc (a ++ b) c (d ++ (e ++ f)) ∙ append_assoc a b (c ++ (d ++ (e ++ f)))

@@ -2,7 +2,6 @@
 use Rattle.std.proofs.Common.{◌≡◌, ◌⊎◌, ⊎_elim, inl, inr, ℕ, zero, ◌+◌, ◌/◌, ◌≤◌, List, [], ◌∷◌, ◌++◌, length, refl, sym, ap, ◌∙◌, subst, arith, append-nil, length-append}
 use Rattle.std.proofs.Math.Seq.{take-length}
 use Rattle.std.specs.Prelude.{Result, Ok, Err, OnErr}
-use Rattle.pss_base.specs.Causes.{one_more}
 use Rattle.pss_disk.specs.Moments.{Moment, Through, DuringSpeak, spoke}
 use Rattle.pss_disk.specs.Tape.{Tape, State, half, after, after_all, moment_of, moments_from, moments_of, recorded, start, state_of, FailedDisk, FailedSpeech}
 use Rattle.pss_disk.specs.declared.call.Call.{Call}
@@ -71,18 +70,6 @@ module _ (call : Call) (old new : Tape) (s : Stepped call old new) where
   once_of = ⊎_elim
       (λ e. omega (arith, ap length (same_first ∙ ap (λ cs. moment_of (start old.first) ∷ moments_from (start old.first) cs) e), ap length (moments_from-push (start old.first) old.calls call), length-append (moments_from (start old.first) old.calls) (moment_of (after call (state_of old)) ∷ [])))
       (λ e. omega (arith, ap length (same_first ∙ ap (λ cs. moment_of (start old.first) ∷ moments_from (start old.first) cs) e))) s.calls
-
-pub disk_rose : (call : Call) (old new : Tape) → FailedDisk call old new → new.disk_faults ≡ one_more old.disk_faults
-disk_rose call old new f = ⊎_elim (λ e. ap (λ (t : Tape). t.disk_faults) e) (λ e. ap (λ (t : Tape). t.disk_faults) e) f
-
-pub disk_kept : (call : Call) (old new : Tape) → FailedSpeech call old new → new.disk_faults ≡ old.disk_faults
-disk_kept call old new f = ⊎_elim (λ e. ap (λ (t : Tape). t.disk_faults) e) (λ e. ap (λ (t : Tape). t.disk_faults) e) f
-
-pub speech_rose : (call : Call) (old new : Tape) → FailedSpeech call old new → new.speak_faults ≡ one_more old.speak_faults
-speech_rose call old new f = ⊎_elim (λ e. ap (λ (t : Tape). t.speak_faults) e) (λ e. ap (λ (t : Tape). t.speak_faults) e) f
-
-pub speech_kept : (call : Call) (old new : Tape) → FailedDisk call old new → new.speak_faults ≡ old.speak_faults
-speech_kept call old new f = ⊎_elim (λ e. ap (λ (t : Tape). t.speak_faults) e) (λ e. ap (λ (t : Tape). t.speak_faults) e) f
 
 -- no bytes, the first half of them, all of them were spoken
 pub spoke_none : (bytes : List ℕ) (s : State) → DuringSpeak bytes (moment_of s) (moment_of s)

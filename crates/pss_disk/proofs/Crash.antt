@@ -52,11 +52,6 @@ content_after (Wrote at bytes) s = refl
 content_after (Tore at bytes) s = refl
 content_after Synced s = refl
 
-pub contents_after : (calls : List Call) (s : State) → (after_all s calls).content ≡ (after_all (start s.content) calls).content
-contents_after [] s = refl
-contents_after (call ∷ calls) s =
-    contents_after calls (after call s) ∙ ap (λ c. (after_all (start c) calls).content) (content_after call s) ∙ sym (contents_after calls (after call (start s.content)))
-
 pub content_push : (first content new : List ℕ) (calls : List Call) (call : Call) → content ≡ (after_all (start first) calls).content → new ≡ (after call (start content)).content → new ≡ (after_all (start first) (calls ++ call ∷ [])).content
 content_push first content new calls call is e =
     e ∙ ap (λ c. (after call (start c)).content) is ∙ sym (content_after call (after_all (start first) calls)) ∙ ap (λ (s : State). s.content) (sym (after_all-push (start first) calls call))
@@ -166,16 +161,6 @@ picked_whole pick count first content image calls is e p =
 pub picked_none : (first : List ℕ) (calls : List Call) (pick : ℕ) → pick ≡ 0 → All IsNoSync calls → IsPicked pick (after_all (start first) calls) first
 picked_none first calls zero e none = sym (kept_after calls (start first) none)
 picked_none first calls (suc n) e none = absurd (omega (arith, e))
-
-pub picked_all : (s : State) (image : List ℕ) (pick : ℕ) → pick ≡ 1 → image ≡ s.content → IsPicked pick s image
-picked_all s image zero e is = absurd (omega (arith, e))
-picked_all s image (suc zero) e is = is
-picked_all s image (suc (suc n)) e is = absurd (omega (arith, e))
-
-pub picked_filled : (s : State) (image : List ℕ) (pick : ℕ) → pick ≢ 0 → pick ≢ 1 → IsFilled (filling pick) s.disk image → IsPicked pick s image
-picked_filled s image zero none one f = absurd (none refl)
-picked_filled s image (suc zero) none one f = absurd (one refl)
-picked_filled s image (suc (suc n)) none one f = f
 
 -- what is picked is an image
 pub picked_is_image : (s : State) (image : List ℕ) (pick : ℕ) → IsSound s → IsPicked pick s image → IsImage s.disk image

@@ -1,9 +1,9 @@
 -- Calls of the disk, one after another.
-use Rattle.std.proofs.Common.{ℕ, ◌≡◌, List, refl, sym, ap, ◌∙◌, subst}
+use Rattle.std.proofs.Common.{ℕ, ◌≡◌, List, refl, ◌∙◌}
 use Rattle.std.specs.declared.option.Option.{Option}
 use Rattle.std.specs.Option.{option_map}
-use Rattle.pss_disk.specs.Images.{Agrees, IsQuiet, Keeps, Misses, Stretch, Untouched}
-use Rattle.pss_disk.specs.Moments.{DuringSync, DuringWrite, IsSettled, IsStill, Moment, Range, Through}
+use Rattle.pss_disk.specs.Images.{Agrees, IsQuiet, Keeps, Misses, Stretch}
+use Rattle.pss_disk.specs.Moments.{DuringSync, DuringWrite, IsSettled, Moment, Range, Through}
 use Rattle.pss_disk.proofs.Images.{keeps_sync, quiet_sync, quiet_write, untouched_keeps, untouched_start, untouched_write}
 use Rattle.pss_disk.proofs.Passing.{none_came, then_come, weaker}
 
@@ -24,16 +24,6 @@ module _ (S : ℕ → Type 0) (content : Option (List ℕ)) (first : Moment) (be
         (weaker history later (DuringWrite range now) (Keeps S content) (λ m e. untouched_keeps S content m (untouched_write S content now m range misses s.untouched e)) time);
     quiet = then_come before history later (IsQuiet first) s.quiet (weaker history later (DuringWrite range now) (IsQuiet first) (λ m e. quiet_write range now m e ∙ s.said) time);
     said = quiet_write range now new d ∙ s.said;
-  }
-
-  -- a call that changes nothing
-  pub stretch_still : (new : Moment) → Through history later (IsStill now) → new ≡ now → Stretch S content first before later new
-  stretch_still new time e = record {
-    untouched = subst (λ m. Untouched S content m) (sym e) s.untouched;
-    images = then_come before history later (Keeps S content) s.images
-        (weaker history later (IsStill now) (Keeps S content) (λ m is. subst (λ x. Keeps S content x) (sym is) (untouched_keeps S content now s.untouched)) time);
-    quiet = then_come before history later (IsQuiet first) s.quiet (weaker history later (IsStill now) (IsQuiet first) (λ m is. ap (λ (x : Moment). x.spoken) is ∙ s.said) time);
-    said = ap (λ (x : Moment). x.spoken) e ∙ s.said;
   }
 
   -- the images, up to a sync of what the writes made of the content

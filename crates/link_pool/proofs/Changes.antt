@@ -67,10 +67,6 @@ length-lacking x (z ∷ zs) d =
     (λ no. omega (arith, length-lacking x zs d.1, ap length (keep x z zs no)))
     (cases_eq z x)
 
-pub fewer-lacking : (x : ℕ) (xs : List ℕ) → length (lacking x xs) ≤ length xs
-fewer-lacking x [] = omega arith
-fewer-lacking x (z ∷ zs) = ⊎_elim (λ e. omega (arith, fewer-lacking x zs, ap length (leave x z zs e))) (λ no. omega (arith, fewer-lacking x zs, ap length (keep x z zs no))) (cases_eq z x)
-
 -- distinct numbers below n are at most n
 pub few_below : (n : ℕ) (xs : List ℕ) → Distinct xs → ((y : ℕ) → In y xs → y < n) → length xs ≤ n
 few_below n [] d below = omega arith

@@ -1,7 +1,7 @@
 -- Lists of nodes: what stands right behind a node, and the list without one.
-use Rattle.std.proofs.Common.{ℕ, zero, suc, ◌≡◌, ◌≢◌, ◌+◌, ◌<◌, ◌≤◌, ⊎_elim, List, [], ◌∷◌, ◌++◌, length, Bool, true, false, cond, not, Some, None, slice_get, refl, sym, ap, ◌∙◌, subst, arith}
+use Rattle.std.proofs.Common.{ℕ, zero, suc, ◌≡◌, ◌≢◌, ◌+◌, ◌<◌, ◌≤◌, ⊎_elim, List, [], ◌∷◌, ◌++◌, length, false, cond, not, Some, None, slice_get, refl, sym, ap, ◌∙◌, subst, arith}
 use Rattle.std.specs.Prelude.{AllPairs, Contains}
-use Rattle.std.proofs.lemmas.Bool.{eqb-true, eq-eqb}
+use Rattle.std.proofs.lemmas.Bool.{eq-eqb}
 use Rattle.std.proofs.lemmas.List.{length-append}
 use Rattle.std.proofs.lemmas.List.Elements.{Contains-append_right}
 use Rattle.slab.proofs.SlabLemmas.{Contains-cons, Contains-cons_cases}
@@ -19,9 +19,6 @@ one_value e = cc
 -- no node stands twice, as `AreHomes.once` says it of each ring
 abbrev pub AreDistinct : List Node → Type 0
 AreDistinct nodes = AllPairs (λ a b. a ≢ b) nodes
-
-pub same_node-true : (a b : Node) → same_node a b ≡ true → a ≡ b
-same_node-true a b e = ap node_named (eqb-true a.number b.number e)
 
 pub same_node-false : (a b : Node) → a ≢ b → same_node a b ≡ false
 same_node-false a b ne = not_equal a.number b.number (λ e. ne (ap node_named e))
@@ -110,28 +107,3 @@ length-without x xs d m =
     let s = split_at x xs m in
     let kept : without x xs ≡ s.front ++ s.back = ap (without x) s.is ∙ without-split x s.front s.back (subst AreDistinct s.is d) in
     omega (arith, ap length kept, length-append s.front s.back, ap length s.is, length-append s.front (x ∷ s.back))
-
-unlike : {b : Bool} → b ≡ false → b ≡ true → ⊥
-unlike s t = cc
-
--- what is left was there, and is another node
-pub contains-without : (x y : Node) (xs : List Node) → Contains (without x xs) y → Contains xs y × (y ≢ x)
-contains-without x y [] m = absurd (omega (arith, m.1))
-contains-without x y (z ∷ zs) m = by (same_node z x) refl (contains-without x y zs) m
-  where
-    by : (b : Bool) → same_node z x ≡ b → (Contains (without x zs) y → Contains zs y × (y ≢ x)) → Contains (cond (not b) (z ∷ without x zs) (without x zs)) y → Contains (z ∷ zs) y × (y ≢ x)
-    by true e rest k = let r = rest k in (Contains-cons z y zs r.0, r.1)
-    by false e rest k =
-        ⊎_elim
-        (λ h. ((0, omega arith, h), λ o. unlike e (ap (λ w. same_node w x) (h ∙ o) ∙ eq-eqb x.number x.number refl)))
-        (λ r. let s = rest r in (Contains-cons z y zs s.0, s.1))
-        (Contains-cons_cases z y (without x zs) k)
-
--- what was there, and is another node, is left
-pub still-without : (x y : Node) (xs : List Node) → Contains xs y → y ≢ x → Contains (without x xs) y
-still-without x y [] m ne = m
-still-without x y (z ∷ zs) m ne = by (same_node z x) refl (λ k. still-without x y zs k ne)
-  where
-    by : (b : Bool) → same_node z x ≡ b → (Contains zs y → Contains (without x zs) y) → Contains (cond (not b) (z ∷ without x zs) (without x zs)) y
-    by true e rest = ⊎_elim (λ h. absurd (ne (sym h ∙ same_node-true z x e))) (λ k. rest k) (Contains-cons_cases z y zs m)
-    by false e rest = ⊎_elim (λ h. (0, omega arith, h)) (λ k. Contains-cons z y (without x zs) (rest k)) (Contains-cons_cases z y zs m)

@@ -1,10 +1,9 @@
 -- A column that is drained while it is refilled: each node is taken from its front, and put last again, in another row.
-use Rattle.std.proofs.Common.{ℕ, zero, suc, ◌≡◌, ◌≢◌, ◌+◌, ◌<◌, List, [], ◌∷◌, ◌++◌, length, take, drop, append-nil, Option, Some, None, IsSome, refl, sym, ap, ◌∙◌, subst, arith}
+use Rattle.std.proofs.Common.{ℕ, zero, suc, ◌≡◌, ◌≢◌, ◌+◌, ◌<◌, List, [], ◌∷◌, ◌++◌, length, take, drop, Option, Some, None, IsSome, refl, sym, ap, ◌∙◌, subst, arith}
 use Rattle.std.specs.Prelude.{map, Contains, MatchOption, IsSomeAnd}
 use Rattle.std.specs.Option.{option_map}
 use Rattle.std.specs.FinMap as map
 use Rattle.std.proofs.lemmas.List.{map-append, length-map, append_assoc}
-use Rattle.std.proofs.Math.Seq.{take-length, drop-length}
 use Rattle.slab.proofs.SlabLemmas.{Contains-cons}
 use Rattle.link_pool.specs.Rings.{list_in, first_in}
 use Rattle.link_pool.specs.Meaning.{Meaning, col_in, first_seat, seats_of_col, in_row, row_and_item, inserted, unlinked, AreRings}
@@ -47,9 +46,6 @@ module _ {X : Type 0} (change : X → X) where
       ∙ ap (λ l. s.rest ++ l) (sym (map-append change (take k xs) (s.at ∷ [])) ∙ ap (map change) (sym s.upto))
       ∙ ap (λ l. l ++ map change (take (suc k) xs)) (sym s.behind) ∙ ap (λ n. turned change n xs) next
 
-  pub turned-all : (xs : List X) → turned change (length xs) xs ≡ map change xs
-  turned-all xs = ap (λ l. l ++ map change (take (length xs) xs)) (drop-length xs) ∙ ap (map change) (take-length xs)
-
 -- functions alike on what a list has
 map-alike : {A B : Type 0} (f g : A → B) (xs : List A) → ((x : A) → Contains xs x → f x ≡ g x) → map f xs ≡ map g xs
 map-alike f g [] same = refl
@@ -65,9 +61,6 @@ module _ {T : Type 0} (col : Col) (row : Row) where
     pub others : (other : Col) → other ≢ col → list_in now.cols other ≡ list_in old.cols other
     pub room : now.room ≡ old.room
 
-  pub gathered_none : (old : Meaning T) → AreRings old → IsSome (map.get old.cols col) → IsSome (map.get old.rows row) → IsGathered old old 0
-  gathered_none old rings c r = record { rings = rings; col_there = c; row_there = r; seats = sym (append-nil (seats_of_col old col)); others = λ other ne. refl; room = refl }
-
   -- before the last the column has a node
   some : (old now : Meaning T) (k : ℕ) → IsGathered old now k → k < length (list_in old.cols col) → list_in now.cols col ≡ [] → ⊥
   some old now k g lt none =
@@ -76,12 +69,6 @@ module _ {T : Type 0} (col : Col) (row : Row) where
       let e : [] ≡ s.at ∷ (s.rest ++ map change (take k (seats_of_col old col))) =
       ap (map (map.get now.nodes)) (sym none) ∙ g.seats ∙ ap (λ l. l ++ map change (take k (seats_of_col old col))) s.from in
       cc
-
-  -- all of them
-  pub gathered_all : (old now : Meaning T) (k : ℕ) → IsGathered old now k → k ≡ length (list_in old.cols col) → seats_of_col now col ≡ map (option_map (in_row row)) (seats_of_col old col)
-  gathered_all old now k g all =
-      g.seats ∙ ap (λ n. turned (option_map (in_row row)) n (seats_of_col old col)) (all ∙ sym (length-map (list_in old.cols col) (map.get old.nodes)))
-      ∙ turned-all (option_map (in_row row)) (seats_of_col old col)
 
   module _ (now : Meaning T) (rings : AreRings now) (node : Node) (seat : Seat T) (rest : List Node) (list : list_in now.cols col ≡ node ∷ rest) (at : map.get now.nodes node ≡ Some seat) (own : seat.col ≡ col)
       (came : Node) (free : map.get (unlinked now node seat).nodes came ≡ None) (item : T) where

@@ -120,10 +120,6 @@ module _ {T : Type 0} where
       by true g = refl
       by false g = nothing g
 
-  -- a head is a ring that a map has
-  pub ring_shown : (side : Side) (s : Slab (Cell T)) (k : Ring side) → is_head_at side s (number side k) ≡ true → IsSome (map.get (rings_of side s) k)
-  ring_shown side s k h = is_some (map.get (rings_of side s) k) (nodes (list_at side s (number side k))) (get-rings side s k ∙ ap (λ b. ring_if b (list_at side s (number side k))) h)
-
   -- the list of a ring
   pub list_is : (side : Side) (s : Slab (Cell T)) (k : Ring side) → is_head_at side s (number side k) ≡ true → list_in (rings_of side s) k ≡ nodes (list_at side s (number side k))
   list_is side s k h = ap (λ o. unwrap_or o []) (get-rings side s k ∙ ap (λ b. ring_if b (list_at side s (number side k))) h)

@@ -1,8 +1,7 @@
 -- What a pool answers of its cells.
 use Rattle.std.proofs.Common.{ℕ, ◌≡◌, List, [], ◌∷◌, true, Option, Some, None, IsSome, inl, slice_get, refl, sym, ap, ◌∙◌, subst}
 use Rattle.std.specs.Prelude.{IsSomeAnd}
-use Rattle.std.specs.declared.cmp.Ordering.{Ordering}
-use Rattle.std.specs.Option.{option_map, unwrap_or}
+use Rattle.std.specs.Option.{option_map}
 use Rattle.std.specs.FinMap as map
 use Rattle.std.proofs.lemmas.Option.{slice_get-map}
 use Rattle.slab.specs.Slab.{Slab}
@@ -20,17 +19,8 @@ use Rattle.link_pool.specs.declared.names.Col.{Col}
 use Rattle.link_pool.specs.declared.names.Seat.{Seat}
 use Rattle.link_pool.proofs.Walks.{next_is}
 use Rattle.link_pool.proofs.Lists.{nodes, following-nodes}
-use Rattle.link_pool.proofs.Sound.{nothing, no_value, home_seat, ring_number, home_is, get-nodes, ring_there, list_is, head_found}
+use Rattle.link_pool.proofs.Sound.{no_value, home_seat, ring_number, home_is, get-nodes, ring_there, list_is, head_found}
 use Rattle.link_pool.proofs.Settled.{home_in}
-
--- a ring with no first node has no node
-pub bare_ring : {K : Type 0} {R : K → K → Ordering} (rings : map.FinMap R (List Node)) (ring : K) → IsSome (map.get rings ring) → first_in rings ring ≡ None → map.get rings ring ≡ Some []
-bare_ring rings ring there first = by (map.get rings ring) refl there first
-  where
-    by : (o : Option (List Node)) → map.get rings ring ≡ o → IsSome o → slice_get (unwrap_or o []) 0 ≡ None → map.get rings ring ≡ Some []
-    by None is h e = nothing h
-    by (Some []) is h e = is
-    by (Some (x ∷ xs)) is h e = no_value x (sym e)
 
 module _ {T : Type 0} where
   -- the link of a node leads to what is behind it in its ring

@@ -58,10 +58,6 @@ module _ {T : Type 0} where
   abbrev pub seats_of_col : Meaning T → Col → List (Option (Seat T))
   seats_of_col p col = map (map.get p.nodes) (list_in p.cols col)
 
-  -- the seats of the nodes of a row, in their order
-  abbrev pub seats_of_row : Meaning T → Row → List (Option (Seat T))
-  seats_of_row p row = map (map.get p.nodes) (list_in p.rows row)
-
   -- the same seat in another row
   abbrev pub in_row : Row → Seat T → Seat T
   in_row row seat = record seat { row = row }

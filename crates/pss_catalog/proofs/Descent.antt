@@ -133,15 +133,6 @@ module _ (n : ℕ) (p pl en : ℕ → ℕ) (lower : AreLower n p) (placed : IsPl
       by (inr (inl apart)) = (let own = placed.proper j (omega (arith, less, within)) in omega (arith, apart, own, same))
       by (inr (inr apart)) = (let own = placed.proper k within in omega (arith, apart, own, same))
 
-  -- no two have one place
-  pub one_place : (j k : ℕ) → j ≤ n → k ≤ n → pl j ≡ pl k → j ≡ k
-  one_place j k first second same = by (compared j k)
-    where
-      by : Compared j k → j ≡ k
-      by (inl less) = absurd (not_same j k less second same)
-      by (inr (inl is)) = is
-      by (inr (inr more)) = absurd (not_same k j more first (sym same))
-
   pub positive_place : (k : ℕ) → 0 < k → k ≤ n → 0 < pl k
   positive_place k pos within = (let inside = placed.inside k pos within in omega (arith, inside.0))
 

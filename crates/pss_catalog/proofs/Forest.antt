@@ -150,26 +150,6 @@ sum_fits n p s m lower le counted =
 
 -- ---- places
 
-pub none_placed : (n : ℕ) (p s pl en : ℕ → ℕ) → Counted n p s 0 → pl 0 ≡ 0 → en 0 ≡ 1 → Placing n p s 1 pl en
-none_placed n p s pl en counted zero_place zero_end = record {
-  first = zero_place;
-  ends = λ b lt.
-      (let is : 0 ≡ b = omega (arith, lt) in
-      let rest : n + 1 - 1 ≡ n - 0 = omega arith in
-      let sized = counted.sizes 0 (omega arith) in
-      let e : en 0 + kids p s 0 1 (n + 1 - 1) ≡ pl 0 + s 0 = ap (λ (m : ℕ). en 0 + kids p s 0 1 m) rest ∙ omega (arith, sized, zero_place, zero_end) in
-      subst (λ (c : ℕ). en c + kids p s c 1 (n + 1 - 1) ≡ pl c + s c) is e);
-  starts = λ b lt. (let is : 0 ≡ b = omega (arith, lt) in let e : pl 0 < en 0 = omega (arith, zero_place, zero_end) in subst (λ (c : ℕ). pl c < en c) is e);
-  bound = λ b lt. (let is : 0 ≡ b = omega (arith, lt) in let all = counted.total in let e : pl 0 + s 0 ≤ n + 1 = omega (arith, zero_place, all) in subst (λ (c : ℕ). pl c + s c ≤ n + 1) is e);
-  inside = λ k pos lt. absurd (omega (arith, pos, lt));
-  apart = λ j k pos less lt same. absurd (omega (arith, less, lt));
-  filled = λ b q lt low high.
-      (let is : b ≡ 0 = omega (arith, lt) in
-      let e : pl b ≡ pl 0 = ap pl is in
-      let f : en b ≡ en 0 = ap en is in
-      absurd (omega (arith, low, high, e, f, zero_place, zero_end)));
-}
-
 pub one_placed : (n : ℕ) (p s pl en ql fn : ℕ → ℕ) (h : ℕ) → AreLower n p → 0 < h → h ≤ n → ((b : ℕ) → b ≤ n → s b ≡ 1 + kids p s b 1 n) → Placing n p s h pl en
     → ((j : ℕ) → ql j ≡ cond (j == h) (en (p h)) (pl j)) → ((j : ℕ) → fn j ≡ cond (j == h) (en (p h) + 1) (cond (j == p h) (en (p h) + s h) (en j))) → Placing n p s (h + 1) ql fn
 one_placed n p s pl en ql fn h lower pos le sized placing places stops = record {

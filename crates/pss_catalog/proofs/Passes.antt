@@ -8,7 +8,7 @@ use Rattle.pss_catalog.specs.declared.row.Row.{Row}
 use Rattle.pss_catalog.specs.inner.Table.{AreLower, IsPlaced, IsOrdered, IsTop}
 use Rattle.pss_catalog.specs.inner.Sizes.{kids, Counted, Placing}
 use Rattle.pss_catalog.specs.inner.Rows.{no_row, row_at, size_of, place_of, end_of, root_of, bases_in, above, counted, placed, IsFresh, AreCounted, ArePlaced, home_at_place, HaveOrder}
-use Rattle.pss_catalog.proofs.Forest.{has_room, Compared, compared, same_place, other_place, none_counted, one_counted, sum_fits, none_placed, one_placed, all_placed}
+use Rattle.pss_catalog.proofs.Forest.{has_room, Compared, compared, same_place, other_place, none_counted, one_counted, sum_fits, one_placed, all_placed}
 use Rattle.pss_catalog.proofs.Descent.{one_ordered, one_topped, positive_place, place_within}
 
 -- ---- one place of a list
@@ -109,17 +109,6 @@ count_one n bases (suc m) rows are pos within =
         by (inr (inr more)) = other (λ e. omega (arith, e, more)) _ _
 
 -- ---- placing
-
-pub counted_placed : (n : ℕ) (bases : List ℕ) (rows : List Row) → AreCounted n bases 0 rows → ArePlaced n bases 1 rows
-counted_placed n bases rows are = record {
-  bases_are = are.bases_are;
-  size = are.size;
-  few = are.few;
-  lower = are.lower;
-  sizes = are.sizes;
-  places = none_placed n (above bases) (size_of rows) (place_of rows) (end_of rows) are.sizes are.place are.end;
-  tops = λ k pos less. absurd (omega (arith, pos, less));
-}
 
 whole : (n : ℕ) → n - 0 ≡ n
 whole n = omega arith

@@ -57,9 +57,6 @@ module _ (old new : Links) (pool : new.pool ≡ old.pool) (places : new.places.t
   same_places : (r : Resource) → place_at new r ≡ place_at old r
   same_places r = ap (λ es. entry_at same_resource es r) places
 
-  same_columns : (owner : OwnerNo) → col_at new owner ≡ col_at old owner
-  same_columns owner = ap (λ es. entry_at same_owner es owner) columns
-
   pub linked_same : IsLinked old → IsLinked new
   linked_same linked =
       let nodes = ap (λ p. p.nodes) pool in
@@ -80,13 +77,6 @@ module _ (old new : Links) (pool : new.pool ≡ old.pool) (places : new.places.t
         rows = empty_rows old new nodes (ap (λ p. p.rows) pool) same_places (resources locks) ready.rows;
         cols = empty_cols old new nodes (ap (λ p. p.cols) pool) columns (owners locks) ready.cols;
       }
-
-  pub grows_same : Grows old new
-  grows_same = record {
-    nodes = ap (λ p. p.nodes) pool;
-    places = λ r there. subst IsSome (sym (same_places r)) there;
-    cols = λ owner col e. same_columns owner ∙ e;
-  }
 
 module _ (old new : Links) (r : Resource) (row : Row) (none : place_at old r ≡ None) (fresh : map.get old.pool.rows row ≡ None) (turns : Turns same_resource old.places.table.entries new.places.table.entries r (Some (record { row = row; locks = 0 })))
     (pool : new.pool ≡ record old.pool { rows = map.insert old.pool.rows row [] }) (columns : new.columns.entries ≡ old.columns.entries) (held : new.held ≡ old.held) (rings : AreRings new.pool) where

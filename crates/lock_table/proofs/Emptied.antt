@@ -18,7 +18,7 @@ use Rattle.lock_table.specs.inner.Tables.{Turns, entry_at}
 use Rattle.lock_table.specs.inner.Links.{IsLinked, DropsRow, EmptyRows, EmptyCols, same_owner, resource_in, owner_in, place_at, row_at, col_at}
 use Rattle.lock_table.proofs.Sames.{resource-true, resource-self, owner-true, owner-self, cases, differ}
 use Rattle.lock_table.proofs.Keyed.{one_value, no_value, keyed_less, empty_less}
-use Rattle.lock_table.proofs.Kept.{same_row, same_col, same_key, same_owner_in, same_once, same_held, keyed_cols, empty_cols, keyed_rows, empty_rows, same_counts, row_gone, col_gone, row_gone_here, col_gone_here}
+use Rattle.lock_table.proofs.Kept.{same_row, same_col, same_key, same_owner_in, same_once, same_held, keyed_cols, empty_cols, keyed_rows, same_counts, row_gone, col_gone, row_gone_here, col_gone_here}
 
 pub nothing_in : (node : Node) → Contains [] node → ⊥
 nothing_in node m = omega (arith, m.1)
@@ -105,9 +105,6 @@ module _ (old new : Links) (linked : IsLinked old) (owner : OwnerNo) (col : Col)
     once = same_once old new nodes_c linked;
     held = same_held old new nodes_c linked held;
   }
-
-  pub column_removed_rows : (keys : List Resource) → EmptyRows old keys → EmptyRows new keys
-  column_removed_rows = empty_rows old new nodes_c rows_c places_c
 
   pub column_removed_cols : (keys : List OwnerNo) → EmptyCols old (owner ∷ keys) → EmptyCols new keys
   column_removed_cols keys were =

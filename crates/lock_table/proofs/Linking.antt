@@ -265,10 +265,6 @@ in_front : (front : List Lock) (lock l : Lock) → Contains front l → Contains
 in_front [] lock l m = absurd (omega (arith, m.1))
 in_front (x ∷ front) lock l m = ⊎_elim (λ (e : x ≡ l). subst (Contains (x ∷ front ++ lock ∷ [])) e (contains_first x (front ++ lock ∷ []))) (λ n. contains_rest x l (front ++ lock ∷ []) (in_front front lock l n)) (contains_cases x l front m)
 
-last_in : (front : List Lock) (lock : Lock) → Contains (front ++ lock ∷ []) lock
-last_in [] lock = contains_first lock []
-last_in (x ∷ front) lock = contains_rest x lock (front ++ lock ∷ []) (last_in front lock)
-
 -- what is left to link
 pub record LinksSome (first now : Links) (col : Col) (all rest : List Lock) : Type 0 where
   pub ready : IsReady now rest
@@ -280,12 +276,6 @@ pub links_begin : (first : Links) (col : Col) (all : List Lock) → IsReady firs
 links_begin first col all ready rings room = record { ready = ready; rings = rings; room = room; held = refl }
 
 module _ (first old : Links) (col : Col) (all front whole : List Lock) (lock : Lock) (so_far : LinksSome first old col all whole) (split : whole ≡ front ++ lock ∷ []) where
-  pub last_rings : IsSome (place_at old lock.resource) × (col_at old lock.owner ≡ Some col)
-  last_rings = so_far.rings lock (subst (λ l. Contains l lock) (sym split) (last_in front lock))
-
-  pub last_room : 0 < old.pool.room
-  last_room = omega (arith, so_far.room, ap length split, length-append front (lock ∷ []))
-
   pub links_on : (new : Links) → IsLinked new → LinksOne old new lock → LinksSome first new col all front
   links_on new linked one = record {
     ready = record {

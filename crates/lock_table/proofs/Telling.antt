@@ -19,7 +19,6 @@ use Rattle.pss_machine.specs.Needs.{same_resource}
 use Rattle.link_pool.specs.Names.{node_cmp, row_cmp, col_cmp}
 use Rattle.lock_table.specs.inner.Tables.{entry_at}
 use Rattle.lock_table.proofs.Keyed.{one_value, no_value, empty_within}
-use Rattle.lock_table.proofs.Linking.{only_one}
 use Rattle.lock_table.proofs.Holding.{node_held, held_node, tight-held_of}
 use Rattle.lock_table.proofs.Unlinking.{seat_row, seat_col}
 use Rattle.lock_table.proofs.Missing.{all_granted, own_locks}
@@ -103,9 +102,6 @@ module _ (p : Meaning Lock) (owner : OwnerNo) (needs : List Need) where
   -- the first one that is missing, and those behind it
   pub one_more : (first : Need) (behind more : List Need) → missing (held_in p) owner needs ≡ first ∷ missing (held_in p) owner behind → missing (held_in p) owner behind ≡ more → with_all (map (lock_of owner) (first ∷ more)) (held_in p) ≡ granted (held_in p) owner needs
   one_more first behind more some are = all_in (first ∷ more) (some ∙ ap (λ l. first ∷ l) are)
-
-pub only_own : (one lock : Lock) → Contains (one ∷ []) lock → lock.owner ≡ one.owner
-only_own one lock m = ap (λ (l : Lock). l.owner) (sym (only_one one lock m))
 
 pub on_ok : {A E P Q : Type 0} (r : Result A E) → (P → Q) → OnOk r P → OnOk r Q
 on_ok (Ok a) f p = f p

@@ -1,5 +1,5 @@
 -- Tables whose keys are compared by one test or by another that is the same.
-use Rattle.std.proofs.Common.{ℕ, zero, suc, ◌≡◌, ◌+◌, List, [], ◌∷◌, Option, Some, None, Result, Ok, Err, IsOk, OnOk, Bool, true, false, cond, not, slice_get, IfSome, IfNone, refl, sym, ap, subst, ◌∙◌, arith}
+use Rattle.std.proofs.Common.{ℕ, zero, suc, ◌≡◌, ◌+◌, List, [], ◌∷◌, Option, Some, None, Bool, true, false, cond, not, slice_get, IfSome, IfNone, refl, sym, ap, subst, ◌∙◌, arith}
 use Rattle.std.specs.Cmp.{IsEquivalence, decided}
 use Rattle.std.specs.Option.{option_map, unwrap_or}
 use Rattle.std.specs.List.{position_or_len}
@@ -51,10 +51,6 @@ equal a b e = resource-true a b (sym (derived_is a b) ∙ e)
 
 resource_equiv : IsEquivalence derived.eq-value.it
 resource_equiv = decided derived.eq-value.it (λ a b. (equal a b, λ same. derived_is a b ∙ ap (same_resource a) (sym same) ∙ resource-self a))
-
-pub ok_gives : {A E P : Type 0} (r : Result A E) → IsOk r → OnOk r P → P
-ok_gives (Ok a) is p = p
-ok_gives (Err e) is p = cc
 
 module _ {V : Type 0} where
   -- what an update makes of one key and leaves to the others

@@ -120,12 +120,6 @@ module _ (p : Meaning Lock) (row : Row) where
       → list_any (λ n. passes test (item_in p n)) (ahead (Some node) (list_in p.rows row)) ≡ list_any (λ n. passes test (item_in p n)) (ahead next (list_in p.rows row))
   any_passed test node lock next at fails e = ap (list_any (λ n. passes test (item_in p n))) e ∙ ap (λ o. passes test o || list_any (λ n. passes test (item_in p n)) (ahead next (list_in p.rows row))) at ∙ ap (λ b. b || list_any (λ n. passes test (item_in p n)) (ahead next (list_in p.rows row))) fails
 
-  pub any_here : (test : Lock → Bool) (node : Node) (lock : Lock) → item_in p node ≡ Some lock → test lock ≡ true → (rest : List Node) → ahead (Some node) (list_in p.rows row) ≡ node ∷ rest → list_any (λ n. passes test (item_in p n)) (ahead (Some node) (list_in p.rows row)) ≡ true
-  any_here test node lock at holds rest e = ap (list_any (λ n. passes test (item_in p n))) e ∙ ap (λ o. passes test o || list_any (λ n. passes test (item_in p n)) rest) at ∙ ap (λ b. b || list_any (λ n. passes test (item_in p n)) rest) holds
-
-  pub begins : (rings : AreRings p) (node : Node) → IsNext p row (Some node) → ahead (Some node) (list_in p.rows row) ≡ node ∷ ahead (following node (list_in p.rows row)) (list_in p.rows row)
-  begins rings node walked = ahead-next node (list_in p.rows row) (rings.rows.once row) (walked node refl)
-
 -- none of the nodes that were passed counts
 pub record Searches (p : Meaning Lock) (row : Row) (test : Lock → Bool) (next : Option Node) : Type 0 where
   pub next_is : IsNext p row next
@@ -144,9 +138,6 @@ module _ (p : Meaning Lock) (row : Row) (test : Lock → Bool) where
   gather_begins next e = record { next_is = first_next p row next e; same = ap (λ l. least_of (map (λ n. owner_if test (item_in p n)) l)) (first_ahead p row next e) }
 
   module _ (rings : AreRings p) (node : Node) (lock : Lock) (at : item_in p node ≡ Some lock) where
-    pub search_found : Searches p row test (Some node) → test lock ≡ true → any_in_row p row test ≡ true
-    search_found s holds = s.same ∙ any_here p row test node lock at holds (ahead (following node (list_in p.rows row)) (list_in p.rows row)) (begins p row rings node s.next_is)
-
     module _ (next : Option Node) (behind : IsSomeAnd (row_in p node) (λ home. next ≡ following node (list_in p.rows home))) where
       pub search_on : Searches p row test (Some node) → test lock ≡ false → Searches p row test next
       search_on s fails = record {
@@ -164,9 +155,6 @@ module _ (p : Meaning Lock) (row : Row) (test : Lock → Bool) where
             ∙ ap (λ l. lesser least (least_of (map (λ n. owner_if test (item_in p n)) l))) (sym (next_ahead p row rings node g.next_is next behind))
             ∙ g.same;
       }
-
-  pub search_ends : Searches p row test None → any_in_row p row test ≡ false
-  search_ends s = s.same
 
   pub gather_ends : (least : Option OwnerNo) → Gathers p row test least None → least ≡ least_in_row p row test
   gather_ends least g = sym (lesser-none least) ∙ g.same

@@ -1,24 +1,12 @@
 -- A gate is closed, or was closed.
-use Rattle.std.proofs.Common.{ℕ, ◌≡◌, ◌+◌, List, [], ◌∷◌, length, get_or, ◌↔◌, Bool, true, IsTrue, None, Some, IfSome, refl, sym, ap, ◌∙◌, subst, arith}
+use Rattle.std.proofs.Common.{ℕ, ◌≡◌, List, ◌↔◌, Bool, true, IsTrue, None, Some, IfSome, sym, ap, subst}
 use Rattle.std.specs.declared.option.Option.{Option}
-use Rattle.std.specs.Option.{option_map}
 use Rattle.pss_disk.specs.Images.{AllAgree, IsQuiet, Keeps}
 use Rattle.pss_disk.specs.Moments.{Disk, IsSettled, IsStill, Moment, Through}
-use Rattle.pss_disk.specs.Octets.{octets_in, range_of, write}
-use Rattle.pss_disk.specs.Parts.{octet_at}
 use Rattle.pss_disk.proofs.Images.{untouched_keeps, untouched_start}
-use Rattle.pss_disk.proofs.Parts.{in_part, stands_at, written_stands}
 use Rattle.pss_disk.proofs.Passing.{weaker}
 use Rattle.redo_journal.specs.Journal.{IsClosed, IsOpen}
 use Rattle.page_store.specs.inner.Gates.{IsAnywhere}
-
-pub same_content : (content : Option (List ℕ)) → content ≡ option_map (λ x. x) content
-same_content None = refl
-same_content (Some c) = refl
-
-pub gate_read : (gate : ℕ) (octet image : List ℕ) → length octet ≡ 1 → octet ≡ octets_in (range_of gate octet) image → get_or octet 0 0 ≡ octet_at image gate
-gate_read gate octet image len is =
-    ap (λ l. get_or l 0 0) is ∙ in_part (range_of gate octet) image 0 (omega (arith, len)) ∙ ap (octet_at image) (let e : gate + 0 ≡ gate = omega arith in e)
 
 -- what is kept everywhere is kept there
 fewer : (S : ℕ → Type 0) (content : Option (List ℕ)) (disk : Option Disk) → AllAgree IsAnywhere content disk → AllAgree S content disk
@@ -38,17 +26,6 @@ read_quiet before after now time = weaker before after (IsStill now) (IsQuiet no
 
 pub settled_still : (a b : Option (List ℕ)) (now later : Moment) → b ≡ a → later ≡ now → IsSettled a now → IsSettled b later
 settled_still a b now later e f h = subst (λ c. IsSettled c later) (sym e) (subst (λ m. IsSettled a m) (sym f) h)
-
--- then it is closed
-pub closed_there : (gate : ℕ) (old new : Option (List ℕ)) → new ≡ option_map (write gate (0 ∷ [])) old → IfSome new (λ c. IsClosed c gate)
-closed_there gate old new e = subst (λ o. IfSome o (λ c. IsClosed c gate)) (sym e) (by old)
-  where
-    by : (o : Option (List ℕ)) → IfSome (option_map (write gate (0 ∷ [])) o) (λ c. IsClosed c gate)
-    by None = tt
-    by (Some c) = λ open_.
-        let zero_ : octet_at (write gate (0 ∷ []) c) gate ≡ 0 =
-        ap (octet_at (write gate (0 ∷ []) c)) (let e : gate ≡ gate + 0 = omega arith in e) ∙ stands_at (write gate (0 ∷ []) c) (0 ∷ []) gate 0 (written_stands gate (0 ∷ []) c) (omega arith) in
-        omega (arith, zero_, open_)
 
 -- a gate that is open is not closed
 pub not_still : (gate : ℕ) (content : Option (List ℕ)) (open_ : Bool) (S : ℕ → Type 0) (before after : List Moment) → IfSome content (λ c. IsTrue open_ ↔ IsOpen c gate) → open_ ≡ true → Through before after (Keeps S content) → IfSome content (λ c. IsClosed c gate) → Through before after (Keeps IsAnywhere content)

@@ -26,10 +26,6 @@ or_nothing : {X : Type 0} (o : Option X) → option_or o None ≡ o
 or_nothing None = refl
 or_nothing (Some x) = refl
 
-none_mapped : {X Y : Type 0} (f : X → Y) (o : Option X) → option_map f o ≡ None → o ≡ None
-none_mapped f None e = refl
-none_mapped f (Some x) e = absurd (not_some (f x) e)
-
 -- objects that stand in pages: where new pages have them
 object_at : (q : ℕ) (es : List Entry) → is_object q es ≡ false → at q (map stored_of es) ≡ None
 object_at q [] none = refl

@@ -1,5 +1,5 @@
 -- Pages that stand one behind the other, written in one write.
-use Rattle.std.proofs.Common.{ℕ, zero, suc, ◌≡◌, ◌⊎◌, ⊎_elim, inl, inr, ◌+◌, ◌-◌, ◌*◌, ◌<◌, ◌≤◌, false, List, [], ◌∷◌, ◌++◌, length, take, drop, get_or, refl, sym, ap, ◌∙◌, subst, arith, length-drop}
+use Rattle.std.proofs.Common.{ℕ, zero, suc, ◌≡◌, ◌⊎◌, ⊎_elim, inl, inr, ◌+◌, ◌-◌, ◌*◌, ◌<◌, ◌≤◌, false, List, [], ◌∷◌, ◌++◌, length, take, drop, get_or, refl, sym, ap, ◌∙◌, arith, length-drop}
 use Rattle.std.proofs.lemmas.Grind.{common_steps}
 use Rattle.std.proofs.lemmas.List.{length-take-le}
 use Rattle.std.specs.declared.option.Option.{Option}
@@ -21,19 +21,6 @@ pub slot_at : (ps : List NewPage) (i : ℕ) (p : NewPage) → i < length ps → 
 slot_at [] i p lt at = absurd (omega (arith, lt))
 slot_at (x ∷ ps) zero p lt at = ap (λ (q : NewPage). q.slot) (sym at)
 slot_at (x ∷ ps) (suc i) p lt at = slot_at ps i p (omega (arith, lt)) at
-
--- a run with one more page
-one_longer : (slot : ℕ) (ps : List NewPage) (i : ℕ) → i < length ps → IsRun slot (take i ps) → get_or (slots_of ps) i 0 ≡ slot + i → IsRun slot (take (suc i) ps)
-one_longer slot [] i lt run e = absurd (omega (arith, lt))
-one_longer slot (p ∷ ps) zero lt run e = (omega (arith, e), tt)
-one_longer slot (p ∷ ps) (suc i) lt run e = (run.0, one_longer (slot + 1) ps i (omega (arith, lt)) run.1 (omega (arith, e)))
-
-pub longer_run : (slot : ℕ) (ps : List NewPage) (i : ℕ) → i < length ps → IsRun slot (take i ps) → get_or (slots_of ps) i 0 ≡ slot + i → IsRun slot (take (i + 1) ps)
-longer_run slot ps i lt run e = subst (λ (n : ℕ). IsRun slot (take n ps)) (let h : suc i ≡ i + 1 = omega arith in h) (one_longer slot ps i lt run e)
-
-pub first_run : (ps : List NewPage) → 0 < length ps → IsRun (get_or (slots_of ps) 0 0) (take 1 ps)
-first_run [] lt = absurd (omega (arith, lt))
-first_run (p ∷ ps) lt = (refl, tt)
 
 -- a run ends in front of the last slot's end
 pub run_inside : (slot : ℕ) (ps : List NewPage) → IsRun slot ps → AreWritable ps → 0 < length ps → slot + length ps ≤ 16384

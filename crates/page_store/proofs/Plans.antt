@@ -1,27 +1,18 @@
 -- What a checkpoint writes, as it is laid out.
-use Rattle.std.proofs.Common.{ℕ, zero, suc, ◌≡◌, ⊎_elim, ◌+◌, ◌-◌, ◌<◌, ◌≤◌, ◌==◌, ◌||◌, Bool, true, false, cond, List, [], ◌∷◌, ◌++◌, length, length-append, get_or, map, take, drop, refl, sym, ap, ◌∙◌, subst, arith}
+use Rattle.std.proofs.Common.{ℕ, zero, suc, ◌≡◌, ⊎_elim, ◌+◌, ◌-◌, ◌<◌, ◌≤◌, ◌==◌, ◌||◌, Bool, true, false, cond, List, [], ◌∷◌, ◌++◌, length, length-append, get_or, map, refl, sym, ap, ◌∙◌, subst, arith}
 use Rattle.std.proofs.lemmas.Bool.{cases_lt, false≢true}
 use Rattle.std.proofs.lemmas.Bool.Decides.{nat_tests}
-use Rattle.std.proofs.lemmas.List.{take-append-drop}
 use Rattle.std.specs.List.{filter}
 use Rattle.page_store.specs.Checkpoints.{AreSomeOf}
 use Rattle.page_store.specs.Kept.{AreWithinLimits}
-use Rattle.page_format.specs.Packing.{AreLeastFree, OnlyLastIsSmall, entries_on, is_among, size_of, used_by}
+use Rattle.page_format.specs.Packing.{AreLeastFree, OnlyLastIsSmall, entries_on, is_among, used_by}
 use Rattle.page_format.specs.Pages.{Entry}
 use Rattle.page_format.specs.Roots.{IsWithinLimits}
 use Rattle.page_store.specs.Switch.{slots_of, uses_of}
-use Rattle.page_format.specs.Written.{AreStorable, AreWritable, IsWritable, entries_octets, entry_octets}
+use Rattle.page_format.specs.Written.{AreStorable, AreWritable, entries_octets, entry_octets}
 use Rattle.page_format.specs.declared.new_page.NewPage.{NewPage}
 use Rattle.page_store.specs.inner.Repacked.{MayBeWritten}
 use Rattle.page_format.proofs.EntryOctets.{length_entry}
-use Rattle.page_format.proofs.Filling.{used_by-append}
-use Rattle.page_store.proofs.Turned.{take_more}
-
-pub used_more : (es : List Entry) (k : ℕ) (d : Entry) → k < length es → used_by (take (k + 1) es) ≡ used_by (take k es) + size_of (get_or es k d)
-used_more es k d lt = ap used_by (take_more es k d lt) ∙ used_by-append (take k es) (get_or es k d ∷ []) ∙ (let e : used_by (take k es) + (size_of (get_or es k d) + 0) ≡ used_by (take k es) + size_of (get_or es k d) = omega arith in e)
-
-pub used_take : (es : List Entry) (k : ℕ) → used_by (take k es) ≤ used_by es
-used_take es k = let e = ap used_by (take-append-drop k es) in let f = used_by-append (take k es) (drop k es) in omega arith
 
 pub length_entries : (es : List Entry) → length (entries_octets es) ≡ used_by es
 length_entries [] = refl
@@ -39,11 +30,6 @@ length_mapped f (x ∷ xs) = ap suc (length_mapped f xs)
 pub length_mapped_to : {X Y : Type 0} (f : X → Y) (xs : List X) → length (map f xs) ≡ length xs
 length_mapped_to f [] = refl
 length_mapped_to f (x ∷ xs) = ap suc (length_mapped_to f xs)
-
-pub writable_at : (pages : List NewPage) (k : ℕ) (d : NewPage) → AreWritable pages → k < length pages → IsWritable (get_or pages k d)
-writable_at [] k d are lt = absurd (omega (arith, lt))
-writable_at (p ∷ pages) zero d are lt = are.0
-writable_at (p ∷ pages) (suc k) d are lt = writable_at pages k d are.1 (omega (arith, lt))
 
 -- how much of a page is in use
 pub use_at : (pages : List NewPage) (k : ℕ) (d : NewPage) → k < length pages → get_or (uses_of pages) k 0 ≡ used_by (get_or pages k d).entries

@@ -1,10 +1,10 @@
 -- Some of the pages of a root, and those that are packed anew.
-use Rattle.std.proofs.Common.{ℕ, zero, suc, ◌≡◌, ⊎_elim, ◌+◌, ◌-◌, ◌%◌, ◌^◌, ◌<◌, ◌≤◌, ◌==◌, Bool, true, false, cond, not, List, [], ◌∷◌, ◌++◌, length, get_or, map, All, Some, None, refl, sym, ap, ◌∙◌, subst, arith}
+use Rattle.std.proofs.Common.{ℕ, ◌≡◌, ⊎_elim, ◌+◌, ◌-◌, ◌%◌, ◌^◌, ◌<◌, ◌≤◌, ◌==◌, Bool, true, false, cond, not, List, [], ◌∷◌, ◌++◌, length, get_or, map, Some, None, refl, sym, ap, ◌∙◌, subst, arith}
 use Rattle.std.proofs.lemmas.Bool.{cases_eq, cases_lt, eqb-true}
 use Rattle.std.specs.Cmp.{nat_cmp_total}
 use Rattle.std.specs.FinMap as finite
 use Rattle.std.specs.FinMap.{nat_cmp-IsAntisymmetric, same_map}
-use Rattle.std.specs.List.{AllByRecursion, filter}
+use Rattle.std.specs.List.{filter}
 use Rattle.std.specs.List.Sorted.{IsStrictlySortedBy}
 use Rattle.std.specs.Ordering.{nat_cmp}
 use Rattle.std.proofs.lemmas.Map.Entries.{option_filter}
@@ -36,11 +36,6 @@ use Rattle.page_store.proofs.Merged.{all_at, crossing, merged, part_apart, part_
 use Rattle.page_store.proofs.MovedSlots.{objects_weight, once_in, used_at_least}
 use Rattle.page_store.proofs.Plans.{filter_each, filter_some, length_mapped_to}
 use Rattle.page_store.proofs.Turned.{map-append}
-
-pub all_of : (P : Put → Type 0) (rows : List Put) → AllByRecursion P rows → All P rows
-all_of P [] h k d lt = absurd (omega (arith, lt))
-all_of P (row ∷ rows) h zero d lt = h.0
-all_of P (row ∷ rows) h (suc k) d lt = all_of P rows h.1 k d (omega (arith, lt))
 
 -- an object among entries whose serials are given has such a serial
 in_range : (next : ℕ) (seen : List ℕ) (es : List Entry) (q : ℕ) (x : Stored) → AreGiven next seen (serials_of es) → at q (map stored_of es) ≡ Some x → (1 ≤ q) × (q < next)

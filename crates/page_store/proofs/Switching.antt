@@ -1,7 +1,5 @@
 -- A store while its roots are switched.
-use Rattle.std.proofs.Common.{ℕ, ◌≡◌, ◌⊎◌, inl, inr, ◌+◌, ◌-◌, ◌%◌, ◌^◌, ◌<◌, ◌≤◌, List, [], ◌∷◌, get_or, None, Some, IfSome, refl, sym, ap, ◌∙◌, subst, arith}
-use Rattle.std.proofs.lemmas.Nat.{from_be_bytes-to_be_bytes_8}
-use Rattle.std.specs.Int.{from_be_bytes, w64}
+use Rattle.std.proofs.Common.{ℕ, ◌≡◌, inl, inr, ◌+◌, ◌-◌, ◌^◌, ◌<◌, ◌≤◌, List, [], ◌∷◌, get_or, None, Some, IfSome, refl, sym, ap, ◌∙◌, subst, arith}
 use Rattle.std.specs.declared.option.Option.{Option}
 use Rattle.std.specs.Prelude.{OnOk, Result, Ok, Err}
 use Rattle.std.specs.Option.{option_map}
@@ -11,7 +9,7 @@ use Rattle.pss_disk.specs.Octets.{write}
 use Rattle.pss_disk.specs.Parts.{octet_at}
 use Rattle.pss_disk.proofs.Parts.{agrees_at, stands_at, written_stands}
 use Rattle.pss_disk.proofs.Passing.{both_have, weaker}
-use Rattle.redo_journal.specs.Journal.{Ends, HasEpoch, IsClosed, journal_end, journal_start}
+use Rattle.redo_journal.specs.Journal.{IsClosed, journal_end, journal_start}
 use Rattle.page_format.specs.Places.{area_start}
 use Rattle.page_format.specs.Roots.{IsWithinLimits}
 use Rattle.page_store.specs.Stores.{AllHave, IsOldPlace}
@@ -117,18 +115,3 @@ module _ (old : Old) (next : Next) (root : Root) (pages : List NewPage) (is : Is
 pub on_ok_two : {T X : Type 0} (r : Result T X) (A B C : Type 0) → (A → B → C) → OnOk r A → OnOk r B → OnOk r C
 on_ok_two (Ok t) A B C f a b = f a b
 on_ok_two (Err e) A B C f a b = tt
-
--- a journal whose first gate is closed or has the epoch of the old root has no record of the next one
-pub next_epoch_ends : (epoch next : ℕ) (c : List ℕ) → epoch < 2 ^ 64 → next ≡ (epoch + 1) % 2 ^ 64 → IsClosed c journal_start ⊎ HasEpoch epoch c journal_start → Ends next c journal_start
-next_epoch_ends epoch next c given e (inl closed) = inl closed
-next_epoch_ends epoch next c given e (inr old) =
-    inr (
-      refl,
-      λ new.
-          let same : epoch ≡ next =
-          sym (from_be_bytes-to_be_bytes_8 epoch given) ∙ ap (from_be_bytes w64) (sym old ∙ new) ∙ from_be_bytes-to_be_bytes_8 next (omega (arith, e)) in
-          other same,
-    )
-  where
-    other : epoch ≡ next → ⊥
-    other same = omega (arith, e, same, given)

@@ -1,5 +1,5 @@
 -- Pages are touched by changes, one change after the other.
-use Rattle.std.proofs.Common.{ℕ, ◌≡◌, ◌↔◌, ◌==◌, ◌||◌, Bool, true, false, IsTrue, cond, List, [], ◌∷◌, ◌++◌, length, Some, None, arith, refl, sym, ap, ◌∙◌}
+use Rattle.std.proofs.Common.{ℕ, ◌≡◌, ◌==◌, ◌||◌, Bool, true, false, cond, List, [], ◌∷◌, ◌++◌, Some, None, refl, sym, ap, ◌∙◌}
 use Rattle.std.proofs.lemmas.Bool.{eqb-true, false≢true}
 use Rattle.std.specs.FinMap as finite
 use Rattle.std.specs.List.{list_any}
@@ -60,10 +60,6 @@ noted_more puts put q o = by (put.serial == q) (is_noted q puts) ∙ ap (λ b. c
     by true false = refl
     by false true = refl
     by false false = refl
-
-pub no_entries : (es : List (ℕ × ℕ)) (r : Bool) → (IsTrue r ↔ (length es ≡ 0)) → r ≡ true → es ≡ []
-no_entries [] r is e = refl
-no_entries (p ∷ es) r is e = let z : length (p ∷ es) ≡ 0 = is.0 e in absurd (omega (arith, z))
 
 -- where no objects are kept, no page is touched
 pub none_touched : (es : List (ℕ × ℕ)) (puts : List Put) (s : ℕ) (m : Bool) → es ≡ [] → m ≡ (is_touched (under_serials es) puts s || m)

@@ -1,8 +1,6 @@
 -- Objects get other places.
-use Rattle.std.proofs.Common.{ℕ, zero, suc, ◌≡◌, ◌<◌, ◌≤◌, ◌+◌, ◌||◌, Bool, true, false, cond, List, [], ◌∷◌, ◌++◌, length, length-append, get_or, take, map, Some, refl, sym, ap, ◌∙◌, arith}
-use Rattle.std.specs.List.{list_any}
+use Rattle.std.proofs.Common.{ℕ, zero, suc, ◌≡◌, ◌<◌, ◌≤◌, ◌+◌, cond, List, [], ◌∷◌, ◌++◌, length, length-append, get_or, take, map, Some, refl, ap, ◌∙◌, arith}
 use Rattle.std.specs.declared.option.Option.{Option}
-use Rattle.std.proofs.lemmas.List.Folds.{list_any_more}
 use Rattle.page_store.specs.Placed.{is_object, placed}
 use Rattle.page_format.specs.declared.new_page.NewPage.{NewPage}
 
@@ -11,17 +9,6 @@ take_end [] zero le = refl
 take_end [] (suc i) le = refl
 take_end (x ∷ xs) zero le = absurd (omega (arith, le))
 take_end (x ∷ xs) (suc i) le = ap (λ l. x ∷ l) (take_end xs i (omega (arith, le)))
-
--- one that was turned last, or before
-pub turned_more : {X Y : Type 0} (test : X → Bool) (xs : List X) (i : ℕ) (d : X) (before now : Option Y) (to new : Option Y) → i < length xs → now ≡ cond (list_any test (take i xs)) to before → new ≡ cond (test (get_or xs i d)) to now → new ≡ cond (list_any test (take (i + 1) xs)) to before
-turned_more {X} {Y} test xs i d before now to new lt was is =
-    is ∙ ap (cond (test (get_or xs i d)) to) was ∙ either (test (get_or xs i d)) (list_any test (take i xs)) ∙ ap (λ b. cond b to before) (sym (list_any_more test xs i d lt))
-  where
-    either : (a b : Bool) → cond a to (cond b to before) ≡ cond (b || a) to before
-    either true true = refl
-    either true false = refl
-    either false true = refl
-    either false false = refl
 
 pub placed-append : (pages more : List NewPage) (q : ℕ) (slot : Option ℕ) → placed (pages ++ more) q slot ≡ placed more q (placed pages q slot)
 placed-append [] more q slot = refl

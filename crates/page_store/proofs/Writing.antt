@@ -1,20 +1,16 @@
 -- A store while pages and the next root are written.
-use Rattle.std.proofs.Common.{ℕ, ◌≡◌, ◌⊎◌, inl, inr, ◌+◌, ◌-◌, ◌<◌, ◌≤◌, List, length, get_or, None, Some, IfSome, sym, ap, ◌∙◌, arith}
+use Rattle.std.proofs.Common.{ℕ, ◌≡◌, ◌⊎◌, inl, inr, ◌+◌, ◌-◌, ◌<◌, ◌≤◌, List, length, get_or, sym, ap, ◌∙◌, arith}
 use Rattle.std.proofs.lemmas.Bool.{cases_lt}
 use Rattle.std.proofs.lemmas.Option.{slice_get-get_or, slice_get_within}
-use Rattle.std.specs.declared.option.Option.{Option}
-use Rattle.pss_disk.specs.Images.{Agrees, AllAgree, Keeps}
-use Rattle.pss_disk.specs.Moments.{Disk, IsImage, Moment, Through}
+use Rattle.pss_disk.specs.Images.{Agrees}
 use Rattle.pss_disk.specs.Parts.{octet_at}
 use Rattle.pss_disk.proofs.Parts.{agrees_at}
-use Rattle.pss_disk.proofs.Passing.{weaker}
 use Rattle.redo_journal.specs.Journal.{IsClosed, journal_end}
 use Rattle.page_format.specs.Laws.{AreSame}
 use Rattle.page_format.specs.Pages.{Entry}
 use Rattle.page_format.specs.Places.{area_start, slot_end, slot_start}
-use Rattle.page_store.specs.Stores.{AllHave, HasStore, IsOldPlace}
+use Rattle.page_store.specs.Stores.{HasStore, IsOldPlace}
 use Rattle.page_format.specs.declared.root.Root.{Root}
-use Rattle.page_store.proofs.Closing.{untold}
 use Rattle.page_format.proofs.Staying.{pages_kept, root_there_within, slot_inside}
 
 module _ (root : Root) (objects : List Entry) (gate : ℕ) (c image : List ℕ) (has : HasStore root objects c) (is_gate : gate ≡ area_start (1 - root.area)) (closed : IsClosed c gate) (agrees : Agrees (IsOldPlace root.slots gate) c image) where
@@ -59,15 +55,3 @@ module _ (root : Root) (objects : List Entry) (gate : ℕ) (c image : List ℕ) 
         pages = kept.pages has.pages;
         objects_ = kept.entries has.pages ∙ has.objects_;
       }
-
-written_disk : (root : Root) (objects : List Entry) (gate : ℕ) (content : Option (List ℕ)) (disk : Option Disk) → gate ≡ area_start (1 - root.area) → IfSome content (λ c. HasStore root objects c × IsClosed c gate) → AllAgree (IsOldPlace root.slots gate) content disk
-    → IfSome disk (λ d. (image : List ℕ) → IsImage d image → HasStore root objects image)
-written_disk root objects gate None disk is_gate has h = untold (HasStore root objects) disk h
-written_disk root objects gate (Some c) None is_gate has h = tt
-written_disk root objects gate (Some c) (Some d) is_gate has h = λ image is. store_while_written root objects gate c image has.0 is_gate has.1 (h image is)
-
--- at each moment while only other places are written the store is there
-pub while_written : (root : Root) (objects : List Entry) (gate : ℕ) (content : Option (List ℕ)) (before after : List Moment) → gate ≡ area_start (1 - root.area) → IfSome content (λ c. HasStore root objects c × IsClosed c gate) → Through before after (Keeps (IsOldPlace root.slots gate) content)
-    → Through before after (AllHave (HasStore root objects))
-while_written root objects gate content before after is_gate has images =
-    weaker before after (Keeps (IsOldPlace root.slots gate) content) (AllHave (HasStore root objects)) (λ m h. written_disk root objects gate content m.disk is_gate has h) images

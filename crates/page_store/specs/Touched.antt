@@ -10,10 +10,6 @@ use Rattle.pss_base.specs.declared.put.Put.{Put}
 abbrev pub under_serials : List (ℕ × ℕ) → FinMap nat_cmp ℕ
 under_serials es = from_entries es
 
--- the slot of the page that holds an object
-abbrev pub place_at : FinMap nat_cmp ℕ → ℕ → Option ℕ
-place_at places serial = get places serial
-
 -- this slot is the one that there is
 abbrev pub is_in : ℕ → Option ℕ → Bool
 is_in slot None = false

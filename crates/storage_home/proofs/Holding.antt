@@ -60,10 +60,6 @@ pub on_err : {A E P Q : Type 0} (r : Result A E) → (P → Q) → OnErr r P →
 on_err (Ok a) f p = p
 on_err (Err e) f p = f p
 
-pub always_err : {A E P : Type 0} (r : Result A E) → P → OnErr r P
-always_err (Ok a) p = tt
-always_err (Err e) p = p
-
 pub on_either : {A E P Q R : Type 0} (r : Result A E) → OnOk r P → OnErr r Q → (P → R) → (Q → R) → R
 on_either (Ok a) p q f g = f p
 on_either (Err e) p q f g = g q

@@ -98,6 +98,3 @@ pub any_at : (keys : List KeyNo) (i : ℕ) (d : KeyNo) → i < length keys → l
 any_at [] i d within = absurd (omega (arith, within))
 any_at (k ∷ ks) zero d within = ap (λ b. b || list_any (λ j. j.0 == k.0) ks) (eq-eqb k.0 k.0 refl)
 any_at (k ∷ ks) (suc i) d within = by_test (λ b. (b || list_any (λ j. j.0 == (get_or ks i d).0) ks) ≡ true) (k.0 == (get_or ks i d).0) (λ _. refl) (λ _. any_at ks i d (omega (arith, within)))
-
-pub key_at_index : (keys : List KeyNo) (i : ℕ) (k : KeyNo) → i < length keys → k ≡ get_or keys i k → list_any (λ j. j.0 == k.0) keys ≡ true
-key_at_index keys i k within is = subst (λ (x : KeyNo). list_any (λ j. j.0 == x.0) keys ≡ true) (sym is) (any_at keys i k within)

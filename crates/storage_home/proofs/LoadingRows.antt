@@ -1,5 +1,5 @@
 -- Rows, one after the other.
-use Rattle.std.proofs.Common.{ℕ, zero, suc, ◌≡◌, ◌≤◌, List, [], ◌∷◌, length, map, filter, sum, Option, Some, None, false, refl, sym, ap, subst, ◌∙◌, arith, IsSome}
+use Rattle.std.proofs.Common.{ℕ, zero, suc, ◌≡◌, ◌≤◌, List, [], ◌∷◌, length, map, filter, sum, Option, Some, None, false, refl, sym, ap, subst, ◌∙◌, arith}
 use Rattle.std.specs.Option.{option_map}
 use Rattle.std.specs.FinMap.{get, insert, empty, entries, get-empty, len-empty, len-entries}
 use Rattle.std.specs.Ordering.{nat_cmp}
@@ -133,18 +133,6 @@ module _ (S : Schema) (F : Catalog) (homes : Parts) (row : Put) (rest : List Put
       by : (steps : List Step) → AreRows S (row ∷ rest) steps → AreFresh m.catalog steps → over m.catalog steps ≡ F → MayLoadAll S F new rest
       by [] are fresh ends = absurd are
       by (step ∷ steps) are fresh ends = at step steps are.0.0 are.3 fresh ends step.state refl (subst (λ b. IsState S row.home b step.state) is are.0.1)
-
-  -- each row has a record
-  pub has_record : row.bytes ≡ None → ⊥
-  has_record is = by m.steps m.are
-    where
-      at : (state : Option Object) → IsState S row.home None state → IsSome state → ⊥
-      at None told some = cc
-      at (Some object) told some = told
-
-      by : (steps : List Step) → AreRows S (row ∷ rest) steps → ⊥
-      by [] are = are
-      by (step ∷ steps) are = at step.state (subst (λ b. IsState S row.home b step.state) is are.0.1) are.1
 
 pub all_loaded : (S : Schema) (F : Catalog) (homes : Parts) → MayLoadAll S F homes [] → IsKept S F homes
 all_loaded S F homes m = by m.steps m.are m.ends

@@ -1,9 +1,7 @@
 -- What a change at one serial leaves at the others.
-use Rattle.std.proofs.Common.{ℕ, ◌≡◌, ◌==◌, List, Option, Some, None, Bool, true, false, cond, refl, ap, ◌∙◌, IsSome, rules, arith, suc, zero, [], ◌∷◌, ◌≤◌, length, drop, take, map, get_or, ◌++◌, ◌+◌, ◌<◌}
+use Rattle.std.proofs.Common.{ℕ, ◌≡◌, ◌==◌, List, Bool, true, false, refl, ap, ◌∙◌, arith, suc, zero, [], ◌∷◌, ◌≤◌, length, drop, take, map, get_or, ◌++◌, ◌+◌, ◌<◌}
 use Rattle.std.specs.List.{slice_get}
 use Rattle.type_layout.specs.Schemas.{given, nth}
-use Rattle.storage_home.specs.declared.rows.Row.{Row}
-use Rattle.storage_home.specs.Rows.{is_reserved_in}
 
 pub by_test : (P : Bool → Type 0) (b : Bool) → (b ≡ true → P true) → (b ≡ false → P false) → P b
 by_test P true f g = f refl
@@ -11,19 +9,6 @@ by_test P false f g = g refl
 
 pub same_number : (s q : ℕ) → (s == q) ≡ true → s ≡ q
 same_number s q e = grind (arith, e)
-
--- a part that is the same at the changed serial is the same at all
-pub part_kept : {X A : Type 0} (part : Option X → A) (old new : ℕ → Option X) (s : ℕ) (w : Option X) → ((q : ℕ) → new q ≡ cond (s == q) w (old q)) → part w ≡ part (old s) → (q : ℕ) → part (new q) ≡ part (old q)
-part_kept part old new s w turns same q =
-    ap part (turns q) ∙ by_test (λ b. (s == q) ≡ b → part (cond b w (old q)) ≡ part (old q)) (s == q) (λ _ here. same ∙ ap (λ (k : ℕ). part (old k)) (same_number s q here)) (λ _ _. refl) refl
-
-pub part_turned : {X A : Type 0} (part : Option X → A) (old new : ℕ → Option X) (s : ℕ) (w : Option X) → ((q : ℕ) → new q ≡ cond (s == q) w (old q)) → (q : ℕ) → part (new q) ≡ cond (s == q) (part w) (part (old q))
-part_turned part old new s w turns q =
-    ap part (turns q) ∙ by_test (λ b. part (cond b w (old q)) ≡ cond b (part w) (part (old q))) (s == q) (λ _. refl) (λ _. refl)
-
-pub reserved_there : (row : Option Row) → is_reserved_in row ≡ true → IsSome row
-reserved_there None e = cc
-reserved_there (Some row) e = search rules
 
 pub drop_end : {X : Type 0} (xs : List X) (i : ℕ) → length xs ≤ i → drop i xs ≡ []
 drop_end [] zero over = refl

@@ -1,5 +1,5 @@
 -- An object is taken out of what is kept, or put.
-use Rattle.std.proofs.Common.{ℕ, zero, suc, ◌+◌, ◌-◌, ◌/◌, ◌%◌, ◌≡◌, ◌<◌, ◌≤◌, ◌⊎◌, List, [], ◌∷◌, length, Option, Some, None, Bool, true, false, inl, inr, cond, refl, sym, ap, subst, ◌∙◌, arith, IsSome, eq-eqb}
+use Rattle.std.proofs.Common.{ℕ, zero, suc, ◌+◌, ◌-◌, ◌/◌, ◌%◌, ◌≡◌, ◌<◌, ◌≤◌, ◌⊎◌, List, [], ◌∷◌, length, Option, Some, None, true, false, inl, inr, cond, refl, sym, ap, subst, ◌∙◌, arith, IsSome, eq-eqb}
 use Rattle.std.specs.Prelude.{◌&&◌, ◌||◌}
 use Rattle.std.specs.Option.{option_map}
 use Rattle.std.specs.List.{slice_get}
@@ -179,14 +179,6 @@ module _ (S : Schema) (M : Catalog) (homes : Parts) (kept : IsKept S M homes) wh
         by t x found (inr other) = kept.each t x (sym (others M s object t other) ∙ found)
 
 -- ---- the keys of an object
-
-and_left : (a b : Bool) → (a && b) ≡ true → a ≡ true
-and_left true b e = refl
-and_left false b e = e
-
-and_right : (a b : Bool) → (a && b) ≡ true → b ≡ true
-and_right true b e = e
-and_right false b e = cc
 
 pair_same : (pair : KeyNo × List ℕ) → is_pair pair pair.0.0 pair.1 ≡ true
 pair_same pair = ap (λ b. b && bytes_eq pair.1 pair.1) (eq-eqb pair.0.0 pair.0.0 refl) ∙ (bytes_eq-Decides pair.1 pair.1).1 refl

@@ -58,11 +58,6 @@ pub reference_ends : (pid : Option Pid) (at first result : ℕ) → first ≡ pl
 reference_ends None at first result is done = behind_number 4 0 at first result (λ k. padding 8 k ++ big_bytes 8 0) is (done ∙ ap (place_behind first) (sym (number_length 8 0 first)))
 reference_ends (Some pid) at first result is done = behind_number 4 pid.home at first result (λ k. padding 8 k ++ big_bytes 8 pid.serial) is (done ∙ ap (place_behind first) (sym (number_length 8 pid.serial first)))
 
-pub text_ends : (text : List ℕ) (at first result : ℕ) → first ≡ place_behind at (gap 4 at + 4) → result ≡ place_behind first (length text + 1) → result ≡ place_behind at (length ((padding 4 at ++ big_bytes 4 (length text + 1)) ++ (text ++ 0 ∷ [])))
-text_ends text at first result is done =
-    let size : length (text ++ 0 ∷ []) ≡ length text + 1 = length-append text (0 ∷ []) in
-    behind_number 4 (length text + 1) at first result (λ k. text ++ 0 ∷ []) is (done ∙ ap (place_behind first) (sym size))
-
 -- ---- loops
 
 -- a text, and then a text that begins where it ends

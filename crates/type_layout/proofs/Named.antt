@@ -44,18 +44,6 @@ module _ {Z : Type 0} (old new : BTreeMap (Vec ℕ Z) ℕ) (name : List ℕ) (pl
       (λ k at. is_eq-slice_cmp q k.items ∙ ap (bytes_eq q) (sym (same_order name k.items at)) ∙ apart) ∙ or_none (place_in old q))
       refl
 
-  some_or : (o : Option ℕ) (b : Bool) (n : ℕ) → o ≡ Some n → o ≡ option_or o (cond b (Some place) None)
-  some_or None b n e = absurd (cc)
-  some_or (Some m) b n e = refl
-
-  -- one that has a place keeps it
-  pub stays : (n : ℕ) → place_in old name ≡ Some n → IsEntered old old name place
-  stays n there q =
-      by_test (λ b. bytes_eq q name ≡ b → place_in old q ≡ option_or (place_in old q) (cond b (Some place) None)) (bytes_eq q name)
-      (λ e same. some_or (place_in old q) true n (ap (λ (l : List ℕ). place_in old l) (same_bytes q name same) ∙ there))
-      (λ e apart. or_none (place_in old q))
-      refl
-
 -- ---- one name more
 
 at_head : {X : Type 0} (test : X → Bool) (i n : ℕ) (ys : List X) (x : X) (b : Bool) → position_from test (i + 1) (ys ++ x ∷ []) ≡ option_or (position_from test (i + 1) ys) (cond (test x) (Some n) None)

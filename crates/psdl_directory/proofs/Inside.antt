@@ -1,5 +1,5 @@
 -- What stands inside modules.
-use Rattle.std.proofs.Common.{◌≡◌, ℕ, zero, suc, ◌+◌, ◌<◌, ◌≤◌, List, [], ◌∷◌, length, get_or, drop, Bool, true, false, cond, Option, Some, None, refl, sym, ap, ◌∙◌, arith, add-one, drop-cons}
+use Rattle.std.proofs.Common.{◌≡◌, ℕ, zero, suc, ◌+◌, ◌<◌, ◌≤◌, List, [], ◌∷◌, length, get_or, drop, Bool, true, cond, Option, Some, None, refl, sym, ap, ◌∙◌, arith, add-one, drop-cons}
 use Rattle.psdl_tree.specs.declared.names.NamePart.{NamePart}
 use Rattle.type_layout.specs.Schemas.{given}
 use Rattle.psdl_directory.specs.Declarations.{Path, Declaration}
@@ -11,9 +11,6 @@ pub inside_found : (spelled : List ℕ → List ℕ) (all : List Declaration) (l
     → first_inside spelled all limit number name ≡ first_of spelled all limit p name
 inside_found spelled all limit number name p m e =
     ap (λ (b : Bool). cond b (first_of spelled all limit ((at all number).name ∷ (at all number).path) name) None) m ∙ ap (λ (q : Path). first_of spelled all limit q name) (sym e)
-
-pub no_module : (spelled : List ℕ → List ℕ) (all : List Declaration) (limit number : ℕ) (name : List ℕ) → is_module (at all number).what ≡ false → first_inside spelled all limit number name ≡ None
-no_module spelled all limit number name m = ap (λ (b : Bool). cond b (first_of spelled all limit ((at all number).name ∷ (at all number).path) name) None) m
 
 -- ---- from part to part
 

@@ -1,6 +1,5 @@
 -- Faults that are noted.
 use Rattle.std.proofs.Common.{◌≡◌, ℕ, List, [], ◌∷◌, ◌++◌, Bool, true, false, cond, Option, Some, None, Ordering, Less, Equal, Greater, refl, sym, ap, ◌∙◌, arith, nat_lt, ◌==◌, ◌&&◌, ◌||◌}
-use Rattle.std.proofs.lemmas.Grind.{common_steps}
 use Rattle.std.specs.Ordering.{is_lt, ordering_reverse}
 use Rattle.std.specs.Cmp.{IsTotalOrder}
 use Rattle.pss_base.specs.declared.place.Place.{Place}
@@ -99,6 +98,3 @@ pub late : (first : Option CheckFault) (kind : CheckKind) (place : Place) (holds
 late first kind place false no_first = refl
 late None kind place true no_first = absurd (cc)
 late (Some first) kind place true no_first = rw no_first refl
-
--- for the loops that note the faults of each part
-pub ruleset by_parts = (common_steps, noting-append)

@@ -32,9 +32,6 @@ abbrev pub AreClosed : List Path → Type 0
 AreClosed paths = (n : ℕ) (name : List ℕ) (p : Path) → n < length paths → path_at paths n ≡ name ∷ p → (m : ℕ) × (m < length paths) × (path_at paths m ≡ p)
 
 module _ (paths : List Path) (p : Path) where
-  more : List Path
-  more = paths ++ p ∷ []
-
   pub length-more : length (paths ++ p ∷ []) ≡ length paths + 1
   length-more = length-append paths (p ∷ [])
 

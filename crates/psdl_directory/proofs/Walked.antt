@@ -7,15 +7,11 @@ use Rattle.psdl_tree.specs.declared.definitions.Definition.{Definition as Defini
 use Rattle.psdl_tree.specs.declared.definitions.Module.{Module as ModuleNode}
 use Rattle.psdl_tree.specs.declared.definitions.Definition.TheViews.{out-Module}
 use Rattle.psdl_tree.specs.declared.definitions.Definition.TheFolds.{fold_out-Module}
-use Rattle.psdl_tree.specs.declared.types.Declarator.{Declarator as DeclaratorNode}
-use Rattle.psdl_tree.specs.Trees.{Definition, ModuleDefinition, TypeSpec}
-use Rattle.psdl_tree.specs.Views.{definition_view, module_view, definitions_of, definition_step, module_step, declarator_view}
+use Rattle.psdl_tree.specs.Trees.{Definition, ModuleDefinition}
+use Rattle.psdl_tree.specs.Views.{definition_view, module_view, definitions_of, definition_step, module_step}
 use Rattle.psdl_directory.specs.declared.declaration.Declaration.{Declaration as DeclarationNode}
-use Rattle.psdl_directory.specs.Declarations.{Path, Declaration, declared_by, declarations, aliases}
-use Rattle.psdl_directory.specs.declared.declaration.What.{What as WhatNode}
-use Rattle.psdl_directory.specs.declared.declaration.What.TheVariants as nodes
-use Rattle.psdl_directory.specs.Parts.{is_module}
-use Rattle.psdl_directory.specs.inner.Nodes.{what_view, declaration_view}
+use Rattle.psdl_directory.specs.Declarations.{Path, Declaration, declared_by, declarations}
+use Rattle.psdl_directory.specs.inner.Nodes.{declaration_view}
 use Rattle.psdl_directory.specs.inner.Placed.{IsPlaced, ArePlaced}
 use Rattle.psdl_directory.specs.inner.Scopes.{Grows}
 
@@ -40,15 +36,6 @@ definition_more path ds i d so_far now total lt at h e =
     let here : declarations path (definitions_of (map definition_view (drop i ds))) ≡ declared_by path (definition_view d) ++ rest = rw cut refl in
     ap (λ (l : List Declaration). l ++ rest) e ∙ append_assoc so_far (declared_by path (definition_view d)) rest ∙ ap (λ (l : List Declaration). so_far ++ l) (sym here) ∙ h
 
-pub alias_more : (path : Path) (spec : TypeSpec) (ds : List DeclaratorNode) (i : ℕ) (d : DeclaratorNode) (so_far now total : List Declaration) → i < length ds → d ≡ get_or ds i d
-    → so_far ++ aliases path spec (i + 1) (map declarator_view (drop i ds)) ≡ total → now ≡ so_far ++ aliases path spec (i + 1) (declarator_view d ∷ [])
-    → now ++ aliases path spec (i + 1 + 1) (map declarator_view (drop (i + 1) ds)) ≡ total
-alias_more path spec ds i d so_far now total lt at h e =
-    let rest : List Declaration = aliases path spec (i + 1 + 1) (map declarator_view (drop (i + 1) ds)) in
-    let cut : drop i ds ≡ d ∷ drop (i + 1) ds = rw (add-one, drop-cons ds i d) (ap (λ (x : DeclaratorNode). x ∷ drop (suc i) ds) (sym at)) in
-    let here : aliases path spec (i + 1) (map declarator_view (drop i ds)) ≡ aliases path spec (i + 1) (declarator_view d ∷ []) ++ rest = rw cut refl in
-    ap (λ (l : List Declaration). l ++ rest) e ∙ append_assoc so_far (aliases path spec (i + 1) (declarator_view d ∷ [])) rest ∙ ap (λ (l : List Declaration). so_far ++ l) (sym here) ∙ h
-
 pub placed_kept : (old new : List Path) (d : DeclarationNode) → IsPlaced old d → Grows old new → IsPlaced new d
 placed_kept old new d placed grows = record {
   within = (grows d.scope placed.within).0;
@@ -63,12 +50,6 @@ one_more paths ds x placed here i d lt = ⊎_elim
     (λ e. subst (λ (k : ℕ). IsPlaced paths (get_or (ds ++ x ∷ []) k d)) (sym e) (subst (λ (y : DeclarationNode). IsPlaced paths y) (sym (get_or-append_seam ds x [] d)) here))
     (λ ne. let l : i < length ds = omega (arith, ne, lt, length-append ds (x ∷ [])) in subst (λ (y : DeclarationNode). IsPlaced paths y) (sym (get_or-append ds (x ∷ []) d i l)) (placed i d l))
     (cases_eq i (length ds))
-
--- what is no module has no scope inside
-pub no_inside : (what : WhatNode) (P : Type 0) (n : ℕ) → is_module (what_view what) ≡ false → what ≡ nodes.Module n → P
-no_inside what P n plain is =
-    let both : true ≡ false = sym (ap (λ (w : WhatNode). is_module (what_view w)) is) ∙ plain in
-    absurd (cc)
 
 -- whatever a push answers
 pub placed_after : (paths : List Path) (old new : List DeclarationNode) (x : DeclarationNode) (b : Bool) → new ≡ (if b then old ++ x ∷ [] else old) → ArePlaced paths old → IsPlaced paths x → ArePlaced paths new

@@ -39,21 +39,3 @@ first_passes t xs n d lt is =
     let through : list_any t (take (n + 1) xs) ≡ true = front_of_first t xs (n + 1) ∙ ap (λ (o : Option ℕ). given o false (λ j. nat_lt j (n + 1))) is ∙ lower_than n (n + 1) (omega arith) in
     let more : list_any t (take (n + 1) xs) ≡ (list_any t (take n xs) || t (get_or xs n d)) = list_any_more t xs n d lt in
     sym (rw before at more) ∙ through
-
--- where none passes one test, none passes a stronger one
-pub none_stronger : {X : Type 0} (t u : X → Bool) (xs : List X) → ((x : X) → t x ≡ false → u x ≡ false) → list_any t xs ≡ false → list_any u xs ≡ false
-none_stronger t u [] f e = refl
-none_stronger t u (x ∷ xs) f e = by (t x) refl e (λ r. none_stronger t u xs f r)
-  where
-    by : (b : Bool) → t x ≡ b → (b || list_any t xs) ≡ false → (list_any t xs ≡ false → list_any u xs ≡ false) → (u x || list_any u xs) ≡ false
-    by true h e rest = absurd (cc)
-    by false h e rest = rw (f x h) (rest e)
-
--- where none passes one test, two others that agree then are passed alike
-pub alike_where_none : {X : Type 0} (t u v : X → Bool) (xs : List X) → ((x : X) → t x ≡ false → u x ≡ v x) → list_any t xs ≡ false → list_any u xs ≡ list_any v xs
-alike_where_none t u v [] f e = refl
-alike_where_none t u v (x ∷ xs) f e = by (t x) refl e (λ r. alike_where_none t u v xs f r)
-  where
-    by : (b : Bool) → t x ≡ b → (b || list_any t xs) ≡ false → (list_any t xs ≡ false → list_any u xs ≡ list_any v xs) → (u x || list_any u xs) ≡ (v x || list_any v xs)
-    by true h e rest = absurd (cc)
-    by false h e rest = rw (f x h) (ap (λ (r : Bool). v x || r) (rest e))

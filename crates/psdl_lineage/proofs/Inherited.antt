@@ -3,9 +3,9 @@ use Rattle.std.proofs.Common.{◌≡◌, ℕ, ◌<◌, List, [], ◌∷◌, ◌+
 use Rattle.std.specs.List.{flat_map, find, range_with_len}
 use Rattle.std.proofs.lemmas.Bool.{cases_Bool}
 use Rattle.psdl_directory.specs.Declarations.{Declaration}
-use Rattle.psdl_directory.specs.Parts.{is_concrete_home, states}
+use Rattle.psdl_directory.specs.Parts.{is_concrete_home}
 use Rattle.psdl_directory.specs.Lookup.{at}
-use Rattle.psdl_lineage.specs.Descent.{has, ancestry, members_in, members, concrete_homes, provider}
+use Rattle.psdl_lineage.specs.Descent.{has, ancestry, concrete_homes, provider}
 use Rattle.psdl_lineage.specs.Graph.{ancestry_in, first_descendant, graph_of}
 use Rattle.psdl_lineage.specs.Sources.{is_own, sources_in}
 use Rattle.psdl_lineage.proofs.Texts.{ancestry_is}
@@ -40,8 +40,3 @@ only_owners g own h (x ∷ xs) =
 pub inherited : {A : Type 0} (g : ℕ → List A) (all : List Declaration) (own : List Bool) (n : ℕ) → ((m : ℕ) → is_own own m ≡ false → g m ≡ [])
     → flat_map g (ancestry all n) ≡ flat_map g (sources_in (graph_of all) own n)
 inherited g all own n h = ap (λ l. flat_map g l) (ancestry_is all n) ∙ only_owners g own h (ancestry_in (graph_of all) n)
-
-pub members_are : (all : List Declaration) (own : List Bool) (n : ℕ) → ((m : ℕ) → is_own own m ≡ false → states (at all m).what ≡ [])
-    → members all n ≡ flat_map (λ a. flat_map (members_in a) (states (at all a).what)) (sources_in (graph_of all) own n)
-members_are all own n h =
-    inherited (λ a. flat_map (members_in a) (states (at all a).what)) all own n (λ m none. ap (λ l. flat_map (members_in m) l) (h m none))

@@ -266,10 +266,6 @@ short_is {Z} found (Some k) kept e h =
     let same : kept ≡ k = cc in
     h ∙ ap (λ (v : Vec ℕ Z). Some v) (sym same)
 
-pub length-lists_of : {A : Type 0} (kept : List (Option (Vec ℕ A))) → length (lists_of kept) ≡ length kept
-length-lists_of [] = refl
-length-lists_of (o ∷ kept) = omega (arith, length-lists_of kept)
-
 -- ---- none is kept yet
 
 none_too : (lists : List (Option (List ℕ))) → ((n : ℕ) → list_at lists n ≡ None) → (n : ℕ) → list_at (lists ++ None ∷ []) n ≡ None

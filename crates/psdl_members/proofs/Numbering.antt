@@ -1,9 +1,8 @@
 -- Names by number are names.
 use Rattle.std.proofs.Common.{◌≡◌, ℕ, ◌+◌, ◌<◌, ◌≤◌, List, [], ◌∷◌, ◌++◌, Bool, false, not, ◌==◌, ◌&&◌, ◌||◌, nat_lt, length, map, take, get_or, Option, Some, refl, sym, ap, ◌∙◌, arith, ⊎_elim}
-use Rattle.std.specs.List.{list_any, flat_map, range_with_len}
+use Rattle.std.specs.List.{list_any, flat_map}
 use Rattle.std.proofs.lemmas.Bool.{eqb-true, cases_Bool, ltb-true, ltb-false}
 use Rattle.std.proofs.lemmas.List.{map-append, get_or_past}
-use Rattle.std.proofs.lemmas.List.FromFn.{get_or-map-range_with_len}
 use Rattle.type_layout.specs.Sound.{are_distinct}
 use Rattle.psdl_directory.specs.declared.spellings.Spellings.{Spellings}
 use Rattle.psdl_directory.specs.Declarations.{Declaration}
@@ -106,21 +105,6 @@ clash_by all s numbers starts graph own n sources are g owns e =
     ∙ ap (λ l. are_distinct members_clash l) (members_by all graph own n sources g owns e))
 
 -- ---- what is kept of a text
-
--- those that have no numbers have no members
-pub are_owners : (all : List Declaration) (s : Spellings) (numbers starts : List ℕ) (own : List Bool) → AreNumbered all s numbers starts
-    → own ≡ map (λ n. nat_lt 0 (length (piece_of starts n numbers))) (range_with_len 0 (length all)) → AreOwners all own
-are_owners all s numbers starts own are e n off =
-    ⊎_elim
-    (λ t.
-    let lt : n < length all = ltb-true n (length all) t in
-    let flag : is_own own n ≡ nat_lt 0 (length (piece_of starts n numbers)) =
-    ap (λ l. get_or l n false) e ∙ get_or-map-range_with_len (λ m. nat_lt 0 (length (piece_of starts m numbers))) 0 (length all) n n false lt (omega arith) in
-    let same : length (piece_of starts n numbers) ≡ length (own_members all n) =
-    length-map_is (λ (k : ℕ). Some k) (small_number s) (piece_of starts n numbers) (own_members all n) (own_numbers all s numbers starts n are) in
-    omega (arith, same, ltb-false 0 (length (piece_of starts n numbers)) (sym flag ∙ off)))
-    (λ f. ap (λ l. length l) (own_past all n (ltb-false n (length all) f)))
-    (cases_Bool (nat_lt n (length all)))
 
 within_all : (s : Spellings) (limit : ℕ) → ((name : List ℕ) (n : ℕ) → number_of s name ≡ Some n → n < limit) → (ks : List ℕ) (ms : List StateMember) → map (λ j. Some j) ks ≡ map (small_number s) ms → Within limit ks
 within_all s limit below [] ms e n h = absurd (cc)

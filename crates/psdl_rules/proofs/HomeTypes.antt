@@ -1,5 +1,5 @@
 -- What is wrong in the lists of a home, by its type.
-use Rattle.std.proofs.Common.{◌≡◌, ℕ, List, [], ◌++◌, Option, Some, None, ap}
+use Rattle.std.proofs.Common.{◌≡◌, ℕ, List, [], ◌++◌, Option, Some, ap}
 use Rattle.std.specs.List.{flat_map}
 use Rattle.type_layout.specs.Schemas.{given}
 use Rattle.psdl_directory.specs.declared.fault.CheckFault.{CheckFault}
@@ -23,6 +23,3 @@ module _ (all : List Declaration) (done : List Standing) (n : ℕ) where
 
   pub of_type : (t : ℕ) → Some t ≡ type_of_home all n → listed_faults all done (members all t) (keys (at all n).what) (factories (at all n).what) ≡ faults.listed_wrong all done n (at all n)
   of_type t e = ap by_type e
-
-  pub of_none : None ≡ type_of_home all n → [] ≡ faults.listed_wrong all done n (at all n)
-  of_none e = ap by_type e

@@ -23,24 +23,8 @@ member f t = record { family = f; home_type = t }
 
 -- ---- one home's membership
 
-pub is_member : (all : List Declaration) (n f t : ℕ) → f ≡ family all n → is_concrete_home (at all n).what ≡ true → type_of_home all n ≡ Some t → Some (member f t) ≡ membership all n
-is_member all n f t e home type =
-    ap (λ (k : ℕ). Some (member k t)) e
-    ∙ sym (ap (λ b. cond b (option_map (member (family all n)) (type_of_home all n)) None) home ∙ ap (λ (o : Option ℕ). option_map (member (family all n)) o) type)
-
-same_both : {X : Type 0} (b : Bool) (x : X) → cond b x x ≡ x
-same_both true x = refl
-same_both false x = refl
-
 some_same : {X : Type 0} (a b : X) → Some a ≡ Some b → a ≡ b
 some_same a b e = cc
-
-pub no_type : (all : List Declaration) (n : ℕ) → type_of_home all n ≡ None → None ≡ membership all n
-no_type all n type =
-    sym (ap (λ (o : Option ℕ). cond (is_concrete_home (at all n).what) (option_map (member (family all n)) o) None) type ∙ same_both (is_concrete_home (at all n).what) None)
-
-pub no_home : (all : List Declaration) (n : ℕ) → is_concrete_home (at all n).what ≡ false → None ≡ membership all n
-no_home all n home = sym (ap (λ b. cond b (option_map (member (family all n)) (type_of_home all n)) None) home)
 
 -- ---- the table of those that were met
 

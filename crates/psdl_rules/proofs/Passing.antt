@@ -1,6 +1,6 @@
 -- Conditions that are noted declaration by declaration.
-use Rattle.std.proofs.Common.{◌≡◌, ℕ, ◌+◌, ◌<◌, ◌≤◌, List, [], ◌∷◌, ◌++◌, length, take, Option, sym, ap, ◌∙◌, arith, append_assoc}
-use Rattle.std.proofs.lemmas.List.{length-take-le, take_more, take_all, append-nil}
+use Rattle.std.proofs.Common.{◌≡◌, ℕ, ◌+◌, ◌<◌, List, [], ◌∷◌, ◌++◌, length, take, Option, sym, ap, ◌∙◌, arith, append_assoc}
+use Rattle.std.proofs.lemmas.List.{length-take-le, take_more, append-nil}
 use Rattle.psdl_directory.specs.declared.fault.CheckFault.{CheckFault}
 use Rattle.psdl_directory.specs.Declarations.{Declaration}
 use Rattle.psdl_directory.specs.Fault.{each, each_from}
@@ -24,7 +24,3 @@ more condition all i first now new lt so_far is =
     ∙ sym (noting-append first front (condition i (at all i)))
     ∙ ap (λ (l : List CheckFault). noting first l) (sym (each_one_more condition 0 (take i all) (at all i) i (omega (arith, length-take-le i all (omega (arith, lt))))))
     ∙ ap (λ (ds : List Declaration). noting first (each condition ds)) (sym (take_more all i nothing lt))
-
-pub all_passed : (condition : ℕ → Declaration → List CheckFault) (all : List Declaration) (i : ℕ) (first least : Option CheckFault) → length all ≤ i
-    → IsPassed condition all i first least → least ≡ noting first (each condition all)
-all_passed condition all i first least le so_far = so_far ∙ ap (λ (ds : List Declaration). noting first (each condition ds)) (take_all i all le)

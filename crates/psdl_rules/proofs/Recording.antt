@@ -1,9 +1,8 @@
 -- The octets of the default records of members.
-use Rattle.std.proofs.Common.{◌≡◌, ℕ, suc, ◌+◌, ◌-◌, ◌%◌, ◌<◌, ◌≤◌, List, [], ◌∷◌, ◌++◌, Bool, ◌&&◌, ◌||◌, length, get_or, drop, map, true, false, nat_lt, Option, Some, None, refl, sym, ap, ◌∙◌, arith, inl, inr, add-one, drop-cons}
+use Rattle.std.proofs.Common.{◌≡◌, ℕ, suc, ◌+◌, ◌-◌, ◌%◌, List, [], ◌∷◌, ◌++◌, Bool, ◌&&◌, ◌||◌, length, map, true, false, nat_lt, Option, Some, None, refl, sym, ap, ◌∙◌, arith, inl, inr}
 use mathlib.Core.Path.{fun_ext}
 use Rattle.std.specs.Prelude.{option_map, replicate}
 use Rattle.std.proofs.lemmas.Bool.{cases_lt, lt-ltb}
-use Rattle.std.proofs.lemmas.List.{drop_all}
 use Rattle.type_layout.specs.Schemas.{given}
 use Rattle.type_layout.specs.Types.{PlainType, Octet, PlainMember, values_of, value_and, PlainValues}
 use Rattle.type_layout.specs.Defaults.{default, default_record, defaults}
@@ -14,7 +13,6 @@ use Rattle.psdl_lineage.specs.Descent.{StateMember, members}
 use Rattle.psdl_standings.specs.declared.state_entry.StateEntry.{StateEntry}
 use Rattle.psdl_standings.specs.Extents.{Extent, cut, followed, extent}
 use Rattle.psdl_standings.specs.Standings.{standings, all_there}
-use Rattle.psdl_standings.specs.States.{type_kept}
 use Rattle.psdl_rules.specs.Layouts.{layout_member, member_type}
 use Rattle.psdl_rules.specs.Faults.Limit.{most_members, has_long_default}
 use Rattle.psdl_rules.specs.inner.Typed.{AreTypes, default_types, defaults_extent, are_long}
@@ -92,27 +90,6 @@ pub long_is : (all : List Declaration) (types : List PlainType) (n : ℕ) (concr
 long_is all types n concrete kept are =
     ap (λ (k : ℕ). nat_lt 255 k || (concrete && are_long (default_types types kept))) (as_many all types (members all n) kept are)
     ∙ ap (λ (b : Bool). nat_lt 255 (length (members all n)) || (concrete && b)) (ap are_long (are (λ _. [])) ∙ long_by all n)
-
--- ---- entry by entry
-
-module _ (types : List PlainType) (kept : List StateEntry) (i : ℕ) (x : StateEntry) (front : Extent) (total : Option Extent) (lt : i < length kept) (at : x ≡ get_or kept i x)
-    (so_far : defaults_extent (default_types types (drop i kept)) front ≡ total) where
-  abbrev behind : Option Extent → Option Extent
-  behind o = given o None (λ f. defaults_extent (default_types types (drop (i + 1) kept)) (followed front f))
-
-  cut_here : behind (option_map extent (type_kept types (λ _. []) x)) ≡ total
-  cut_here =
-      let here : drop i kept ≡ x ∷ drop (i + 1) kept = rw (add-one, drop-cons kept i x) (ap (λ (y : StateEntry). y ∷ drop (suc i) kept) (sym at)) in
-      sym (ap (λ (l : List StateEntry). defaults_extent (default_types types l) front) here) ∙ so_far
-
-  pub one_behind_more : (f : Extent) → Some f ≡ option_map extent (type_kept types (λ _. []) x) → defaults_extent (default_types types (drop (i + 1) kept)) (followed front f) ≡ total
-  one_behind_more f is = ap behind is ∙ cut_here
-
-  pub none_there : None ≡ option_map extent (type_kept types (λ _. []) x) → None ≡ total
-  none_there is = ap behind is ∙ cut_here
-
-pub all_behind : (types : List PlainType) (kept : List StateEntry) (i : ℕ) (front : Extent) (total : Option Extent) → length kept ≤ i → defaults_extent (default_types types (drop i kept)) front ≡ total → Some front ≡ total
-all_behind types kept i front total le so_far = sym (ap (λ (l : List StateEntry). defaults_extent (default_types types l) front) (drop_all i kept le)) ∙ so_far
 
 -- ---- where it is a type that is known whole
 

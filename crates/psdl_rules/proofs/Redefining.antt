@@ -178,9 +178,6 @@ first_is_free all n h =
 
 -- ---- what is kept
 
-itself : (all : List Declaration) (n : ℕ) → alike (at all n) (at all n) ≡ true
-itself all n = from (at all n) (at all n) refl refl
-
 kept : (o : Option ℕ) (n : ℕ) → after o false n ≡ o
 kept None n = refl
 kept (Some i) n = refl

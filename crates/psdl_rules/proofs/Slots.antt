@@ -28,28 +28,6 @@ none_under : (test : ℕ → Bool) (k a i n : ℕ) → n < a → place n i (filt
 none_under test zero a i n lt = refl
 none_under test (suc k) a i n lt = lower_step (filter test (range_with_len (a + 1) k)) a i n lt (λ j. none_under test k (a + 1) j n (omega (arith, lt))) (test a)
 
--- ---- one that passes stands behind those in front of it
-
-here : (rest : List ℕ) (a i : ℕ) → ((j : ℕ) → place a j rest ≡ None) → (b : Bool) → place a i (cond b (a ∷ rest) rest) ≡ cond b (Some (i + 0)) None
-here rest a i none true = let e : i ≡ i + 0 = omega arith in ap (λ v. cond v (Some i) (place a (i + 1) rest)) (eq-eqb a a refl) ∙ ap (λ m. Some m) e
-here rest a i none false = none i
-
-further : (rest front : List ℕ) (a i n : ℕ) (passes : Bool) → a < n → ((j : ℕ) → place n j rest ≡ cond passes (Some (j + length front)) None)
-    → (b : Bool) → place n i (cond b (a ∷ rest) rest) ≡ cond passes (Some (i + length (cond b (a ∷ front) front))) None
-further rest front a i n passes lt so_far true =
-    let e : i + 1 + length front ≡ i + length (a ∷ front) = omega arith in
-    ap (λ v. cond v (Some i) (place n (i + 1) rest)) (differ a n lt) ∙ so_far (i + 1) ∙ ap (λ m. cond passes (Some m) None) e
-further rest front a i n passes lt so_far false = so_far i
-
-pub place_is : (test : ℕ → Bool) (k a d i n : ℕ) → n ≡ a + d → d < k → place n i (filter test (range_with_len a k)) ≡ cond (test n) (Some (i + length (filter test (range_with_len a d)))) None
-place_is test zero a d i n e lt = absurd (omega (arith, lt))
-place_is test (suc k) a zero i n e lt =
-    let same : n ≡ a = omega (arith, e) in
-    rw same (here (filter test (range_with_len (a + 1) k)) a i (λ j. none_under test k (a + 1) j a (omega arith)) (test a))
-place_is test (suc k) a (suc d) i n e lt =
-    further (filter test (range_with_len (a + 1) k)) (filter test (range_with_len (a + 1) d)) a i n (test n) (omega (arith, e))
-    (λ j. place_is test k (a + 1) d j n (omega (arith, e)) (omega (arith, lt))) (test a)
-
 -- ---- what stands at a place
 
 abbrev is_place : ℕ → Option ℕ → Bool

@@ -5,11 +5,11 @@ use Rattle.std.specs.Fmt.{decimal}
 use Rattle.type_layout.specs.declared.home.HomeNo.{HomeNo}
 use Rattle.type_layout.specs.declared.key.Key.{Key}
 use Rattle.type_layout.specs.declared.schema.Home.{Home}
-use Rattle.type_layout.specs.Types.{RefTo, PlainMember}
-use Rattle.type_layout.specs.ShapeText.{listed, type_text, base_number, home_line, member_line, key_text}
+use Rattle.type_layout.specs.Types.{RefTo}
+use Rattle.type_layout.specs.ShapeText.{listed, type_text, base_number, home_line, key_text}
 use Rattle.psdl_standings.specs.TextLengths.{cut, text_length}
-use Rattle.psdl_check.specs.inner.LineLengths.{line_length, numbers_length, ended_length, length_of_reference, length_of_member, length_of_home, length_of_key}
-use Rattle.psdl_standings.proofs.Lettering.{cut_sum, separated, listed_length, three, five, seven}
+use Rattle.psdl_check.specs.inner.LineLengths.{line_length, numbers_length, ended_length, length_of_reference, length_of_home, length_of_key}
+use Rattle.psdl_standings.proofs.Lettering.{cut_sum, separated, listed_length, three, seven}
 
 -- ---- numbers
 
@@ -41,13 +41,6 @@ homes_length [] empty is filled = cc
 homes_length (h ∷ hs) empty is filled = reference_length (h ∷ hs)
 
 -- ---- lines
-
-pub member_length : (m : PlainMember) → length_of_member m.name (text_length m.type) ≡ line_length (member_line m)
-member_length m =
-    let text : List ℕ = type_text m.type in
-    let parts : length (member_line m) ≡ 7 + (length m.name + (1 + (length text + 1))) = five (codes "member ") m.name (codes " ") text (10 ∷ []) in
-    let whole : length (member_line m) ≡ length text + (9 + length m.name) = parts ∙ omega arith in
-    cut_sum (length text) (9 + length m.name) ∙ ap cut (sym whole)
 
 pub home_length : (number : ℕ) (home : Home) → length_of_home number (base_number home.base) home.name ≡ line_length (home_line number home)
 home_length number home =

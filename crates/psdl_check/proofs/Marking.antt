@@ -1,12 +1,11 @@
 -- Marks of what members refer to.
-use Rattle.std.proofs.Common.{◌≡◌, ℕ, zero, suc, ◌+◌, ◌<◌, ◌≤◌, List, [], ◌∷◌, ◌++◌, ◌==◌, ◌||◌, Bool, true, false, length, get_or, take, if◌then◌else◌, refl, sym, ap, ◌∙◌, subst, Option, IsTrue, arith, ltb-true, get_or-set_same, get_or-set_other}
-use Rattle.std.proofs.Math.ListN.{set, replicate}
+use Rattle.std.proofs.Common.{◌≡◌, ℕ, zero, suc, ◌<◌, List, [], ◌∷◌, ◌++◌, ◌==◌, Bool, true, false, length, get_or, if◌then◌else◌, refl, sym, ap, ◌∙◌, subst, Option, IsTrue, arith, get_or-set_same, get_or-set_other}
+use Rattle.std.proofs.Math.ListN.{set}
 use Rattle.std.proofs.lemmas.Bool.{eqb-true, eq-eqb}
 use Rattle.std.specs.List.{list_all, slice_get}
 use Rattle.std.specs.Option.{IfSome}
-use Rattle.std.proofs.lemmas.List.Folds.{list_any_more, list_all-append}
+use Rattle.std.proofs.lemmas.List.Folds.{list_all-append}
 use Rattle.psdl_check.specs.declared.members.TypedMember.{TypedMember}
-use Rattle.psdl_check.specs.inner.Referring.{is_reference_to, refer_to}
 use Rattle.psdl_check.specs.inner.TypedMembers.{IsTyped, AreTyped, is_there, AreThere}
 use Rattle.psdl_check.specs.declared.members.MemberType.{MemberType}
 use Rattle.psdl_check.specs.declared.members.MemberType.TheVariants as kinds
@@ -18,30 +17,6 @@ set_marked ms i n lt false h = get_or-set_other ms i n true false (λ e. cc (eq-
 
 pub one_marked : (ms : List Bool) (i n : ℕ) → i < length ms → get_or (set ms i true) n false ≡ if i == n then true else get_or ms n false
 one_marked ms i n lt = set_marked ms i n lt (i == n) refl
-
--- a number that is past all marks is none of theirs
-pub none_marked : (ms : List Bool) (i n : ℕ) → length ms ≤ i → n < length ms → get_or ms n false ≡ if i == n then true else get_or ms n false
-none_marked ms i n past lt =
-    let apart : (i == n) ≡ false = grind (arith, past, lt) in
-    rw apart refl
-
-either : (a b : Bool) → (if b then true else a) ≡ (a || b)
-either true true = refl
-either true false = refl
-either false true = refl
-either false false = refl
-
--- one member more
-pub one_member_more : (ms : List TypedMember) (i : ℕ) (m : TypedMember) (n : ℕ) (old new : Bool) → i < length ms → m ≡ get_or ms i m → old ≡ refer_to (take i ms) n
-    → new ≡ (if is_reference_to n m.member_type then true else old) → new ≡ refer_to (take (i + 1) ms) n
-one_member_more ms i m n old new lt is so_far step =
-    let test : TypedMember → Bool = λ x. is_reference_to n x.member_type in
-    step ∙ either old (test m) ∙ ap (λ b. b || test m) so_far ∙ ap (λ x. refer_to (take i ms) n || test x) is ∙ sym (list_any_more test ms i m lt)
-
-pub nothing_marked : (k n : ℕ) → get_or (replicate k false) n false ≡ false
-nothing_marked zero n = refl
-nothing_marked (suc k) zero = refl
-nothing_marked (suc k) (suc n) = nothing_marked k n
 
 -- ---- members with types
 
@@ -59,23 +34,6 @@ are_typed types count [] h = tt
 are_typed types count (m ∷ ms) h =
     let both = and_parts (is_there types count m.member_type) _ h in
     (there_typed types count m.member_type both.0, are_typed types count ms both.1)
-
-refers_below : (types count n : ℕ) (t : MemberType) → is_there types count t ≡ true → is_reference_to n t ≡ true → n < count
-refers_below types count n (kinds.Plain number) h r = absurd (cc)
-refers_below types count n (kinds.Reference definition) h r =
-    let same : definition ≡ n = eqb-true definition n r in
-    omega (arith, ltb-true definition count h, same)
-
--- what a member refers to is declared
-pub reference_below : (types count : ℕ) (ms : List TypedMember) (n : ℕ) → AreThere types count ms → refer_to ms n ≡ true → n < count
-reference_below types count [] n h r = absurd (cc)
-reference_below types count (m ∷ ms) n h r =
-    let both = and_parts (is_there types count m.member_type) _ h in
-    by (is_reference_to n m.member_type) refl r (reference_below types count ms n both.1)
-  where
-    by : (b : Bool) → is_reference_to n m.member_type ≡ b → b || refer_to ms n ≡ true → (refer_to ms n ≡ true → n < count) → n < count
-    by true e r rest = refers_below types count n m.member_type (and_parts (is_there types count m.member_type) _ h).0 e
-    by false e r rest = rest r
 
 -- one member with a type more
 pub there_more : (types count : ℕ) (old new : List TypedMember) (m : TypedMember) → new ≡ old ++ m ∷ [] → AreThere types count old → is_there types count m.member_type ≡ true → AreThere types count new

@@ -1,14 +1,8 @@
 -- The numbers of members by their names.
-use Rattle.std.proofs.Common.{◌≡◌, ℕ, zero, suc, ◌+◌, ◌<◌, List, [], ◌∷◌, ◌++◌, Bool, true, false, cond, length, take, get_or, Some, None, sym, ap, ◌∙◌, arith}
+use Rattle.std.proofs.Common.{◌≡◌, ℕ, zero, suc, ◌+◌, ◌<◌, List, [], ◌∷◌, Bool, true, false, cond, length, take, get_or, Some, None, sym, ap, ◌∙◌, arith}
 use Rattle.std.specs.List.{position_from}
-use Rattle.std.specs.Option.{option_to_list}
 use Rattle.std.specs.Str.{bytes_eq}
-use Rattle.std.proofs.lemmas.Grind.{flat_map-append}
-use Rattle.std.proofs.lemmas.List.{map-append}
 use Rattle.type_layout.specs.NamePlaces.{place_among}
-use Rattle.type_layout.specs.Factories.{numbers_among}
-use Rattle.psdl_tree.specs.declared.names.Identifier.{Identifier}
-use Rattle.psdl_lineage.specs.Descent.{names_of}
 use Rattle.psdl_check.specs.declared.members.TypedMember.{TypedMember}
 use Rattle.psdl_check.specs.inner.TypedMembers.{typed_names}
 
@@ -52,7 +46,3 @@ module _ (name : List ℕ) where
 
   pub none_more : (ms : List TypedMember) (i : ℕ) (m : TypedMember) → i < length ms → m ≡ get_or ms i m → bytes_eq name m.name.now.name ≡ false → place_among (typed_names (take i ms)) name ≡ None → place_among (typed_names (take (i + 1) ms)) name ≡ None
   none_more ms i m lt is off none = none_from ms i 0 m lt is off none
-
-pub two_parts : (members : List (List ℕ)) (first others : List Identifier) → numbers_among members (names_of first) ++ numbers_among members (names_of others) ≡ numbers_among members (names_of (first ++ others))
-two_parts members first others =
-    sym (flat_map-append (λ name. option_to_list (place_among members name)) (names_of first) (names_of others)) ∙ ap (numbers_among members) (sym (map-append (λ (i : Identifier). i.name) first others))

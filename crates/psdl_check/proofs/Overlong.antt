@@ -1,9 +1,9 @@
 -- Up to which home the shape stays within its limit.
-use Rattle.std.proofs.Common.{◌≡◌, ℕ, zero, suc, ◌+◌, ◌<◌, List, [], ◌∷◌, ◌++◌, length, map, take, get_or, Bool, true, false, cond, nat_lt, Some, None, refl, sym, ap, ◌∙◌, add-one, arith, length-append}
+use Rattle.std.proofs.Common.{◌≡◌, ℕ, zero, suc, ◌+◌, ◌<◌, List, [], ◌∷◌, ◌++◌, length, map, take, Bool, true, false, cond, nat_lt, Some, None, refl, sym, ap, ◌∙◌, add-one, arith, length-append}
 use Rattle.std.specs.List.{find, range_with_len, slice_get}
 use Rattle.std.specs.Option.{option_map, option_and_then}
-use Rattle.std.proofs.lemmas.List.{take_all, append-nil, append_assoc, length-map, map-append}
-use Rattle.std.proofs.lemmas.Option.{slice_get-map, slice_get_read}
+use Rattle.std.proofs.lemmas.List.{append-nil, append_assoc, length-map}
+use Rattle.std.proofs.lemmas.Option.{slice_get-map}
 use Rattle.psdl_lineage.proofs.Inherited.{homes_below}
 use Rattle.psdl_lineage.proofs.Named.{has_at}
 use Rattle.type_layout.specs.declared.schema.Home.{Home}
@@ -115,21 +115,6 @@ passed_here all i h is lt none here =
 pub never_passed : (all : List Declaration) (i : ℕ) → i ≡ length (concrete_homes all) → find (passes all) (range_with_len 1 i) ≡ None → option_and_then (nth (concrete_homes all)) (passing (schema all)) ≡ None
 never_passed all i end none =
     ap (option_and_then (nth (concrete_homes all))) (ap (λ (n : ℕ). find (passes all) (range_with_len 1 n)) (count_is all ∙ sym end) ∙ none)
-
-pub all_made : (all : List Declaration) (i : ℕ) (list : List Home) → i ≡ length (concrete_homes all) → list ≡ map (home_of all (standings all)) (take i (concrete_homes all)) → list ≡ (schema all).homes
-all_made all i list end is =
-    is ∙ ap (map (home_of all (standings all))) (take_all i (concrete_homes all) (omega (arith, end))) ∙ sym (homes_are all)
-
--- a home more in the list
-pub made_more : (all : List Declaration) (i h : ℕ) (old new : List Home) → slice_get (concrete_homes all) i ≡ Some h → old ≡ map (home_of all (standings all)) (take i (concrete_homes all))
-    → new ≡ old ++ home_of all (standings all) h ∷ [] → new ≡ map (home_of all (standings all)) (take (i + 1) (concrete_homes all))
-made_more all i h old new is before after =
-    after ∙ ap (λ (l : List Home). l ++ home_of all (standings all) h ∷ []) before
-    ∙ sym (ap (map (home_of all (standings all))) (take_step (concrete_homes all) i h is) ∙ map-append (home_of all (standings all)) (take i (concrete_homes all)) (h ∷ []))
-
--- the home at a place
-pub home_at : (all : List Declaration) (homes : List ℕ) (i h : ℕ) → homes ≡ concrete_homes all → i < length homes → h ≡ get_or homes i h → slice_get (concrete_homes all) i ≡ Some h
-home_at all homes i h same lt read = ap (λ (l : List ℕ). slice_get l i) (sym same) ∙ slice_get_read homes (length homes) i h refl lt read
 
 -- and that it is declared
 pub home_declared : (all : List Declaration) (i h : ℕ) → slice_get (concrete_homes all) i ≡ Some h → h < length all

@@ -125,17 +125,6 @@ in_front_more all i = ap (λ l. length l) (homes_more all i) ∙ length-append (
     by true k = omega arith
     by false k = omega arith
 
-pub in_front_few : (all : List Declaration) (i : ℕ) → homes_in_front all i ≤ i
-in_front_few all i = few (λ n. is_concrete_home (at all n).what) i 0
-  where
-    few_step : (k a : ℕ) (rest : List ℕ) → length rest ≤ k → (b : Bool) → length (cond b (a ∷ rest) rest) ≤ suc k
-    few_step k a rest le true = omega (arith, le)
-    few_step k a rest le false = omega (arith, le)
-
-    few : (test : ℕ → Bool) (k a : ℕ) → length (filter test (range_with_len a k)) ≤ k
-    few test zero a = omega arith
-    few test (suc k) a = few_step k a (filter test (range_with_len (a + 1) k)) (few test k (a + 1)) (test a)
-
 -- no more homes stand in front than there are
 few_in_front : (test : ℕ → Bool) (k i a : ℕ) → i ≤ k → length (filter test (range_with_len a i)) ≤ length (filter test (range_with_len a k))
 few_in_front test k zero a le = omega arith

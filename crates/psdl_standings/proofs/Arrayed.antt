@@ -1,10 +1,10 @@
 -- The dimensions of arrays, one by one.
-use Rattle.std.proofs.Common.{◌≡◌, Box, Global, ℕ, ◌+◌, ◌<◌, ◌≤◌, List, [], ◌∷◌, ◌++◌, length, get_or, map, take, drop, Option, Some, None, refl, sym, ap, ◌∙◌, arith}
+use Rattle.std.proofs.Common.{◌≡◌, Box, Global, ℕ, ◌+◌, ◌<◌, List, [], ◌∷◌, ◌++◌, length, get_or, map, take, drop, Option, Some, None, refl, sym, ap, ◌∙◌}
 use Rattle.psdl_tree.specs.declared.types.TypeSpec.TheOpen as open_spec
 use Rattle.std.specs.Prelude.{IfSome, option_map}
 use Rattle.std.specs.Option.{option_and_then, option_to_list}
 use Rattle.std.proofs.lemmas.Grind.{flat_map-append}
-use Rattle.std.proofs.lemmas.List.{drop_all, drop_more, map-append, take_all}
+use Rattle.std.proofs.lemmas.List.{drop_more, map-append}
 use Rattle.psdl_tree.specs.declared.expressions.Expression.{Expression as ExpressionNode}
 use Rattle.psdl_tree.specs.declared.types.TypeSpec.{TypeSpec as TypeSpecNode}
 use Rattle.psdl_tree.specs.declared.types.TypeSpec.TheVariants as nodes
@@ -21,19 +21,10 @@ use Rattle.psdl_standings.specs.inner.TypeNodes.{Extends}
 use Rattle.psdl_standings.specs.inner.TypeNumbers.{bound_by, sequence_of, array_of, arrays_of}
 use Rattle.psdl_standings.specs.inner.TypeTables.{entry_type}
 use Rattle.psdl_standings.specs.inner.Walked.{names_in, noted_in, AddsType, Adds, Finds}
-use Rattle.psdl_standings.proofs.Goings.{adds_behind, goes_on, goes_nowhere, noted_on, names_same, take_one}
+use Rattle.psdl_standings.proofs.Goings.{adds_behind, goes_on, noted_on, names_same, take_one}
 use Rattle.psdl_standings.proofs.Operands.{append_none}
 
 -- ---- arrays from the last dimension on
-
-pub arrays_begin : (a : Walk) (sizes : List (Option ℕ)) (item : Option ℕ) → IfSome item (λ n. n < length a.types) → AddsType a a (arrays_of (drop (length sizes) sizes) (entry_type a.types item)) item
-arrays_begin a sizes item h =
-    record {
-      goes = goes_nowhere a;
-      same = refl;
-      there = h;
-      is = ap (λ (l : List (Option ℕ)). arrays_of l (entry_type a.types item)) (sym (drop_all (length sizes) sizes (omega arith)));
-    }
 
 pub array_more : (a b d : Walk) (sizes : List (Option ℕ)) (k i : ℕ) (n m item whole after : Option ℕ) → i ≡ k + 1 → k < length sizes → n ≡ get_or sizes k m → AddsType a b (arrays_of (drop i sizes) (entry_type a.types item)) whole
     → AddsType b d (array_of (entry_type b.types whole) n) after → AddsType a d (arrays_of (drop k sizes) (entry_type a.types item)) after
@@ -47,10 +38,6 @@ array_more a b d sizes k i n m item whole after next within at x y =
       there = y.there;
       is = y.is ∙ ap (λ (o : Option PlainType). array_of o n) x.is ∙ ap (λ (l : List (Option ℕ)). arrays_of l t) (sym front);
     }
-
-pub arrays_end : (a b : Walk) (sizes : List (Option ℕ)) (item whole : Option ℕ) → AddsType a b (arrays_of (drop 0 sizes) (entry_type a.types item)) whole → AddsType a b (arrays_of sizes (entry_type a.types item)) whole
-arrays_end a b [] item whole x = x
-arrays_end a b (n ∷ ns) item whole x = x
 
 array_by : (names : Name → Standing) (e : Expression) (es : List Expression) (o : Option PlainType) → array_of (option_and_then (arrays_by names es) o) (size_by names e) ≡ option_and_then (arrays_by names (e ∷ es)) o
 array_by names e es None = refl
@@ -88,9 +75,6 @@ module _ (spot : Spot) (most : ℕ) where
             ∙ sym (map-append (size_by (names_in a spot)) es (e ∷ []));
       }
 
-  pub sizes_begin : (a : Walk) (ds : List ExpressionNode) → SizesTo a a (map expression_view (take 0 ds)) []
-  sizes_begin a ds = record { goes = goes_nowhere a; noted = refl; is = refl }
-
   pub sizes_more : (a b d : Walk) (ds : List ExpressionNode) (i : ℕ) (v : ExpressionNode) (sizes more : List (Option ℕ)) (size : Option ℕ) → i < length ds → v ≡ get_or ds i v → SizesTo a b (map expression_view (take i ds)) sizes
       → Finds b d spot (in_expression spot.limit (expression_view v)) (bounds_of spot.limit most (expression_view v ∷ [])) (size_by (names_in b spot) (expression_view v)) size → more ≡ sizes ++ size ∷ []
       → SizesTo a d (map expression_view (take (i + 1) ds)) more
@@ -98,9 +82,6 @@ module _ (spot : Spot) (most : ℕ) where
       let e : map expression_view (take (i + 1) ds) ≡ map expression_view (take i ds) ++ expression_view v ∷ [] =
       ap (λ (l : List ExpressionNode). map expression_view l) (take_one ds i v lt at) ∙ map-append expression_view (take i ds) (v ∷ []) in
       rw e (one_size a b d (map expression_view (take i ds)) (expression_view v) sizes more size x y pushed)
-
-  pub sizes_end : (a b : Walk) (ds : List ExpressionNode) (i : ℕ) (sizes : List (Option ℕ)) → length ds ≤ i → SizesTo a b (map expression_view (take i ds)) sizes → SizesTo a b (map expression_view ds) sizes
-  sizes_end a b ds i sizes past x = let e : map expression_view (take i ds) ≡ map expression_view ds = ap (λ (l : List ExpressionNode). map expression_view l) (take_all i ds past) in rw e at x
 
 -- ---- the whole
 

@@ -48,7 +48,3 @@ pub notes_of : {M X : Type 0} (f : X → List Use) (g : X → List Bound) (part 
     → Notes a b spot (flat_map f (flat_map part ms)) (flat_map g (flat_map part ms))
 notes_of f g part a b spot ms x =
     notes_at a b spot (flat_map (λ m. flat_map f (part m)) ms) (flat_map f (flat_map part ms)) (flat_map (λ m. flat_map g (part m)) ms) (flat_map g (flat_map part ms)) (flat_flat f part ms) (flat_flat g part ms) x
-
--- nothing behind
-pub notes_alone : (a b : Walk) (spot : Spot) (us : List Use) (bs : List Bound) → Notes a b spot us bs → Notes a b spot (us ++ []) (bs ++ [])
-notes_alone a b spot us bs x = notes_at a b spot us (us ++ []) bs (bs ++ []) (sym (append_none us)) (sym (append_none bs)) x

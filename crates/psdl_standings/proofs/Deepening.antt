@@ -1,20 +1,14 @@
 -- How deep types nest, level by level.
-use Rattle.std.proofs.Common.{◌≡◌, ℕ, suc, ◌+◌, ◌<◌, ◌≤◌, List, [], ◌∷◌, ◌++◌, length, get_or, drop, map, max, Option, Some, None, Box, Global, refl, sym, ap, ◌∙◌, arith, add-one, drop-cons}
-use Rattle.std.proofs.lemmas.List.{drop_all}
+use Rattle.std.proofs.Common.{◌≡◌, ℕ, suc, ◌+◌, List, [], ◌∷◌, ◌++◌, length, max, Option, Some, None, refl, sym, ap, ◌∙◌, arith}
 use Rattle.std.specs.Prelude.{option_map}
 use Rattle.std.specs.List.{flat_map}
-use Rattle.psdl_tree.specs.declared.expressions.Expression.{Expression as ExpressionNode}
-use Rattle.psdl_tree.specs.declared.types.TypeSpec.{TypeSpec as TypeSpecNode}
-use Rattle.psdl_tree.specs.declared.types.TypeSpec.TheVariants as nodes
 use Rattle.psdl_tree.specs.Trees.{Name, TypeSpec, Declarator, Field as FieldTree, Struct as StructTree}
-use Rattle.psdl_tree.specs.Views.{type_spec_view}
 use Rattle.psdl_directory.specs.Declarations.{all_declarators}
 use Rattle.psdl_directory.specs.Parts.{all_fields}
 use Rattle.psdl_standings.specs.Standings.{all_there}
 use Rattle.psdl_standings.specs.Nesting.{spec_nesting, declarator_nesting, field_nestings, deepest, struct_nesting}
 use Rattle.psdl_standings.specs.inner.Measured.{cut}
 use Rattle.psdl_standings.specs.inner.Levels.{raised, deeper, all_deep, dimensioned, field_depth}
-use Rattle.psdl_standings.proofs.Arrayed.{sequence_view}
 
 -- ---- cut sums and maxima
 
@@ -32,13 +26,6 @@ pub next_cut : (o : Option ℕ) → raised (option_map cut o) 1 ≡ option_map c
 next_cut None = refl
 next_cut (Some k) = ap Some (cut_sum k 1 ∙ ap cut (omega arith))
 
--- ---- sequences
-
-pub sequence_depth : (names : Name → Option ℕ) (x inner : TypeSpecNode) (item : Box TypeSpecNode Global) (bound : Option ExpressionNode) (k r : Option ℕ) → x ≡ nodes.Sequence item bound → inner ≡ item.value
-    → k ≡ option_map cut (spec_nesting names (type_spec_view inner)) → r ≡ raised k 1 → r ≡ option_map cut (spec_nesting names (type_spec_view x))
-sequence_depth names x inner item bound k r is is_inner is_k is_r =
-    is_r ∙ rw (is_k, is, is_inner, sequence_view item bound) (next_cut (spec_nesting names (type_spec_view item.value)))
-
 -- ---- the deepest of several
 
 deeper-assoc : (a b c : Option ℕ) → deeper (deeper a b) c ≡ deeper a (deeper b c)
@@ -50,20 +37,6 @@ deeper-assoc (Some a) (Some b) (Some c) = ap Some (omega arith)
 deeper_none : (o : Option ℕ) → deeper o (Some 0) ≡ o
 deeper_none None = refl
 deeper_none (Some a) = ap Some (omega arith)
-
-pub deeper_step : {N X : Type 0} (view : N → X) (f : X → Option ℕ) (xs : List N) (i : ℕ) (node : N) (first r total : Option ℕ) → i < length xs → node ≡ get_or xs i node
-    → deeper first (all_deep f (map view (drop i xs))) ≡ total → r ≡ f (view node) → deeper (deeper first r) (all_deep f (map view (drop (i + 1) xs))) ≡ total
-deeper_step {N} {X} view f xs i node first r total lt at so_far is =
-    let rest : Option ℕ = all_deep f (map view (drop (i + 1) xs)) in
-    let cut_off : drop i xs ≡ node ∷ drop (i + 1) xs = rw (add-one, drop-cons xs i node) (ap (λ (x : N). x ∷ drop (suc i) xs) (sym at)) in
-    let here : all_deep f (map view (drop i xs)) ≡ deeper r rest = rw (cut_off, is) refl in
-    deeper-assoc first r rest ∙ ap (λ (o : Option ℕ). deeper first o) (sym here) ∙ so_far
-
-pub deeper_end : {N X : Type 0} (view : N → X) (f : X → Option ℕ) (xs : List N) (i : ℕ) (first total : Option ℕ) → length xs ≤ i
-    → deeper first (all_deep f (map view (drop i xs))) ≡ total → first ≡ total
-deeper_end {N} view f xs i first total le so_far =
-    let end : drop i xs ≡ [] = drop_all i xs le in
-    sym (deeper_none first) ∙ rw end at so_far
 
 abbrev deepest_of : List (Option ℕ) → Option ℕ
 deepest_of xs = option_map cut (option_map deepest (all_there xs))

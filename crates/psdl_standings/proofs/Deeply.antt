@@ -1,11 +1,11 @@
 -- What declarations spell, declaration by declaration.
-use Rattle.std.proofs.Common.{◌≡◌, ℕ, zero, suc, ◌+◌, ◌-◌, ◌<◌, ◌≤◌, List, [], ◌∷◌, ◌++◌, length, get_or, map, take, Bool, true, false, nat_lt, ltb-true, ltb-false, Option, None, slice_index_or, refl, sym, ap, ◌∙◌, arith}
+use Rattle.std.proofs.Common.{◌≡◌, ℕ, zero, suc, ◌+◌, ◌-◌, ◌<◌, ◌≤◌, List, length, map, Bool, true, false, nat_lt, ltb-true, ltb-false, Option, None, slice_index_or, refl, sym, ap, ◌∙◌, arith}
 use Rattle.std.specs.Prelude.{option_map}
-use Rattle.std.proofs.lemmas.List.{map-append, get_or_past}
-use Rattle.psdl_tree.specs.Trees.{Expression, TypeSpec, Struct as StructTree}
+use Rattle.std.proofs.lemmas.List.{get_or_past}
+use Rattle.psdl_tree.specs.Trees.{Expression, TypeSpec}
 use Rattle.type_layout.specs.Schemas.{given}
 use Rattle.type_layout.specs.Types.{PlainType, Char}
-use Rattle.psdl_directory.specs.Declarations.{Path, What, IsAlias, IsStruct, Declaration}
+use Rattle.psdl_directory.specs.Declarations.{Path, What, IsAlias, Declaration}
 use Rattle.psdl_directory.specs.Lookup.{at}
 use Rattle.psdl_standings.specs.declared.numbered_standing.NumberedStanding.{NumberedStanding}
 use Rattle.psdl_standings.specs.declared.numbered_standing.NumberedStanding.TheVariants as tellings
@@ -18,7 +18,6 @@ use Rattle.psdl_standings.specs.inner.Measured.{cut, IsLevelled}
 use Rattle.psdl_standings.specs.inner.Tellings.{stand, type_told}
 use Rattle.psdl_standings.specs.inner.TypeNodes.{type_at}
 use Rattle.psdl_standings.proofs.Cutting.{alias_spelled, deep_cut}
-use Rattle.psdl_standings.proofs.Goings.{take_one}
 use Rattle.psdl_standings.proofs.InTurn.{behind}
 
 -- ---- from each declarator to the next
@@ -46,10 +45,6 @@ depth_next all kept n (suc before) spec dimensions last turn lt is some h = dept
 pub last_depth : (all : List Declaration) (kept : List ℕ) (i : ℕ) (spec : Option ℕ) → spec ≡ alias_depth all kept i → (n : ℕ) → i + 1 ≡ n + 1 → spec ≡ alias_depth all kept n
 last_depth all kept i spec is n e = let same : i ≡ n = omega (arith, e) in is ∙ ap (λ (m : ℕ). alias_depth all kept m) same
 
-pub alias_here : (all : List Declaration) (kept : List ℕ) (n before : ℕ) (spec : TypeSpec) (dimensions : List Expression) (k : Option ℕ) → (at all n).what ≡ IsAlias before spec dimensions → k ≡ option_map cut (spec_nesting (name_depth all kept None (n - before) (at all n).path) spec)
-    → k ≡ alias_depth all kept n
-alias_here all kept n before spec dimensions k is e = e ∙ sym (ap (λ (w : What). option_map cut (given (spec_of w) None (spec_nesting (name_depth all kept None (n - before_of w) (at all n).path)))) is)
-
 -- ---- what is too deep
 
 pub deep_alias : (all : List Declaration) (done : List Standing) (kept : List ℕ) (n before count : ℕ) (spec : TypeSpec) (dimensions : List Expression) (k r : Option ℕ) (b : Bool) → (at all n).what ≡ IsAlias before spec dimensions → kept ≡ map depth done → count ≡ length dimensions
@@ -61,11 +56,6 @@ deep_alias all done kept n before count spec dimensions k r b is e many is_k is_
     ∙ ap (λ (o : Option ℕ). given o false (λ l. nat_lt 32 l)) (alias_spelled all done kept n before spec dimensions path k r count e many of_k is_r)
     ∙ deep_cut (nesting_of all done n path (IsAlias before spec dimensions))
     ∙ sym (ap (λ (w : What). given (nesting_of all done n path w) false (λ l. nat_lt 32 l)) is)
-
-pub deep_struct : (all : List Declaration) (done : List Standing) (n : ℕ) (s : StructTree) (r : Option ℕ) (b : Bool) → (at all n).what ≡ IsStruct s → r ≡ option_map cut (nesting_of all done n (at all n).path (IsStruct s)) → b ≡ given r false (λ l. nat_lt 32 l) → b ≡ is_deep all done n
-deep_struct all done n s r b is e h =
-    let path : Path = (at all n).path in
-    h ∙ ap (λ (o : Option ℕ). given o false (λ l. nat_lt 32 l)) e ∙ deep_cut (nesting_of all done n path (IsStruct s)) ∙ sym (ap (λ (w : What). given (nesting_of all done n path w) false (λ l. nat_lt 32 l)) is)
 
 -- ---- what is told
 
@@ -85,13 +75,3 @@ pub level_told : (types : List PlainType) (levels : List ℕ) (told : NumberedSt
 level_told types levels tellings.Nothing x = refl
 level_told types levels (tellings.OfNumber type value) x = refl
 level_told types levels (tellings.OfType type) x = level_there types levels type.index x
-
-pub levels_more : (types : List PlainType) (told : List NumberedStanding) (i : ℕ) (one : NumberedStanding) (nested more : List ℕ) (level : ℕ) → i < length told → one ≡ get_or told i one → nested ≡ map depth (map (stand types) (take i told)) → level ≡ depth (stand types one) → more ≡ nested ++ level ∷ []
-    → more ≡ map depth (map (stand types) (take (i + 1) told))
-levels_more types told i one nested more level lt at so_far is pushed =
-    pushed
-    ∙ ap (λ (l : List ℕ). l ++ level ∷ []) so_far
-    ∙ ap (λ (k : ℕ). map depth (map (stand types) (take i told)) ++ k ∷ []) is
-    ∙ sym (ap (λ (l : List NumberedStanding). map depth (map (stand types) l)) (take_one told i one lt at)
-    ∙ ap (λ (l : List Standing). map depth l) (map-append (stand types) (take i told) (one ∷ []))
-    ∙ map-append depth (map (stand types) (take i told)) (stand types one ∷ []))

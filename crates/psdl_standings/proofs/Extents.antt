@@ -1,5 +1,5 @@
 -- Lengths one behind the other, cut at one over the limit.
-use Rattle.std.proofs.Common.{◌≡◌, ℕ, zero, suc, ◌+◌, ◌*◌, ◌%◌, ◌/◌, ◌<◌, ◌≤◌, List, get_or, refl, sym, ap, ◌∙◌, arith, inl, inr}
+use Rattle.std.proofs.Common.{◌≡◌, ℕ, zero, suc, ◌+◌, ◌%◌, ◌/◌, ◌<◌, ◌≤◌, List, get_or, refl, sym, ap, ◌∙◌, arith, inl, inr}
 use mathlib.Core.Path.{fun_ext}
 use Rattle.std.proofs.lemmas.Bool.{cases_lt}
 use Rattle.std.proofs.lemmas.Nat.{mod_below}
@@ -53,15 +53,6 @@ repeated_odd f n odd = ap (followed f) (sym (repeated-add f (n / 2) (n / 2))) �
   where
     same : suc (n / 2 + n / 2) ≡ n
     same = omega (arith, odd)
-
-pub repeated_both : (f : Extent) (m n : ℕ) → repeated (repeated f m) n ≡ repeated f (n * m)
-repeated_both f m zero = let none : 0 ≡ 0 * m = omega arith in ap (repeated f) none
-repeated_both f m (suc n) =
-    let same : m + n * m ≡ suc n * m = omega arith in
-    ap (followed (repeated f m)) (repeated_both f m n) ∙ sym (repeated-add f m (n * m)) ∙ ap (repeated f) same
-
-pub repeated_swap : (f : Extent) (m n : ℕ) → repeated (repeated f m) n ≡ repeated (repeated f n) m
-repeated_swap f m n = let same : n * m ≡ m * n = omega arith in repeated_both f m n ∙ ap (repeated f) same ∙ sym (repeated_both f n m)
 
 -- ---- by the eight places
 

@@ -85,10 +85,6 @@ both_true true true e = (refl, refl)
 both_true true false e = cc
 both_true false b e = cc
 
--- each part that is there makes a field
-part_typed : (types : List PlainType) (p : Part) → part_type types p ≡ option_map (field_type types) (part_node p)
-part_typed types p = refl
-
 types_there : (types : List PlainType) (xs : List (Option FieldNode)) → all_there (map (option_map (field_type types)) xs) ≡ option_map (map (field_type types)) (all_there xs)
 types_there types [] = refl
 types_there types (None ∷ xs) = refl

@@ -1,6 +1,6 @@
 -- A walk that goes on.
 use Rattle.std.proofs.Common.{◌≡◌, ℕ, ◌+◌, ◌<◌, List, [], ◌∷◌, ◌++◌, length, get_or, take, map, Bool, true, false, ◌&&◌, Option, Some, None, refl, sym, ap, ◌∙◌, arith, length-append, add-one}
-use Rattle.std.specs.Prelude.{is_none, is_some, not, IfOk, OnOk, OnErr, Result, Ok, Err}
+use Rattle.std.specs.Prelude.{is_none, is_some, not, OnOk, OnErr, Result, Ok, Err}
 use Rattle.std.specs.List.{list_all, flat_map}
 use Rattle.std.proofs.lemmas.Bool.{ltb-true, lt-ltb}
 use Rattle.std.proofs.lemmas.Grind.{flat_map-append}
@@ -135,10 +135,6 @@ use_found w spot need name = by (meaning as_is (text_in w) spot.limit (path_in w
 pub there_after : {E : Type 0} (old new : List PlainType) (type : PlainType) (told : List NumberedStanding) (r : Result ℕ E) → OnOk r (new ≡ old ++ type ∷ []) → OnErr r (new ≡ old) → AreThere (length old) told → AreThere (length new) told
 there_after old new type told (Ok n) ok err h = all_there_on old new (one_more old new type ok) told h
 there_after old new type told (Err e) ok err h = rw err h
-
-pub adds_of : {E : Type 0} (a b : Walk) (spot : Spot) (type : Option PlainType) (r : Result (Option ℕ) E) → IfOk r (AddsType a b type) → IfOk r (Adds a b spot [] [] type)
-adds_of a b spot type (Ok n) h = record { goes = h.goes; noted = h.same; there = h.there; is = h.is }
-adds_of a b spot type (Err e) h = tt
 
 -- a type behind what was walked
 pub adds_behind : (a b d : Walk) (spot : Spot) (us : List Use) (bs : List Bound) (type : Option PlainType) (n : Option ℕ) → Goes a b → b.faults ≡ noted_in a spot us bs → AddsType b d type n → Adds a d spot us bs type n

@@ -1,10 +1,10 @@
 -- What is kept of a text in which all declarations were walked.
-use Rattle.std.proofs.Common.{◌≡◌, Vec, Global, ℕ, ◌<◌, ◌≤◌, List, [], length, get_or, map, take, Bool, true, false, nat_lt, ltb-true, ltb-false, Option, None, sym, ap, ◌∙◌, arith}
+use Rattle.std.proofs.Common.{◌≡◌, Vec, Global, ℕ, ◌<◌, ◌≤◌, List, length, get_or, map, take, Bool, true, false, nat_lt, ltb-true, ltb-false, Option, None, sym, ap, ◌∙◌, arith}
 use Rattle.std.specs.List.{range_with_len}
 use Rattle.std.proofs.lemmas.List.{take_all, get_or_past}
 use Rattle.std.proofs.lemmas.List.FromFn.{get_or-map-range_with_len, length-map-range_with_len}
 use Rattle.type_layout.specs.Schemas.{given}
-use Rattle.type_layout.specs.Types.{PlainType, Char}
+use Rattle.type_layout.specs.Types.{PlainType}
 use Rattle.psdl_directory.specs.declared.fault.CheckFault.{CheckFault}
 use Rattle.psdl_directory.specs.Declarations.{Declaration}
 use Rattle.psdl_directory.specs.Fault.{least, each}
@@ -18,7 +18,6 @@ use Rattle.psdl_standings.specs.Depths.{is_deep}
 use Rattle.psdl_standings.specs.Extents.{extent, extent_view}
 use Rattle.psdl_standings.specs.Nesting.{nesting_of}
 use Rattle.psdl_standings.specs.Standings.{Standing, standings}
-use Rattle.psdl_standings.specs.States.{body_type, state_types, AreStates}
 use Rattle.psdl_standings.specs.inner.Declared.{IsWalked}
 use Rattle.psdl_standings.specs.inner.Levels.{depth}
 use Rattle.psdl_standings.specs.inner.Measured.{IsMeasured, IsLevelled}
@@ -52,9 +51,6 @@ stood w states extents levels nested deep x m l n d =
 past_text : (all : List Declaration) (n : ℕ) → length all ≤ n → at all n ≡ nothing
 past_text all n past = get_or_past all n nothing past
 
-pub no_states_past : (all : List Declaration) (types : List PlainType) (n : ℕ) → length all ≤ n → AreStates all types n []
-no_states_past all types n past homes = sym (ap (λ (d : Declaration). map (body_type all (standings all) homes n) (state_types d.what)) (past_text all n past))
-
 pub no_deep_past : (all : List Declaration) (n : ℕ) → length all ≤ n → false ≡ is_deep all (standings all) n
 no_deep_past all n past = sym (ap (λ (d : Declaration). given (nesting_of all (standings all) n d.path d.what) false (λ k. nat_lt 32 k)) (past_text all n past))
 
@@ -62,9 +58,6 @@ pub deep_at : (all : List Declaration) (deep : List Bool) (n : ℕ) (d : Bool) �
 deep_at all deep n d e lt =
     let many : length deep ≡ length all = ap (λ (l : List Bool). length l) e ∙ length-map-range_with_len (is_deep all (standings all)) 0 (length all) in
     ap (λ (l : List Bool). get_or l n d) e ∙ get_or-map-range_with_len (is_deep all (standings all)) 0 (length all) n n d (omega (arith, many, lt)) (omega arith)
-
-pub extent_past : (types : List PlainType) (extents : List ExtentNode) (n : ℕ) → IsMeasured types extents → length extents ≤ n → extent Char ≡ extent (type_at types n)
-extent_past types extents n x past = sym (ap extent (get_or_past types n Char (omega (arith, past, x.many))))
 
 -- ---- what is found
 

@@ -1,12 +1,11 @@
 -- The lengths of the texts of types, by those of their parts.
-use Rattle.std.proofs.Common.{◌≡◌, ℕ, ◌+◌, ◌<◌, ◌==◌, List, [], ◌∷◌, ◌++◌, length, map, cond, Bool, true, false, refl, sym, ap, ◌∙◌, arith, length-append}
+use Rattle.std.proofs.Common.{◌≡◌, ℕ, ◌+◌, List, [], ◌∷◌, ◌++◌, length, map, refl, sym, ap, ◌∙◌, arith, length-append}
 use Rattle.std.specs.Prelude.{codes}
 use Rattle.std.specs.List.{flat_map}
-use Rattle.std.specs.Fmt.{decimal}
 use Rattle.psdl_tree.specs.declared.names.Identifier.{Identifier}
-use Rattle.type_layout.specs.Types.{PlainType, Str, Seq, Arr, Struct, Enum, PlainFields, no_fields, field_and}
-use Rattle.type_layout.specs.ShapeText.{listed, bound_text, type_text, field_texts}
-use Rattle.psdl_standings.specs.TextLengths.{cut, text_length, length_of_string, length_of_sequence, length_of_array}
+use Rattle.type_layout.specs.Types.{PlainType, Struct, Enum, PlainFields, no_fields, field_and}
+use Rattle.type_layout.specs.ShapeText.{listed, type_text, field_texts}
+use Rattle.psdl_standings.specs.TextLengths.{cut, text_length}
 use Rattle.psdl_standings.specs.inner.TextMeasured.{names_length}
 
 -- ---- sums that are cut
@@ -16,13 +15,6 @@ cut_sum a b = omega arith
 
 pub cut_both : (a b : ℕ) → cut (cut a + cut b) ≡ cut (a + b)
 cut_both a b = omega arith
-
--- more than the limit of a shape
-pub over_cut : (n : ℕ) → 65536 < cut n → 65536 < n
-over_cut n over = omega (arith, over)
-
-pub cut_over : (n : ℕ) → 65536 < n → 65536 < cut n
-cut_over n over = omega (arith, over)
 
 pub field_cut : (front a b : ℕ) → cut (cut front + (a + (2 + cut b))) ≡ cut (front + (a + (2 + b)))
 field_cut front a b = omega arith
@@ -46,10 +38,6 @@ listed_length t ts = omega (arith, length-append t (flat_map (λ u. codes "," ++
 pub three : (a b c : List ℕ) → length (a ++ b ++ c) ≡ length a + (length b + length c)
 three a b c = omega (arith, length-append (a ++ b) c, length-append a b)
 
--- by their lengths
-pub both_texts : (a b : List ℕ) → cut (cut (length a) + cut (length b)) ≡ cut (length (a ++ b))
-both_texts a b = cut_both (length a) (length b) ∙ ap cut (sym (length-append a b))
-
 pub four : (a b c d : List ℕ) → length (a ++ b ++ c ++ d) ≡ length a + (length b + (length c + length d))
 four a b c d = omega (arith, length-append (a ++ b ++ c) d, three a b c)
 
@@ -58,35 +46,6 @@ five a b c d e = omega (arith, length-append (a ++ b ++ c ++ d) e, four a b c d)
 
 pub seven : (a b c d e f g : List ℕ) → length (a ++ b ++ c ++ d ++ e ++ f ++ g) ≡ length a + (length b + (length c + (length d + (length e + (length f + length g)))))
 seven a b c d e f g = omega (arith, length-append (a ++ b ++ c ++ d ++ e ++ f) g, length-append (a ++ b ++ c ++ d ++ e) f, five a b c d e)
-
--- ---- types by their parts
-
-string_by : (bound : ℕ) (b : Bool) → cut (length (cond b (codes "string") (codes "string<" ++ decimal bound ++ codes ">"))) ≡ cut (cond b 6 (8 + length (decimal bound)))
-string_by bound true = refl
-string_by bound false = ap cut (omega (arith, length-append (codes "string<") (decimal bound ++ 62 ∷ []), length-append (decimal bound) (62 ∷ [])))
-
-pub string_length : (bound : ℕ) → text_length (Str bound) ≡ length_of_string bound
-string_length bound = string_by bound (bound == 0)
-
-bound_by_test : (bound : ℕ) (b : Bool) → length (cond b [] (codes "," ++ decimal bound)) + 5 ≡ cond b 5 (6 + length (decimal bound))
-bound_by_test bound true = refl
-bound_by_test bound false = omega (arith, length-append (codes ",") (decimal bound))
-
-pub sequence_length : (item : PlainType) (bound : ℕ) → text_length (Seq item bound) ≡ length_of_sequence (text_length item) bound
-sequence_length item bound =
-    let text : List ℕ = type_text item in
-    let more : List ℕ = bound_text bound in
-    let parts : length (type_text (Seq item bound)) ≡ 4 + (length text + (length more + 1)) = four (codes "seq(") text more (codes ")") in
-    let whole : length (type_text (Seq item bound)) ≡ length text + (length more + 5) = parts ∙ omega arith in
-    ap cut whole ∙ ap (λ (n : ℕ). cut (length text + n)) (bound_by_test bound (bound == 0)) ∙ sym (cut_sum (length text) (cond (bound == 0) 5 (6 + length (decimal bound))))
-
-pub array_length : (item : PlainType) (count : ℕ) → text_length (Arr item count) ≡ length_of_array (text_length item) count
-array_length item count =
-    let text : List ℕ = type_text item in
-    let digits : List ℕ = decimal count in
-    let parts : length (type_text (Arr item count)) ≡ 4 + (length text + (1 + (length digits + 1))) = five (codes "arr(") text (codes ",") digits (codes ")") in
-    let whole : length (type_text (Arr item count)) ≡ length text + (6 + length digits) = parts ∙ omega arith in
-    ap cut whole ∙ sym (cut_sum (length text) (6 + length digits))
 
 -- ---- structs
 

@@ -1,8 +1,8 @@
 -- How deep types nest, type by type.
-use Rattle.std.proofs.Common.{◌≡◌, ℕ, zero, suc, ◌+◌, ◌<◌, ◌≤◌, List, [], ◌∷◌, ◌++◌, length, get_or, map, take, max, Bool, true, false, ◌&&◌, nat_lt, refl, sym, ap, ◌∙◌, arith, length-append, ⊎_elim}
+use Rattle.std.proofs.Common.{◌≡◌, ℕ, zero, suc, ◌+◌, ◌<◌, List, [], ◌∷◌, ◌++◌, length, get_or, map, take, max, Bool, true, false, ◌&&◌, nat_lt, refl, sym, ap, ◌∙◌, arith, length-append, ⊎_elim}
 use Rattle.std.specs.List.{list_all}
 use Rattle.std.proofs.lemmas.Bool.{cases_lt, ltb-true}
-use Rattle.std.proofs.lemmas.List.{map-append, take_all, get_or_append_left, get_or_push, get_or_default}
+use Rattle.std.proofs.lemmas.List.{map-append, get_or_append_left, get_or_push, get_or_default}
 use Rattle.type_layout.specs.Types.{PlainType, PlainField, fields_of}
 use Rattle.psdl_standings.specs.declared.types.FieldNode.{FieldNode}
 use Rattle.psdl_standings.specs.declared.types.Node.{Node}
@@ -45,9 +45,6 @@ deepest_more types levels fs i g d deepest more are below lt so_far e =
     ∙ cut_max (deepest_field (fields_of front)) (nesting (type_at types f.item))
     ∙ ap cut (sym (deepest_push front (field_type types f)))
     ∙ sym (ap (λ (l : List FieldNode). deepest_in types l) (take_next fs i g lt) ∙ ap (λ (l : List PlainField). cut (deepest_field (fields_of l))) (map-append (field_type types) (take i fs) (f ∷ [])))
-
-pub deepest_end : (types : List PlainType) (fs : List FieldNode) (i deepest : ℕ) → length fs ≤ i → deepest ≡ deepest_in types (take i fs) → deepest ≡ cut (deepest_field (fields_of (map (field_type types) fs)))
-deepest_end types fs i deepest past e = e ∙ ap (λ (l : List FieldNode). deepest_in types l) (take_all i fs past)
 
 pub levels_more : (types : List PlainType) (levels more : List ℕ) (one : ℕ) (node : Node) (n : ℕ) → length levels ≡ n → AreLevels types levels → one ≡ cut (nesting (node_type types node)) → node_type types node ≡ type_at types n → more ≡ levels ++ one ∷ [] → AreLevels types more
 levels_more types levels more one node n many are e is pushed k d lt =

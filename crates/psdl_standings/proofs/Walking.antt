@@ -1,8 +1,7 @@
 -- The walk from one declaration to the next.
-use Rattle.std.proofs.Common.{◌≡◌, Vec, Global, ℕ, zero, suc, ◌+◌, ◌-◌, ◌<◌, ◌≤◌, List, [], ◌∷◌, ◌++◌, length, get_or, map, true, Option, None, refl, sym, ap, ◌∙◌, arith}
+use Rattle.std.proofs.Common.{◌≡◌, Vec, Global, ℕ, zero, suc, ◌+◌, ◌-◌, ◌<◌, ◌≤◌, List, [], ◌∷◌, ◌++◌, length, get_or, Option, None, refl, sym, ap, ◌∙◌, arith}
 use Rattle.std.specs.Prelude.{IfSome}
 use Rattle.psdl_tree.specs.Trees.{Expression, TypeSpec}
-use Rattle.std.proofs.lemmas.List.Folds.{list_all-append}
 use Rattle.std.proofs.lemmas.List.FromFn.{get_or-map-range_with_len, length-map-range_with_len}
 use Rattle.psdl_directory.specs.Declarations.{What, IsAlias, Declaration}
 use Rattle.psdl_directory.specs.Headers.{Header, header_of, header, headers}
@@ -15,7 +14,6 @@ use Rattle.psdl_standings.specs.Standings.{Standing, sight, spec_by}
 use Rattle.psdl_standings.specs.Uses.{in_spec, spec_bounds}
 use Rattle.psdl_standings.specs.Turns.{before_of, alias_type, AreInTurn}
 use Rattle.psdl_standings.specs.inner.Declared.{type_uses, type_bounds, IsTold, AreStatesThere, IsLast, IsWalked}
-use Rattle.psdl_standings.specs.inner.Tellings.{stand, is_there, AreThere}
 use Rattle.psdl_standings.specs.inner.TypeTables.{entry_type}
 use Rattle.psdl_standings.specs.inner.Walked.{text_in, done_in, names_in, Goes, Adds}
 use Rattle.psdl_standings.proofs.Goings.{done_same, goes_nowhere}
@@ -42,9 +40,6 @@ item_later w x n what item g e = e ∙ sym (moved (text_in x) (text_in w) (done_
 
 pub number_later : (w x : Walk) (n : ℕ) → Goes w x → n < length (text_in w) → n < length (text_in x)
 number_later w x n g lt = rw g.text lt
-
-pub there_pushed : (count : ℕ) (told : List NumberedStanding) (one : NumberedStanding) → AreThere count told → is_there count one ≡ true → AreThere count (told ++ one ∷ [])
-there_pushed count told one h t = list_all-append (is_there count) told (one ∷ []) ∙ rw (h, t) refl
 
 pub stepped_by : (w x y z : Walk) (n : ℕ) (last item : Option ℕ) (told : NumberedStanding) (states more : List (Vec StateEntry Global)) (kept : Vec StateEntry Global) (what : What) → what ≡ (at (text_in w) n).what → n < length (text_in w) → IsWalked w states n
     → Adds w x (record { limit = n; number = n; own = None }) (type_uses n what) (type_bounds n what) (alias_type (text_in w) (done_in w) n (at (text_in w) n).path what) item → IsTold x y n what told → AreStatesThere x y n what kept.items → text_in z ≡ text_in y → z.types ≡ y.types
@@ -108,16 +103,3 @@ none_last w = record { there = tt; is = λ n e. absurd (omega (arith, e)) }
 
 pub walked_end : (w : Walk) (states : List (Vec StateEntry Global)) (i : ℕ) (all : List Declaration) → i ≡ length all → IsWalked w states i → IsWalked w states (length all)
 walked_end w states i all e x = rw e at x
-
--- ---- at the start
-
-pub none_walked : (w : Walk) → w.told.items ≡ [] → w.faults.names ≡ None → w.faults.strings ≡ None → w.faults.values ≡ None → w.faults.selves ≡ None → IsWalked w [] 0
-none_walked w told names strings values selves =
-    record {
-      kept = (refl, λ n d lt. absurd (omega (arith, lt)));
-      told = ap (λ (ts : List NumberedStanding). map (stand w.types) ts) told;
-      names = names;
-      strings = strings;
-      values = values;
-      selves = selves;
-    }

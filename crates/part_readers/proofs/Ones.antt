@@ -68,7 +68,3 @@ module _ {A : Type 0} (l : Language) (d e : l.State) (fault : ℕ → l.Fault) (
 
   pub one_reads : (Ends : List l.Element → Type 0) → IsReader l d e reader spelling Ends
   one_reads Ends = record { takes = takes_one; reads = λ x rest _. inl (rw (told x) refl); stops = stops_one; some = some }
-
--- nothing at all
-pub no_tokens : {E : Type 0} → Unit {0} → List E
-no_tokens x = []

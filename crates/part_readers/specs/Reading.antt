@@ -47,10 +47,6 @@ mapped f read es = read es >>= λ x. Ok (f x.0, x.1)
 abbrev pub both : {E F A B : Type 0} → Reader E F A → Reader E F B → Reader E F (A × B)
 both first second es = first es >>= λ x. second x.1 >>= λ y. Ok ((x.0, y.0), y.1)
 
--- nothing at all
-abbrev pub nothing : {E F : Type 0} → Reader E F (Unit {0})
-nothing es = Ok (tt, es)
-
 -- the first part where an element starts it, and else the second
 abbrev pub either : {E F A B : Type 0} → (E → Bool) → Reader E F A → Reader E F B → Reader E F (A ⊎ B)
 either is first second es = if starts is es then mapped inl first es else mapped inr second es

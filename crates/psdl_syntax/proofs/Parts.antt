@@ -10,7 +10,7 @@ use Rattle.psdl_tokens.specs.declared.token.Mark.TheVariants as marks
 use Rattle.psdl_syntax.specs.Seen.{Seen, Word, Sign}
 use Rattle.psdl_syntax.specs.Depth.{room_behind_mark}
 use Rattle.psdl_syntax.specs.Grammar.{behind, sign, after_commas}
-use Rattle.psdl_syntax.specs.Productions.{Reads, is_mark, is_inside, word_at, sign_at, behind_word, behind_sign, before_sign, listed, up_to_brace}
+use Rattle.psdl_syntax.specs.Productions.{Reads, is_mark, is_inside, word_at, sign_at, behind_word, behind_sign, listed, up_to_brace}
 use Rattle.psdl_syntax.proofs.Psdl.{psdl, Keeps, word_keeps, sign_keeps}
 
 abbrev pub anything : List Seen → Type 0
@@ -26,11 +26,6 @@ module _ {A : Type 0} (d e : ℕ) (part : Reads A) (s : A → List Seen) (E : Li
   behind_sign_keeps m plain =
       mapped_reads psdl d e (λ (p : Unit {0} × A). p.1) (λ x. (tt, x)) (both (sign_at m) part) (both_tokens (λ x. Sign m ∷ []) s) (λ x. Sign m ∷ s x) E
       (both_reads psdl d d e (sign_at m) part (λ x. Sign m ∷ []) s anything E (sign_keeps m d d plain anything) is (λ y rest h. tt)) (λ y. refl) (λ x. refl)
-
-  pub before_sign_keeps : (m : Mark) → room_behind_mark e m ≡ Some e → ((rest : List Seen) → E (Sign m ∷ rest)) → (F : List Seen → Type 0) → Keeps d e (before_sign m part) (λ x. s x ++ Sign m ∷ []) F
-  before_sign_keeps m plain apart F =
-      mapped_reads psdl d e (λ (p : A × Unit {0}). p.0) (λ x. (x, tt)) (both part (sign_at m)) (both_tokens s (λ x. Sign m ∷ [])) (λ x. s x ++ Sign m ∷ []) F
-      (both_reads psdl d e e part (sign_at m) s (λ x. Sign m ∷ []) E F is (sign_keeps m e e plain F) (λ y rest h. apart rest)) (λ y. refl) (λ x. refl)
 
 -- one part, and others
 module _ {A B : Type 0} (d : ℕ) (is : Seen → Bool) (r1 : Reads A) (r2 : Reads B) (s1 : A → List Seen) (s2 : B → List Seen) (E : List Seen → Type 0) (is1 : Keeps d d r1 s1 E) (is2 : Keeps d d r2 s2 E)

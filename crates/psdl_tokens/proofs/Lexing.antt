@@ -1,14 +1,12 @@
 -- The tokens of a text, one lexeme after another.
-use Rattle.std.proofs.Common.{◌≡◌, ℕ, zero, suc, ◌+◌, ◌-◌, ◌≤◌, ◌<◌, List, [], ◌∷◌, ◌++◌, length, take, drop, get_or, Option, Some, None, refl, sym, ap, ◌∙◌, arith, append_assoc, length-drop}
+use Rattle.std.proofs.Common.{◌≡◌, ℕ, zero, suc, ◌+◌, ◌-◌, ◌≤◌, ◌<◌, List, [], ◌∷◌, ◌++◌, length, take, drop, get_or, refl, sym, ap, ◌∙◌, arith, append_assoc, length-drop}
 use Rattle.std.proofs.Math.Seq.{take-length, take-add}
-use Rattle.std.proofs.lemmas.List.{at_drop_more, at_drop_all, append-nil, drop-drop, length-take}
+use Rattle.std.proofs.lemmas.List.{at_drop_more, append-nil, drop-drop, length-take}
 use Rattle.pss_base.specs.declared.place.Place.{Place}
 use Rattle.psdl_tokens.specs.declared.token.Token.{Token}
 use Rattle.psdl_tokens.specs.declared.token.TokenKind.{TokenKind}
 use Rattle.psdl_tokens.specs.declared.lexeme.Lexeme.{Lexeme}
-use Rattle.psdl_tokens.specs.declared.lexeme.Lexeme.TheVariants.{Gap, Found, Wrong}
-use Rattle.psdl_tokens.specs.declared.lexeme.LexicalKind.{LexicalKind}
-use Rattle.psdl_tokens.specs.declared.lexis.LexicalFault.{LexicalFault}
+use Rattle.psdl_tokens.specs.declared.lexeme.Lexeme.TheVariants.{Gap, Found}
 use Rattle.psdl_tokens.specs.Places.{place_of}
 use Rattle.psdl_tokens.specs.Lexis.{Lexed, lexeme, size_of, before, lexed_behind, lexed}
 
@@ -87,27 +85,4 @@ lexed_token text tokens place next kind size to lt e some le is =
       within = omega arith;
       tokens_are = to.tokens_are ∙ ap (λ k. tokens ++ k.tokens) on ∙ sym (append_assoc tokens (token ∷ []) (rest_of text next.offset).tokens);
       fault_is = to.fault_is ∙ ap (λ k. k.fault) on;
-    }
-
--- the end of what was lexed, with a fault or with none
-pub record LexedAll (text : List ℕ) (tokens : List Token) (fault : Option LexicalFault) : Type 0 where
-  pub tokens_are : tokens ≡ (lexed text).tokens
-  pub fault_is : fault ≡ (lexed text).fault
-
-pub lexed_fault : (text : List ℕ) (tokens : List Token) (place : Place) (kind : LexicalKind) → LexedTo text tokens place → place.offset < length text → Wrong kind ≡ lexeme (take place.offset text) (take (length text - place.offset) (drop place.offset text)) → LexedAll text tokens (Some (record { place = place; kind = kind }))
-lexed_fault text tokens place kind to lt e =
-    let step : rest_of text place.offset ≡ before (Wrong kind) (place_of (take place.offset text)) (rest_of text (place.offset + 1)) = lexed_at text place.offset 1 (Wrong kind) lt (looked_at text place.offset (Wrong kind) e) (omega arith) refl in
-    let on : rest_of text place.offset ≡ before (Wrong kind) place (rest_of text (place.offset + 1)) =
-    step ∙ ap (λ p. before (Wrong kind) p (rest_of text (place.offset + 1))) (sym to.placed) in
-    record {
-      tokens_are = sym (to.tokens_are ∙ ap (λ k. tokens ++ k.tokens) on ∙ append-nil tokens);
-      fault_is = sym (to.fault_is ∙ ap (λ k. k.fault) on);
-    }
-
-pub lexed_end : (text : List ℕ) (tokens : List Token) (place : Place) → LexedTo text tokens place → length text ≤ place.offset → LexedAll text tokens None
-lexed_end text tokens place to le =
-    let on : rest_of text place.offset ≡ record { tokens = []; fault = None } = at_drop_all (lexed_behind 0 (take place.offset text)) text place.offset le in
-    record {
-      tokens_are = sym (to.tokens_are ∙ ap (λ k. tokens ++ k.tokens) on ∙ append-nil tokens);
-      fault_is = sym (to.fault_is ∙ ap (λ k. k.fault) on);
     }

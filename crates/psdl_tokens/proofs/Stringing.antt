@@ -1,9 +1,9 @@
 -- Strings, one character after another.
-use Rattle.std.proofs.Common.{◌≡◌, ℕ, zero, suc, ◌+◌, ◌-◌, ◌≤◌, ◌<◌, List, [], ◌∷◌, ◌++◌, length, take, drop, get_or, true, false, eqb, Option, Some, None, refl, sym, ap, ◌∙◌, arith, append_assoc, length-drop}
+use Rattle.std.proofs.Common.{◌≡◌, ℕ, zero, suc, ◌+◌, ◌-◌, ◌≤◌, ◌<◌, List, [], ◌∷◌, ◌++◌, length, take, drop, get_or, false, eqb, Option, Some, None, refl, sym, ap, ◌∙◌, arith, append_assoc, length-drop}
 use Rattle.std.specs.Option.{option_map}
 use Rattle.std.proofs.Math.Seq.{take-length}
-use Rattle.std.proofs.lemmas.Bool.{ne_eqb, eq-eqb}
-use Rattle.std.proofs.lemmas.List.{at_drop_more, at_drop_all, append-nil, drop-drop}
+use Rattle.std.proofs.lemmas.Bool.{ne_eqb}
+use Rattle.std.proofs.lemmas.List.{at_drop_more, drop-drop}
 use Rattle.psdl_tokens.specs.declared.character.Character.{Character}
 use Rattle.psdl_tokens.specs.declared.quoted.Quoted.{Quoted}
 use Rattle.psdl_tokens.specs.Characters.{character, longer, onto_string, taken, string_in}
@@ -29,9 +29,6 @@ string_in-inside zero xs = longer-zero (string_in 0 xs)
 string_in-inside (suc n) [] = refl
 string_in-inside (suc n) (b ∷ bs) = ap (longer 1) (string_in-inside n bs) ∙ longer-longer 1 n (suc n) (string_in 0 (drop n bs)) (omega arith)
 
-string_in-quote : (b : ℕ) (bs : List ℕ) → eqb b 34 ≡ true → string_in 0 (b ∷ bs) ≡ Some (record { bytes = []; size = 1 })
-string_in-quote b bs h = rw h refl
-
 string_in-character : (b : ℕ) (bs : List ℕ) → eqb b 34 ≡ false → string_in 0 (b ∷ bs) ≡ onto_string (character (b ∷ bs)) (longer 1 (string_in (taken (character (b ∷ bs)) - 1) bs))
 string_in-character b bs h = rw h refl
 
@@ -48,27 +45,6 @@ onto-behind bytes at n c (Some s) e =
 -- A string was read up to a place: what stands from there on is what is left of it.
 abbrev pub ReadTo : List ℕ → ℕ → List ℕ → Type 0
 ReadTo rest at bytes = string_in 0 rest ≡ behind bytes at (string_in 0 (drop at rest))
-
-pub read_start : (rest : List ℕ) → ReadTo rest 0 []
-read_start rest = none (string_in 0 rest)
-  where
-    none : (o : Option Quoted) → o ≡ behind [] 0 o
-    none None = refl
-    none (Some s) = same_string s.bytes s.bytes s.size (s.size + 0) refl (omega arith)
-
-pub read_quote : (rest : List ℕ) (at : ℕ) (bytes : List ℕ) → ReadTo rest at bytes → at < length rest → get_or rest at 0 ≡ 34 → string_in 0 rest ≡ Some (record { bytes = bytes; size = at + 1 })
-read_quote rest at bytes h lt q =
-    h ∙ ap (behind bytes at) (at_drop_more (string_in 0) rest at 0 lt ∙ string_in-quote (get_or rest at 0) (drop (at + 1) rest) (eq-eqb (get_or rest at 0) 34 q))
-    ∙ same_string (bytes ++ []) bytes (1 + at) (at + 1) (append-nil bytes) (omega arith)
-
-pub read_none : (rest : List ℕ) (at : ℕ) (bytes : List ℕ) → ReadTo rest at bytes → at < length rest → (get_or rest at 0 ≡ 34 → ⊥) → character (take (length rest - at) (drop at rest)) ≡ None → string_in 0 rest ≡ None
-read_none rest at bytes h lt q c =
-    let here : character (get_or rest at 0 ∷ drop (at + 1) rest) ≡ None = sym (at_drop_more character rest at 0 lt) ∙ sym (ap character (from rest at)) ∙ c in
-    h ∙ ap (behind bytes at) (at_drop_more (string_in 0) rest at 0 lt ∙ string_in-character (get_or rest at 0) (drop (at + 1) rest) (ne_eqb (get_or rest at 0) 34 q)
-    ∙ ap (λ k. onto_string k (longer 1 (string_in (taken k - 1) (drop (at + 1) rest)))) here)
-
-pub read_end : (rest : List ℕ) (at : ℕ) (bytes : List ℕ) → ReadTo rest at bytes → length rest ≤ at → string_in 0 rest ≡ None
-read_end rest at bytes h le = h ∙ ap (behind bytes at) (at_drop_all (string_in 0) rest at le)
 
 pub read_more : (rest : List ℕ) (at : ℕ) (bytes : List ℕ) (c : Character) → ReadTo rest at bytes → at < length rest → (get_or rest at 0 ≡ 34 → ⊥) → character (take (length rest - at) (drop at rest)) ≡ Some c → 1 ≤ c.size → ReadTo rest (at + c.size) (bytes ++ c.byte ∷ [])
 read_more rest at bytes c h lt q e some =

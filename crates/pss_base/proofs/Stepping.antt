@@ -1,10 +1,10 @@
 -- What was read of a line is one step.
-use Rattle.std.proofs.Common.{◌≡◌, ◌≢◌, ◌⊎◌, inr, ℕ, ◌-◌, ◌<◌, ◌≤◌, List, [], ◌∷◌, length, take, Bool, true, false, not, nat_lt, if◌then◌else◌, ◌==◌, IsTrue, refl, sym, ◌∙◌, ap, subst, arith, length-append, None, Some, Result, Ok, Err}
+use Rattle.std.proofs.Common.{◌≡◌, ◌≢◌, ◌⊎◌, inr, ℕ, ◌-◌, ◌<◌, ◌≤◌, List, [], ◌∷◌, length, take, Bool, true, false, not, nat_lt, if◌then◌else◌, ◌==◌, IsTrue, refl, sym, ◌∙◌, ap, subst, arith, length-append, Result, Ok, Err}
 use Rattle.std.proofs.lemmas.Grind.{common_steps}
 use Rattle.std.proofs.lemmas.List.{take_all}
 use Rattle.std.specs.declared.option.Option.{Option}
 use Rattle.std.specs.Str.Lines.{strip_carriage_return}
-use Rattle.std.specs.Io.KnownBytes.{Consumes, IsAtEnd}
+use Rattle.std.specs.Io.KnownBytes.{Consumes}
 use Rattle.pss_base.specs.Lines.{bytes_of}
 use Rattle.pss_base.specs.Reading.{Reading, TakesLine, NextLine, most_bytes}
 use Rattle.pss_base.specs.Parts.{PartOf, StopsAt, told_of, stopped_by, is_stopped_by_fault, reading_after}
@@ -13,11 +13,6 @@ use Rattle.pss_base.specs.declared.part.Stop.{Stop}
 use Rattle.pss_base.specs.declared.part.Stop.TheVariants.{Limit, ReadFault, NoMemory}
 use Rattle.pss_base.specs.declared.lines.LineStep.{LineStep}
 use Rattle.pss_base.specs.declared.lines.LineStep.TheVariants.{Line, TooLong, End}
-
-nothing_to_end : (a b : Option (List ℕ)) → Consumes a b [] → IsAtEnd b → IsAtEnd a
-nothing_to_end None b p e = tt
-nothing_to_end (Some x) None p e = absurd p
-nothing_to_end (Some x) (Some y) p e = p ∙ e
 
 over_by : (n b m : ℕ) → m ≡ most_bytes n b → (n ≡ 0) ⊎ (m ≡ b)
 over_by n b m is = grind (arith, common_steps)

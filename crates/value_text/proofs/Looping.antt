@@ -1,6 +1,6 @@
 -- Reading parts one after the other, as loops do.
 use Rattle.std.proofs.Common.{◌≡◌, ℕ, suc, ◌-◌, ◌+◌, ◌≤◌, ◌<◌, Bool, true, false, List, [], ◌∷◌, ◌++◌, Option, Some, None, refl, sym, ap, ◌∙◌, append_assoc, arith, length, drop, map, get_or}
-use Rattle.std.proofs.lemmas.List.{append-nil, drop_more, drop_all}
+use Rattle.std.proofs.lemmas.List.{append-nil, drop_more}
 use Rattle.type_layout.specs.declared.ty.Field.{Field}
 use Rattle.type_layout.specs.Types.{PlainType, PlainFields, no_fields, field_and, PlainValue, fields_of}
 use Rattle.type_layout.specs.Views.{plain_field}
@@ -11,11 +11,6 @@ use Rattle.value_text.specs.Reading.{◌>>=◌, Fails, Reader, behind, byte_at, 
 -- what was read before, and what is still read
 abbrev pub with_front : {A : Type 0} → List A → Option (List A × List ℕ) → Option (List A × List ℕ)
 with_front front read = read >>= λ x. Some (front ++ x.0, x.1)
-
--- nothing was read before
-pub sets_out : {A : Type 0} (read : Option (List A × List ℕ)) → with_front [] read ≡ read
-sets_out (Some x) = refl
-sets_out None = refl
 
 regroup : {A : Type 0} (front : List A) (n : A) (read : Option (List A × List ℕ)) → with_front front (read >>= λ x. Some (n ∷ x.0, x.1)) ≡ with_front (front ++ n ∷ []) read
 regroup {A} front n (Some x) = ap (λ (ns : List A). Some (ns, x.1)) (simp append_assoc)
@@ -111,6 +106,3 @@ fields_done front rest total so_far =
 -- the fields that a loop has yet to read
 pub fields_drop : (fs : List Field) (i : ℕ) (f : Field) → i < length fs → f ≡ get_or fs i f → fields_of (map plain_field (drop i fs)) ≡ field_and (plain_field f).name (plain_field f).type (fields_of (map plain_field (drop (i + 1) fs)))
 fields_drop fs i f lt is = ap (λ (l : List Field). fields_of (map plain_field l)) (drop_more fs i f lt ∙ ap (λ (g : Field). g ∷ drop (i + 1) fs) (sym is))
-
-pub fields_out : (fs : List Field) (i : ℕ) → length fs ≤ i → fields_of (map plain_field (drop i fs)) ≡ no_fields
-fields_out fs i le = ap (λ (l : List Field). fields_of (map plain_field l)) (drop_all i fs le)

@@ -11,9 +11,6 @@ use Rattle.value_text.proofs.Owing.{Took, Takes, ReadsAnywhere, some_is, pair_is
 
 -- ---- one byte in front
 
-pub behind_is : (b : ℕ) (rest : List ℕ) → behind b (b ∷ rest) ≡ Some rest
-behind_is b rest = rw (eq-eqb b b refl) refl
-
 pub behind_takes : (b : ℕ) (text rest : List ℕ) → behind b text ≡ Some rest → text ≡ b ∷ rest
 behind_takes b [] rest e = absurd cc
 behind_takes b (c ∷ text) rest e = by_test (eqb c b) refl e

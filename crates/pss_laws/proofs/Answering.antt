@@ -124,9 +124,6 @@ is_numbered S g there = by_number g.0 there
     by_number (suc i) there = subst (λ (m : ℕ). list_any (λ j. j.0 == m) (numbers_from 1 S.homes) ≡ true) (omega arith) (numbered 1 i S.homes there)
 
 module _ (S : Schema) (M N : Catalog) (h : HomeNo) where
-  abbrev is_below : HomeNo → Bool
-  is_below g = descends S g h
-
   below_alike : (gs : List HomeNo) (g : HomeNo) → list_any (λ j. j.0 == g.0) gs ≡ true → descends S g h ≡ true → AllAlike S M N (map (extent_need Read) (filter (λ g. descends S g h) gs)) → PassAlike (is_of_home g.0) M N
   below_alike [] g e down agree = unlike e
   below_alike (i ∷ gs) g e down agree = by_head (i.0 == g.0) refl e (descends S i h) refl agree (λ e agree. below_alike gs g e down agree)

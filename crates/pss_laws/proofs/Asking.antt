@@ -73,9 +73,6 @@ module _ (S : Schema) (sound : IsSoundSchema S) where
 -- ---- what is asked
 
 module _ (S : Schema) where
-  abbrev Fits : Asked → Type 0
-  Fits asked = AsksOfHomes S asked.op
-
   abbrev OkayFits : Result Asked Reply → Type 0
   OkayFits r = Okay (λ asked. AsksOfHomes S asked.op) r
 

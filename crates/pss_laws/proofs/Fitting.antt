@@ -40,14 +40,8 @@ okay_through P Q (Ok x) f h g = g x h
 okay_through P Q (Err refusal) f h g = tt
 
 module _ (S : Schema) (sound : IsSoundSchema S) where
-  abbrev Fits : Asked → Type 0
-  Fits asked = FitsSchema S asked.op
-
   abbrev OkayFits : Result Asked Reply → Type 0
   OkayFits r = Okay (λ asked. FitsSchema S asked.op) r
-
-  abbrev There : HomeNo → Type 0
-  There h = IsSome (home_at S h)
 
   home_there : (word : List ℕ) → Okay (λ h. IsSome (home_at S h)) (read_home S word)
   home_there word = by_home (home_named S word) (named_there S sound word)

@@ -150,17 +150,6 @@ module _ (S : Schema) (start : Catalog) where
         replays : (i : ℕ) (owner : Owner) → get (remove owners n) i ≡ Some owner → Replaying S M owner.level (unwrap_or (get (remove lists.steps n) i) [])
         replays i owner e = (let back = left_back owners n i owner e in subst (Replaying S M owner.level) (sym (cleared lists n i back.0)) (inv.replays i owner back.1))
 
-    -- an owner that stays begins anew
-    anew_listed : (n : ℕ) (level : Level) → Listed S start M (insert owners n (new_owner level)) (record { steps = remove lists.steps n; history = lists.history; trace = lists.trace })
-    anew_listed n level = record { replays = replays; now = inv.now; serial = inv.serial; all_unique = inv.all_unique; counted = inv.counted; committed = inv.committed }
-      where
-        replays : (i : ℕ) (owner : Owner) → get (insert owners n (new_owner level)) i ≡ Some owner → Replaying S M owner.level (unwrap_or (get (remove lists.steps n) i) [])
-        replays i owner e =
-            elim (put_back owners n (new_owner level) i owner e) [
-              | inl p ↦ subst (Replaying S M owner.level) (sym (gone lists n i p.0)) (none_replays S M owner.level)
-              | inr p ↦ subst (Replaying S M owner.level) (sym (cleared lists n i p.0)) (inv.replays i owner p.1)
-            ]
-
     steps_listed : (n : OwnerNo) (owner : Owner) (step : Step) → get owners n.0 ≡ Some owner → IsToldBy (steps_of lists n.0) owner
         → (owner.level ≡ Serializable → IsReplayed S (view M owner) step) → (owner.level ≡ ReadCommitted → step.answer ≡ (alone S (view M owner) step.op).answer)
         → Listed S start M (insert owners n.0 (stepped step owner)) (record { steps = insert lists.steps n.0 (steps_of lists n.0 ++ step ∷ []); history = lists.history; trace = lists.trace ++ traced lists n owner step ∷ [] })

@@ -1,5 +1,5 @@
 -- Truth values.
-use Rattle.std.proofs.Common.{◌≡◌, Bool, true, false, not, ◌&&◌, refl, sym, inl, inr}
+use Rattle.std.proofs.Common.{◌≡◌, Bool, true, false, ◌&&◌, refl, sym, inl, inr}
 use Rattle.std.specs.Prelude.{◌||◌, ◌⊎◌}
 
 pub unlike : {A : Type 0} → false ≡ true → A
@@ -35,11 +35,3 @@ or_no_left false b e = refl
 pub or_no_right : (a b : Bool) → (a || b) ≡ false → b ≡ false
 or_no_right true b e = unlike (sym e)
 or_no_right false b e = e
-
-pub not_false : (b : Bool) → not b ≡ false → b ≡ true
-not_false true e = refl
-not_false false e = unlike (sym e)
-
-pub true_or_false : (b : Bool) → (b ≡ true) ⊎ (b ≡ false)
-true_or_false true = inl refl
-true_or_false false = inr refl

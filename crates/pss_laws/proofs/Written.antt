@@ -73,9 +73,6 @@ module _ {A : Type 0} where
       swept false false never = refl
 
 module _ {A B : Type 0} where
-  pub each_one : (f : ℕ → A → B) (k : ℕ) (x : A) → each f (written ((k, x) ∷ [])) ≡ written ((k, f k x) ∷ [])
-  each_one f k x = ap (λ (es : List (ℕ × A)). from_entries {R = nat_cmp} (map (λ e. (e.0, f e.0 e.1)) es)) (entries_written ((k, x) ∷ []) tt) ∙ from_entries_written ((k, f k x) ∷ []) tt (one_entry k (f k x))
-
   pub each_two : (f : ℕ → A → B) (x y : A) → each f (written ((1, x) ∷ (2, y) ∷ [])) ≡ written ((1, f 1 x) ∷ (2, f 2 y) ∷ [])
   each_two f x y =
       ap (λ (es : List (ℕ × A)). from_entries {R = nat_cmp} (map (λ e. (e.0, f e.0 e.1)) es)) (entries_written ((1, x) ∷ (2, y) ∷ []) tt)

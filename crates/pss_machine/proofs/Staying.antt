@@ -38,7 +38,7 @@ use Rattle.pss_machine.proofs.Growing.{Keeps, keeps_if, keeps_count, keeps_stand
 use Rattle.pss_machine.proofs.Numbering.{PairedIn, run_paired}
 use Rattle.pss_machine.proofs.Attached.{AttachesNone, same_number, is_found, is_named, named_attaches, found_attaches}
 use Rattle.pss_machine.proofs.Acting.{Known, IsStepIn, decision_seen}
-use Rattle.pss_machine.proofs.Attaching.{seated_at, none_there, NoneMore, in_session, detached_none}
+use Rattle.pss_machine.proofs.Attaching.{seated_at, none_there, NoneMore, in_session}
 use Rattle.pss_machine.proofs.Logic.{none_some, same_some, true_false}
 
 -- ---- by what entries are attached
@@ -105,9 +105,6 @@ held_none k s copies none t n e = by (same_or_apart t s.0)
         ap (λ t. seated_at k.copies t n) same ∙ none n (sym (ap (λ o. attached_in (unwrap_or o no_copies) n) (ap (get (insert k.copies s.0 copies)) same ∙ insert_here k.copies s.0 copies)) ∙ e)
     by (inr apart) = sym (ap (λ o. attached_in (unwrap_or o no_copies) n) (insert_apart k.copies s.0 copies t apart)) ∙ e
 
-settled_none : (k : Kept) (n : OwnerNo) (s : ℕ) → NoneMore k.copies (settled k n).copies s
-settled_none k n s = of_given (λ (j : Kept). NoneMore k.copies j.copies s) (get k.owners n.0) k _ (λ m e. e) (λ owner there. detached_none k.owners k.sessions (is_settled n (net k.catalog owner)) k.copies s)
-
 -- ---- the entries of a step's session
 
 found_map : (f : Entry → Entry) → Keeps f → (b : Bool) (a : PlainAnswer) (c : Copies) (n : ℕ) → is_found b a (record { last = c.last; entries = map f c.entries }) n ≡ is_found b a c n
@@ -142,14 +139,6 @@ kept_in test body c n = given (entry_numbered c n) false (λ e. is_attached e &&
 and_true : (b : Bool) → (b && true) ≡ b
 and_true true = refl
 and_true false = refl
-
--- by a test that none passes all stay
-kept_all : (body : Pid → Body) (c : Copies) (n : ℕ) → kept_in (λ x. false) body c n ≡ attached_in c n
-kept_all body c n = by (entry_numbered c n)
-  where
-    by : (o : Option Entry) → given o false (λ e. is_attached e && true) ≡ given o false is_attached
-    by None = refl
-    by (Some e) = and_true (is_attached e)
 
 detached_keeps : (body : Pid → Body) (test : Body → Bool) (c : Copies) (n : ℕ) → attached_in (detached_from body test c) n ≡ kept_in test body c n
 detached_keeps body test c n =

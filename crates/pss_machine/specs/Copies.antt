@@ -132,26 +132,8 @@ bodies = distinct same_body
 abbrev pub body_count : List Body → Body → ℕ
 body_count all body = length (filter (same_body body) all)
 
--- the values that a session has kept of an object
-abbrev pub kept_values : Copies → Pid → Option (List PlainValue)
-kept_values copies pid = given (entry_for copies pid) None (λ e. of_stand e.stand)
-  where
-    of_stand : Stand → Option (List PlainValue)
-    of_stand Loose = None
-    of_stand Shared = None
-    of_stand (Copied values) = Some values
-
 abbrev pub values_at : Catalog → Pid → Option (List PlainValue)
 values_at M pid = given (object_of M pid) None (λ object. Some object.values)
-
--- the record of a body
-abbrev pub body_values : Catalog → Owners → AllCopies → Body → Option (List PlainValue)
-body_values M owners all body = by_view body.view
-  where
-    by_view : View → Option (List PlainValue)
-    by_view Committed = values_at M body.pid
-    by_view (Own n) = given (get owners n.0) None (λ owner. values_at (view M owner) body.pid)
-    by_view (Kept s) = given (get all s.0) None (λ copies. kept_values copies body.pid)
 
 -- ---- attaching and detaching
 

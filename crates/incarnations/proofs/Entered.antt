@@ -1,6 +1,6 @@
 -- What is stored after an entry came.
 use Rattle.std.proofs.Common.{ℕ, ◌≡◌, ◌≢◌, ◌⊎◌, inl, inr, ⊎_elim, ◌<◌, ◌≤◌, ◌+◌, [], ◌∷◌, Bool, true, false, Option, Some, None, IsSome, refl, sym, ap, ◌∙◌, subst, arith}
-use Rattle.std.specs.Prelude.{IsSomeAnd, MatchOption, length}
+use Rattle.std.specs.Prelude.{IsSomeAnd, length}
 use Rattle.std.specs.Option.{option_map}
 use Rattle.std.specs.FinMap.{FinMap, get, insert, remove}
 use Rattle.pss_base.specs.declared.session.SessionNo.{SessionNo}
@@ -22,7 +22,7 @@ use Rattle.incarnations.proofs.Maps.{no_value, one_value, same_or_apart, insert_
 use Rattle.incarnations.proofs.Keys.{slot_key}
 use Rattle.incarnations.proofs.Seats.{node_key, seats_alike, seats_kept}
 use Rattle.incarnations.proofs.Named.{apart_less}
-use Rattle.incarnations.specs.Meaning.{Meaning, HasNoEntry, IsNew, IsAgain, IsObtained, entry_at}
+use Rattle.incarnations.specs.Meaning.{HasNoEntry, IsNew}
 use Rattle.incarnations.specs.Keys.{session_cmp, object_cmp}
 use Rattle.incarnations.specs.Stock.{pid_at, number_at}
 use Rattle.incarnations.proofs.Maps.{at_same, count_new}
@@ -36,7 +36,7 @@ use Rattle.std.proofs.lemmas.Bool.{eq-eqb}
 use Rattle.std.proofs.lemmas.List.{length-append}
 use Rattle.link_pool.proofs.NodeLists.{without-absent}
 use Rattle.link_pool.proofs.RingChanges.{row_stays-inserted, col_stays-inserted, row_stays-unlinked, col_stays-unlinked, seat-inserted, col_list-inserted, col_list-inserted_other, col_list-unlinked, col_length-unlinked}
-use Rattle.incarnations.proofs.Stood.{pool_sound, pool_alike}
+use Rattle.incarnations.proofs.Stood.{pool_alike}
 use Rattle.incarnations.proofs.Sets.{has_map, plain, entry_is}
 
 abbrev pub slot : SessionNo → ℕ → Slot
@@ -74,9 +74,6 @@ module _ (k : Stock) (sound : IsSound k) (s : SessionNo) (home : SessionRecord) 
 
     pub home_col : IsSome (get q.cols home.col)
     home_col = subst (λ t. IsSome (get t home.col)) (sym c_is) (sound.cols.there s home.col (ap (option_map (λ z. z.col)) home_is))
-
-    pub room_sound : IsSound (record { pool = q; sessions = k.sessions; entries = k.entries; objects = k.objects; bodies = k.bodies; attached = k.attached })
-    room_sound = pool_sound k sound q n_is c_is (λ a r h there. subst (λ t. IsSome (get t r)) (sym r_is) there) rings_q
 
     module _ (node : Node) (new : get q.nodes node ≡ None) (p : Pool Slot) (p_is : p ≡ inserted q node (record { row = home.row; col = home.col; item = x })) (rings : AreRings p) where
       abbrev seat : Seat Slot
@@ -233,21 +230,3 @@ module _ (k : Stock) (sound : IsSound k) (s : SessionNo) (home : SessionRecord) 
 
         pub undone_is : meaning_of (record { pool = r; sessions = k.sessions; entries = after; objects = objects; bodies = k.bodies; attached = k.attached }) ≡ meaning_of k
         undone_is = λ i. record { lasts = (meaning_of k).lasts; entries = plain (is i); bodies = (meaning_of k).bodies }
-
--- the next number names no entry yet
-pub obtained_new : (k : Stock) → IsSound k → (s : SessionNo) (pid : Pid) (m new : Meaning) (n : ℕ) → meaning_of k ≡ m → IsNew m new s pid n → IsObtained m new s pid n
-obtained_new k sound s pid m new n view is = subst (λ o. MatchOption o (IsNew m new s pid n) (IsAgain m new s pid n)) (sym none) is
-  where
-    high : (last : ℕ) → n ≡ last + 1 → IsSomeAnd (Some last) (λ l. (0 < n) × (n ≤ l)) → ⊥
-    high last e h = absurd (omega (arith, e, h.1))
-
-    over : (o : Option ℕ) → IsSomeAnd o (λ last. n ≡ last + 1) → IsSomeAnd o (λ l. (0 < n) × (n ≤ l)) → ⊥
-    over None p q = p
-    over (Some last) p q = high last p q
-
-    by : (o : Option Entry) → entry_at m s n ≡ o → o ≡ None
-    by None h = refl
-    by (Some e) h = absurd (over (get m.lasts s) is.next (subst (λ (z : Meaning). IsSomeAnd (get z.lasts s) (λ l. (0 < n) × (n ≤ l))) view (sound.numbers.numbers (slot s n) e (ap (λ (z : Meaning). entry_at z s n) view ∙ h))))
-
-    none : entry_at m s n ≡ None
-    none = by (entry_at m s n) refl

@@ -239,10 +239,6 @@ leaves_alike f g a b same l = record { entries = λ x. l.entries x ∙ by x (get
     by x None = refl
     by x (Some e) = same x e
 
-pub and_true : (t : Bool) → (t && true) ≡ t
-and_true true = refl
-and_true false = refl
-
 -- ---- the session's entry for an object
 
 parts : (s t : Bool) → (s && t) ≡ true → (s ≡ true) × (t ≡ true)

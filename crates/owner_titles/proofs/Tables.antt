@@ -3,10 +3,7 @@ use Rattle.std.proofs.Common.{ℕ, ◌≡◌, Option, Some, None, Bool, ◌==◌
 use Rattle.std.specs.Prelude.{IsSome, IsSomeAnd}
 use Rattle.std.specs.Ordering.{nat_cmp}
 use Rattle.std.specs.Cmp.{nat_cmp_total}
-use Rattle.std.specs.FinMap.{FinMap, nat_cmp-IsAntisymmetric, get, insert}
-use Rattle.type_layout.specs.Schemas.{given}
-use Rattle.pss_machine.specs.Maps.{with_at}
-use Rattle.incarnations.specs.Maps.{IsWith}
+use Rattle.std.specs.FinMap.{nat_cmp-IsAntisymmetric}
 use Rattle.incarnations.proofs.Maps.{IsKey}
 
 pub nat_key : IsKey nat_cmp
@@ -22,12 +19,3 @@ is_there P (Some x) h = search rules
 
 pub passes : {A : Type 0} (P : A → Type 0) (o : Option A) (x : A) → o ≡ Some x → IsSomeAnd o P → P x
 passes P o x is h = subst (λ z. IsSomeAnd z P) is h
-
-module _ {A : Type 0} (m : FinMap nat_cmp A) (k : ℕ) (f : A → A) where
-  -- another thing stands in a place
-  pub set_is : (n : FinMap nat_cmp A) → IsWith m n k f → n ≡ with_at m k f
-  set_is n is = by (get m k) is
-    where
-      by : (o : Option A) → IsSomeAnd o (λ x. n ≡ insert m k (f x)) → n ≡ given o m (λ x. insert m k (f x))
-      by None h = absurd h
-      by (Some x) h = h

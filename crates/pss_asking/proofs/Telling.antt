@@ -1,7 +1,6 @@
 -- How what is asked is told step by step.
-use Rattle.std.proofs.Common.{◌≡◌, ℕ, List, Option, Some, None, refl, ap, subst, ◌∙◌}
-use Rattle.std.specs.Prelude.{Result, Ok, Err, ok_or}
-use Rattle.pss_base.specs.declared.pid.Pid.{Pid}
+use Rattle.std.proofs.Common.{◌≡◌, ℕ, List, Option, Some, None, ap, subst, ◌∙◌}
+use Rattle.std.specs.Prelude.{Result, Ok, ok_or}
 use Rattle.type_layout.specs.declared.home.HomeNo.{HomeNo}
 use Rattle.type_layout.specs.declared.schema.Factory.{Factory}
 use Rattle.type_layout.specs.declared.schema.Schema.{Schema}
@@ -12,29 +11,13 @@ use Rattle.type_layout.specs.Values.{IsRecord}
 use Rattle.pss_machine.specs.declared.command.Rest.{Rest}
 use Rattle.pss_machine.specs.declared.reply.Reply.{Reply}
 use Rattle.pss_machine.specs.declared.reply.Reply.TheVariants as reply
-use Rattle.pss_machine.specs.Copies.{Copies, Entry, entry_numbered}
 use Rattle.pss_machine.specs.Values.{types_of}
 use Rattle.pss_machine.specs.Names.{factory_named}
 use Rattle.pss_machine.specs.Sessions.{Session}
-use Rattle.pss_machine.specs.Asking.{◌>>=◌, read_home, read_entry, read_values, making}
+use Rattle.pss_machine.specs.Asking.{◌>>=◌, read_home, read_values, making}
 use Rattle.pss_laws.proofs.Coming.{Okay}
 use Rattle.pss_laws.proofs.Records.{AllOf, all_record, read_fits}
 use Rattle.pss_asking.specs.Given.{members_given, making_of}
-use Rattle.pss_asking.specs.Telling.{pid_in}
-
-pub then_ok : {A B : Type 0} (r : Result A Reply) (f : A → Result B Reply) (x : A) → r ≡ Ok x → (r >>= f) ≡ f x
-then_ok r f x is = ap (λ q. q >>= f) is
-
-pub then_err : {A B : Type 0} (r : Result A Reply) (f : A → Result B Reply) (why : Reply) → r ≡ Err why → (r >>= f) ≡ Err why
-then_err r f why is = ap (λ q. q >>= f) is
-
--- what asks only for an entry's object
-pub entry_then : {B : Type 0} (copies : Copies) (n : ℕ) (f : Pid → Result B Reply) → (read_entry copies n >>= λ e. f e.pid) ≡ (pid_in copies n >>= f)
-entry_then copies n f = by (entry_numbered copies n)
-  where
-    by : (o : Option Entry) → (ok_or o reply.NoEntry >>= λ e. f e.pid) ≡ ((ok_or o reply.NoEntry >>= λ e. Ok e.pid) >>= f)
-    by None = refl
-    by (Some e) = refl
 
 -- values that were read for a key are of its members' types
 pub key_fits : (S : Schema) (k : KeyNo) (rest : Rest) (vs : List PlainValue) → read_values (types_of (key_members S k)) rest ≡ Ok vs → IsRecord (key_members S k) vs

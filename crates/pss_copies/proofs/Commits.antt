@@ -112,9 +112,6 @@ module _ (k : Kept) (old new : Parts) (mid : Meaning) (s : SessionNo) (n : Owner
   left : Leaves (loosened (λ x e. on_committed pids x e || both (of_session s) (in_view (Own n)) x e)) old.copies new.copies
   left = leaves_then (on_committed pids) (both (of_session s) (in_view (Own n))) old.copies mid new.copies first second
 
-  abbrev g : Slot → Entry → Bool
-  g x e = on_committed pids x e || both (of_session s) (in_view (Own n)) x e
-
   of_it : owner_of may.session ≡ Some n
   of_it = ap (λ q. owner_of (record { name = may.session.name; kind = q; access = may.session.access; association = may.session.association })) may.kind
 
@@ -134,10 +131,6 @@ module _ (k : Kept) (old new : Parts) (mid : Meaning) (s : SessionNo) (n : Owner
           by : (q : Kind) → owner_of (record { name = session.name; kind = q; access = session.access; association = session.association }) ≡ Some n → is_basic (record { name = session.name; kind = q; access = session.access; association = session.association }) ≡ true → q ≡ Basic n
           by (Basic m) of kind = ap Basic (same_some of)
           by Transactional of kind = absurd (true_false kind refl)
-
-  or_false : (b : Bool) → (b || false) ≡ b
-  or_false true = refl
-  or_false false = refl
 
   none_own : (x : Slot) (e : Entry) (m : OwnerNo) → get old.copies.entries x ≡ Some e → e.view ≡ Some (Own m) → (on_committed pids x e || both (of_session s) (in_view (Own n)) x e) ≡ (m.0 == n.0)
   none_own x e m was on = ap (λ b. b || both (of_session s) (in_view (Own n)) x e) (on_committed_own pids x e m on) ∙ ap (λ o. (x.session.0 == s.0) && given o false (same_view (Own n))) on ∙ by (m.0 == n.0) refl

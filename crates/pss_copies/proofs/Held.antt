@@ -176,14 +176,6 @@ release_attends old new s n are stays released k at = subst (λ o. MatchOption o
     by None is same = λ i. record { sessions = stays i; copies = same i }
     by (Some e) is gone = one e is gone
 
--- the count that is told
-pub told_count : (m : Meaning) (all : AllCopies) → AreCopies m → AreTold m all → (s : SessionNo) (n : ℕ) (f : ℕ → ℕ) → option_map (λ e. f e.count) (entry_at m s n) ≡ option_map (λ e. f e.count) (entry_numbered (unwrap_or (get all s.0) no_copies) n)
-told_count m all are told s n f = by (entry_at m s n) ∙ ap (option_map (λ e. f e.count)) (sym (told_at m all are told s n))
-  where
-    by : (o : Option Entry) → option_map (λ e. f e.count) o ≡ option_map (λ e. f e.count) (option_map (entry_told m n) o)
-    by None = refl
-    by (Some e) = refl
-
 -- ---- all entries of a session go, or leave its own copies
 
 one_session : (t s : SessionNo) (e : Entry) (n : ℕ) → (t.0 ≡ s.0 → ⊥) → of_session s (slot t n) e ≡ false

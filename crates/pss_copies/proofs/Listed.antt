@@ -27,10 +27,6 @@ abbrev pub EachOf : {A : Type 0} → (A → Type 0) → List A → Type 0
 EachOf P [] = Unit {0}
 EachOf P (x ∷ xs) = P x × EachOf P xs
 
-pub each_more : {A : Type 0} (P Q : A → Type 0) → ((x : A) → P x → Q x) → (xs : List A) → EachOf P xs → EachOf Q xs
-each_more P Q more [] each = tt
-each_more P Q more (x ∷ xs) each = (more x each.0, each_more P Q more xs each.1)
-
 pub each_filtered : {A : Type 0} (P : A → Type 0) (t : A → Bool) (xs : List A) → EachOf P xs → EachOf (λ x. P x × (t x ≡ true)) (filter t xs)
 each_filtered P t [] each = tt
 each_filtered P t (x ∷ xs) each = by (t x) refl (each_filtered P t xs each.1)

@@ -78,9 +78,6 @@ module _ (k : Kept) (a : Parts) (homes : HomesAgree k) (are : AreCopies a.copies
     pub only_for : (x : Slot) (e : Entry) (v : View) → get a.copies.entries x ≡ Some e → e.view ≡ Some v → e.pid.serial ≡ p.serial → e.pid ≡ p
     only_for x e v was on same = (let home : e.pid.home ≡ p.home = home_of_entry x e v was on ∙ ap homes.home same ∙ sym p_home in λ i. record { home = home i; serial = same i })
 
-    now : Owner
-    now = stepped step changes.owner
-
     owner_now : get (owners_after k n step) n.0 ≡ Some (stepped step changes.owner)
     owner_now = with_here k.owners n.0 (stepped step) ∙ ap (option_map (stepped step)) changes.there
 

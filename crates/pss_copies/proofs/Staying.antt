@@ -29,9 +29,6 @@ module _ (k : Kept) (a : Parts) (s : SessionNo) (n : ℕ) (f : PlainEntry) (are 
       by None was told = absurd (none_some (sym told))
       by (Some e) was told = copies_there a.copies k.copies are at.seats.told s n e was
 
-  abbrev seat : PlainEntry → PlainEntry
-  seat = attached k.catalog (seen_in k.owners k.sessions s)
-
   keeps : (y : PlainEntry) → (attached k.catalog (seen_in k.owners k.sessions s) y).number ≡ y.number
   keeps y = by (is_attached y)
     where

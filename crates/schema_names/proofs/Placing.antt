@@ -63,15 +63,6 @@ looked f xs i (Some a) has is = sym (slice_get-get_or xs i (f a) (ltb-true i (le
 -- ---- what is found at a home
 
 module _ (S : Schema) (h : HomeNo) (word : List ℕ) where
-  no_home : (o : Option Home) → o ≡ None → (P : Option Home → Type 0) → P None → P o
-  no_home o e P p = subst P (sym e) p
-
-  pub no_member : home_at S h ≡ None → member_named S h word ≡ None
-  no_member e = ap (λ (o : Option Home). position (λ member. bytes_eq word member.name) (given o [] (λ home. home.layout.members))) e
-
-  pub no_key : home_at S h ≡ None → key_named S h word ≡ None
-  no_key e = no_home (home_at S h) e (λ o. find (λ k. given (slice_get S.keys k.0) false (λ key. bytes_eq word key.name)) (given o [] (λ home. home.keys)) ≡ None) refl
-
   module _ (names : HomeNames) where
     pub the_member : AreNamesAt S h names → value_at names.members.entries word ≡ member_named S h word
     the_member = by (home_at S h)

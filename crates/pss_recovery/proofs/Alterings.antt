@@ -5,9 +5,8 @@ use Rattle.type_layout.specs.declared.home.HomeNo.{HomeNo}
 use Rattle.type_layout.specs.declared.key.KeyNo.{KeyNo}
 use Rattle.type_layout.specs.declared.schema.Schema.{Schema}
 use Rattle.pss_catalog.specs.Catalog.{Object, object_spelling}
-use Rattle.storage_home.specs.Applied.{AreKeysOf}
+use Rattle.storage_home.specs.Applied.{AreKeysOf, SpellsObject}
 use Rattle.storage_home.specs.Kept.{IsSound}
-use Rattle.storage_home.specs.inner.Steps.{SpellsObject}
 
 -- an object with this home and these octets
 pub record IsThere (S : Schema) (home : HomeNo) (octets : List ℕ) (found : Option Object) : Type 0 where

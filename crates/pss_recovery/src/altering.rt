@@ -7,34 +7,14 @@ ghost use Rattle.std.specs.declared.option.Option.{Option};
 ghost use Rattle.pss_base.specs.declared.damage.DamageKind.{DamageKind as Kind};
 ghost use Rattle.pss_recovery.specs.declared.checking.RowStop.TheVariants.{Wrong};
 ghost use Rattle.storage_home.specs.Applied.{AreKeysOf};
-ghost use Rattle.storage_home.specs.inner.Steps.{SpellsObject, object_of};
 ghost use Rattle.pss_recovery.specs.inner.Altering.{HasNewKeys, HasState, IsKeptSound, MayAlter};
 
-use crate::checking::{RowStop, check_row, keys_at};
+use crate::checking::{RowStop, check_row};
 use crate::layout::LONGEST_RECORD;
-use cdr_codec::key_of_octets;
 use pss_base::{NoMemory, Put};
 use std::alloc::Global;
-use storage_home::{Homes, KeyValues};
+use storage_home::{Homes, KeyValues, keys_of_octets};
 use type_layout::{HomeNo, Schema};
-
-// The keys of the record that these octets spell.
-fn keys_of_octets(
-    alloc: Global,
-    schema: &Schema,
-    home: HomeNo,
-    bytes: &[u8],
-) -> Result<KeyValues, NoMemory>
-    requires sound { IsSoundSchema schema.now }
-    requires spells { SpellsObject schema.now home bytes.now }
-    ensures { IfOk result (λ pairs. (s : SpellsObject schema.now home bytes.now) → AreKeysOf schema.now (Some (object_of s)) pairs) }
-{
-    let mut values = KeyValues::new(alloc);
-    for key in keys_at(schema, home) {
-        values.push((*key, key_of_octets(alloc, schema, *key, home, bytes)?))?;
-    }
-    Ok(values)
-}
 
 /// The keys of the object that a change alters, no keys where it makes a new one; none where the change is of another
 /// home than the object that is there, or removes one that is not there.

@@ -1,5 +1,5 @@
 // The shape of a store and a row of its pages, each by itself.
-ghost use Rattle.std.specs.Prelude.{◌≡◌, ◌≤◌, Err, IfErr, IfOk, IsSome, OnOk, Some, length};
+ghost use Rattle.std.specs.Prelude.{◌≡◌, Err, IfErr, IfOk, IsSome, OnOk, Some};
 ghost use Rattle.pss_base.specs.declared.damage.DamageKind.{DamageKind as Kind};
 ghost use Rattle.pss_base.specs.declared.damage.DamageKind.TheVariants as kind;
 ghost use Rattle.type_layout.specs.ShapeText.{shape_text};
@@ -8,7 +8,6 @@ ghost use Rattle.type_layout.specs.Spelling.{record_spelling};
 ghost use Rattle.type_layout.specs.Values.{IsRecord};
 ghost use Rattle.storage_home.specs.Applied.{AreKeysOf};
 ghost use Rattle.storage_home.specs.Kept.{IsSound};
-ghost use Rattle.storage_home.specs.inner.Steps.{keys_in};
 ghost use Rattle.pss_recovery.specs.declared.checking.RowStop.TheVariants.{Wrong};
 ghost use Rattle.pss_recovery.specs.Loading.{IsStored, RefersBelow};
 ghost use Rattle.pss_recovery.specs.inner.Checks.{AreNoRecord, IsShapeRefusal, IsWrongAlone, object_of};
@@ -20,7 +19,7 @@ use cdr_codec::{RecordFault, decode};
 use pss_base::{DamageKind, NoMemory, Put};
 use pss_catalog::home_at;
 use std::alloc::Global;
-use storage_home::KeyValues;
+use storage_home::{KeyValues, keys_at};
 use type_layout::{Home, HomeNo, KeyNo, Record, Schema, key_of, shape_of};
 
 /// Tests that the shape of a store is that of the schema.
@@ -109,16 +108,6 @@ fn keys_of(
         keys.push((*key, key_of(alloc, schema, *key, values)?))?;
     }
     Ok(keys)
-}
-
-/// The keys of a home, none where it is not there.
-pub fn keys_at(schema: &Schema, home: HomeNo) -> &[KeyNo]
-    ensures { result.now ≡ keys_in schema.now home }
-{
-    match home_at(schema, home) {
-        Some(found) => found.keys.as_slice(),
-        None => &[],
-    }
 }
 
 /// Tests a row by itself, in this order: its home, its record, what the record refers to.

@@ -16,8 +16,7 @@ use Rattle.type_layout.specs.Spelling.{record_spelling}
 use Rattle.type_layout.specs.Sound.{IsSoundSchema, are_distinct, key_name}
 use Rattle.cdr_codec.specs.Spelled.{SpellsRecordWith}
 use Rattle.storage_home.specs.Indexes.{lists, IsOnce}
-use Rattle.storage_home.specs.Applied.{AreKeysOf}
-use Rattle.storage_home.specs.inner.Steps.{SpellsObject, keys_in}
+use Rattle.storage_home.specs.Applied.{AreKeysOf, SpellsObject, keys_in}
 use Rattle.storage_home.proofs.Places.{by_test, same_number}
 use Rattle.storage_home.proofs.Holding.{same_bytes_turned}
 

@@ -19,8 +19,8 @@ use Rattle.storage_home.specs.Extents.{is_held_in}
 use Rattle.storage_home.specs.Counts.{bases_in, number_at}
 use Rattle.storage_home.specs.Indexes.{found_at, AreKeysReserved}
 use Rattle.storage_home.specs.Kept.{most, IsSound, IsKept, IsReserved, stored, is_of, is_object_of}
-use Rattle.storage_home.specs.Applied.{IsState, AreKeysOf, AreRows, MayLoad}
-use Rattle.storage_home.specs.inner.Steps.{AreApart, AreFresh, MayPutObject, MayLoadOne, MayLoadAll, SpellsObject, object_of}
+use Rattle.storage_home.specs.Applied.{IsState, AreKeysOf, AreRows, MayLoad, SpellsObject, object_of}
+use Rattle.storage_home.specs.inner.Steps.{AreApart, AreFresh, MayPutObject, MayLoadOne, MayLoadAll}
 use Rattle.storage_home.proofs.Places.{no_items}
 use Rattle.storage_home.proofs.Taking.{some_there}
 use Rattle.storage_home.proofs.Stepping.{NoneAt, fresh_where_none, grows_heavier, unique_before}

@@ -6,6 +6,7 @@ use Rattle.type_layout.specs.declared.home.HomeNo.{HomeNo}
 use Rattle.type_layout.specs.declared.key.KeyNo.{KeyNo}
 use Rattle.type_layout.specs.declared.schema.Schema.{Schema}
 use Rattle.type_layout.specs.Schemas.{given, home_at}
+use Rattle.type_layout.specs.Types.{PlainValue}
 use Rattle.pss_catalog.specs.Catalog.{Object, Catalog, holds, object_spelling, total, IsUnique}
 use Rattle.pss_catalog.specs.Changes.{Change as Step, over}
 use Rattle.storage_home.specs.declared.change.Change.{Change}
@@ -29,6 +30,19 @@ IsStep S put step = (put.serial ≡ step.serial) × IsState S put.home put.bytes
 pub record AreKeysOf (S : Schema) (object : Option Object) (pairs : List (KeyNo × List ℕ)) : Type 0 where
   pub listed : (key : KeyNo) (bytes : List ℕ) → lists pairs key.0 bytes ≡ given object false (holds S key bytes)
   pub once : IsOnce pairs
+
+-- octets that spell the record of an object of a home
+pub record SpellsObject (S : Schema) (home : HomeNo) (bytes : List ℕ) : Type 0 where
+  pub values : List PlainValue
+  pub is_sound : IsSound S (record { home = home; values = values })
+  pub spelled : bytes ≡ object_spelling S (record { home = home; values = values })
+
+abbrev pub object_of : {S : Schema} {home : HomeNo} {bytes : List ℕ} → SpellsObject S home bytes → Object
+object_of {home = home} spells = record { home = home; values = spells.values }
+
+-- the keys of a home, none where it is not there
+abbrev pub keys_in : Schema → HomeNo → List KeyNo
+keys_in S home = given (home_at S home) [] (λ h. h.keys)
 
 -- a change says what becomes of the object with its serial, and which keys this one holds before and after
 pub record IsChange (S : Schema) (M : Catalog) (change : Change) (step : Step) : Type 0 where

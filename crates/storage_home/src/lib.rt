@@ -12,6 +12,7 @@ mod counts;
 mod extents;
 mod homes;
 pub mod indexes;
+mod keys;
 mod listing;
 mod loading;
 mod marks;
@@ -21,3 +22,4 @@ mod rows;
 
 pub use change::{Change, Changes, KeyValues};
 pub use homes::Homes;
+pub use keys::{keys_at, keys_of_octets};

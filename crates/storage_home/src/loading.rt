@@ -6,19 +6,18 @@ ghost use Rattle.type_layout.specs.Sound.{IsSoundSchema};
 ghost use Rattle.pss_catalog.specs.Catalog.{Catalog};
 ghost use Rattle.pss_catalog.specs.Changes.{over};
 ghost use Rattle.storage_home.specs.Kept.{IsKept};
-ghost use Rattle.storage_home.specs.Applied.{MayLoad, AreKeysOf};
-ghost use Rattle.storage_home.specs.inner.Steps.{MayLoadAll, AnyLoadAll, MayLoadOne, SpellsObject, object_of, keys_in};
+ghost use Rattle.storage_home.specs.Applied.{MayLoad};
+ghost use Rattle.storage_home.specs.inner.Steps.{MayLoadAll, AnyLoadAll, MayLoadOne};
 ghost use Rattle.storage_home.specs.Extents.{is_held_in};
 
-use crate::change::KeyValues;
 use crate::extents::Extent;
 use crate::homes::Homes;
+use crate::keys::keys_of_octets;
 use crate::parts::Parts;
 use crate::rows::{self, Stored};
 use crate::{counts, indexes};
-use cdr_codec::key_of_octets;
 use pss_base::{Bytes, NoMemory, Put, Puts};
-use pss_catalog::{Families, home_at};
+use pss_catalog::Families;
 use std::alloc::Global;
 use std::collections::BTreeMap;
 use type_layout::{Home, HomeNo, KeyNo, Schema};
@@ -75,7 +74,7 @@ impl Parts {
         requires { MayLoadOne schema.now self.old serial object }
         ensures { OnOk result ((m : MayLoadOne schema.now self.old serial object) → IsKept schema.now (insert m.catalog serial m.object) self.new) }
     {
-        let keys = keys_of(self.alloc, schema, object.home, object.bytes.as_slice())?;
+        let keys = keys_of_octets(self.alloc, schema, object.home, object.bytes.as_slice())?;
         self.reserve_serial(object.home, serial)?;
         self.reserve_keys(keys.as_slice())?;
         self.put_object(serial, object, keys.as_slice());
@@ -111,31 +110,4 @@ fn no_extents(alloc: Global, count: usize) -> Result<Vec<Extent>, NoMemory>
         extents.push(BTreeMap::new(alloc))?;
     }
     Ok(extents)
-}
-
-// The keys of the record that these octets spell.
-fn keys_of(
-    alloc: Global,
-    schema: &Schema,
-    home: HomeNo,
-    bytes: &[u8],
-) -> Result<KeyValues, NoMemory>
-    requires sound { IsSoundSchema schema.now }
-    requires spells { SpellsObject schema.now home bytes.now }
-    ensures { IfOk result (λ pairs. (s : SpellsObject schema.now home bytes.now) → AreKeysOf schema.now (Some (object_of s)) pairs) }
-{
-    let mut values = KeyValues::new(alloc);
-    for key in keys_at(schema, home) {
-        values.push((*key, key_of_octets(alloc, schema, *key, home, bytes)?))?;
-    }
-    Ok(values)
-}
-
-fn keys_at(schema: &Schema, home: HomeNo) -> &[KeyNo]
-    ensures { result.now ≡ keys_in schema.now home }
-{
-    match home_at(schema, home) {
-        Some(found) => found.keys.as_slice(),
-        None => &[],
-    }
 }

@@ -5,9 +5,7 @@ use Rattle.pss_base.specs.declared.put.Put.{Put}
 use Rattle.type_layout.specs.declared.home.HomeNo.{HomeNo}
 use Rattle.type_layout.specs.declared.key.KeyNo.{KeyNo}
 use Rattle.type_layout.specs.declared.schema.Schema.{Schema}
-use Rattle.type_layout.specs.Schemas.{given, home_at}
-use Rattle.type_layout.specs.Types.{PlainValue}
-use Rattle.pss_catalog.specs.Catalog.{Object, Catalog, object_spelling, total, IsUnique}
+use Rattle.pss_catalog.specs.Catalog.{Object, Catalog, total, IsUnique}
 use Rattle.pss_catalog.specs.Changes.{Change as Step, over, with_state}
 use Rattle.storage_home.specs.declared.change.Change.{Change}
 use Rattle.storage_home.specs.declared.parts.Parts.{Parts}
@@ -111,19 +109,6 @@ abbrev pub AnyPutAll : Parts → List Change → Type 0
 AnyPutAll homes changes = (S : Schema) × (F : Catalog) × MayPutAll S F homes changes
 
 -- ---- rows, one after the other
-
--- octets that spell the record of an object of a home
-pub record SpellsObject (S : Schema) (home : HomeNo) (bytes : List ℕ) : Type 0 where
-  pub values : List PlainValue
-  pub is_sound : IsSound S (record { home = home; values = values })
-  pub spelled : bytes ≡ object_spelling S (record { home = home; values = values })
-
-abbrev pub object_of : {S : Schema} {home : HomeNo} {bytes : List ℕ} → SpellsObject S home bytes → Object
-object_of {home = home} spells = record { home = home; values = spells.values }
-
--- the keys of a home, none where it is not there
-abbrev pub keys_in : Schema → HomeNo → List KeyNo
-keys_in S home = given (home_at S home) [] (λ h. h.keys)
 
 -- an object may be loaded
 pub record MayLoadOne (S : Schema) (homes : Parts) (serial : ℕ) (row : Stored) : Type 0 where

@@ -5,10 +5,11 @@ ghost use Rattle.pss_disk.specs.Reading.{OnlyReads};
 ghost use Rattle.page_format.specs.Roots.{IsRoot};
 ghost use Rattle.page_format.specs.inner.Heads.{IsHead};
 
-use crate::layout::{AREA, EPOCH, NEXT, OPEN, PAGE_COUNT, ROOT_MAGIC, SHAPE, SHAPE_LENGTH};
+use crate::layout::{AREA, EPOCH, NEXT, PAGE_COUNT, ROOT_MAGIC, SHAPE, SHAPE_LENGTH};
 use crate::number::{read_number4, read_number8};
 use pss_base::DiskFault;
 use pss_disk::Station;
+use redo_journal::OPEN;
 
 /// What stands in a root area in front of the shape.
 #[derive(Clone, Copy)]

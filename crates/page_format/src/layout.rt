@@ -21,12 +21,6 @@
 /// The length of a root area.
 pub const AREA: u64 = 131072;
 
-/// An open gate.
-pub const OPEN: u8 = 0xA5;
-
-/// A gate that was closed.
-pub const CLOSED: u8 = 0;
-
 /// What stands behind the gate of a root.
 pub const ROOT_MAGIC: [u8; 7] = *b"PSSROOT";
 

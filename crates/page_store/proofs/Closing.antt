@@ -15,7 +15,7 @@ use Rattle.page_format.specs.Roots.{Follows, HasRoot, IsRoot, root_magic}
 use Rattle.page_store.specs.Stores.{AllHave, HasStore}
 use Rattle.page_format.specs.Pages.{Entry}
 use Rattle.page_format.specs.declared.root.Root.{Root}
-use Rattle.page_store.specs.inner.Gates.{IsAnywhere}
+use Rattle.page_store.specs.Gates.{IsAnywhere}
 use Rattle.page_format.proofs.Staying.{eight_same, pages_kept, root_kept, slot_inside, stands_same, store_kept}
 
 -- the gate of the root area that is not current

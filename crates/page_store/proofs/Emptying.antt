@@ -12,7 +12,7 @@ use Rattle.redo_journal.specs.Journal.{HasEpoch, IsClosed, IsOpen, journal_start
 use Rattle.page_format.specs.Pages.{Entry}
 use Rattle.page_store.specs.Stores.{AllHave, HasStore, IsEmptied}
 use Rattle.page_format.specs.declared.root.Root.{Root}
-use Rattle.page_store.specs.inner.Gates.{IsAnywhere}
+use Rattle.page_store.specs.Gates.{IsAnywhere}
 use Rattle.page_store.proofs.Closing.{last_of, long_of, store_anywhere, untold}
 use Rattle.page_format.proofs.Staying.{stands_same, store_kept}
 

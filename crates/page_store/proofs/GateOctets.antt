@@ -6,7 +6,7 @@ use Rattle.pss_disk.specs.Moments.{Disk, IsSettled, IsStill, Moment, Through}
 use Rattle.pss_disk.proofs.Images.{untouched_keeps, untouched_start}
 use Rattle.pss_disk.proofs.Passing.{weaker}
 use Rattle.redo_journal.specs.Journal.{IsClosed, IsOpen}
-use Rattle.page_store.specs.inner.Gates.{IsAnywhere}
+use Rattle.page_store.specs.Gates.{IsAnywhere}
 
 -- what is kept everywhere is kept there
 fewer : (S : ℕ → Type 0) (content : Option (List ℕ)) (disk : Option Disk) → AllAgree IsAnywhere content disk → AllAgree S content disk
@@ -31,6 +31,10 @@ settled_still a b now later e f h = subst (λ c. IsSettled c later) (sym e) (sub
 pub not_still : (gate : ℕ) (content : Option (List ℕ)) (open_ : Bool) (S : ℕ → Type 0) (before after : List Moment) → IfSome content (λ c. IsTrue open_ ↔ IsOpen c gate) → open_ ≡ true → Through before after (Keeps S content) → IfSome content (λ c. IsClosed c gate) → Through before after (Keeps IsAnywhere content)
 not_still gate None open_ S before after read e h closed = weaker before after (Keeps S None) (Keeps IsAnywhere None) (λ m k. k) h
 not_still gate (Some c) open_ S before after read e h closed = absurd (closed (read.0 e))
+
+pub not_closed : (gate : ℕ) (content : Option (List ℕ)) (open_ : Bool) (X : Type 0) → IfSome content (λ c. IsTrue open_ ↔ IsOpen c gate) → open_ ≡ true → IfSome content (λ c. IsClosed c gate → X)
+not_closed gate None open_ X is e = tt
+not_closed gate (Some c) open_ X is e = λ closed. absurd (closed (is.0 e))
 
 -- moments that came, seen from the content and the moment before
 pub from_before : (S : ℕ → Type 0) (old now : Option (List ℕ)) (before after : List Moment) → now ≡ old → Through before after (Keeps S now) → Through before after (Keeps S old)

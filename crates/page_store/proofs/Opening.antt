@@ -18,7 +18,7 @@ use Rattle.page_format.specs.Pages.{Entry}
 use Rattle.page_format.specs.Places.{area_start, slot_end, slot_start}
 use Rattle.page_store.specs.Stores.{AllHave, HasStore, IsPrepared, IsSwitched}
 use Rattle.page_format.specs.declared.root.Root.{Root}
-use Rattle.page_store.specs.inner.Gates.{IsAnywhere}
+use Rattle.page_store.specs.Gates.{IsAnywhere}
 use Rattle.page_store.proofs.Closing.{last_of, long_of, store_anywhere, untold}
 use Rattle.page_format.proofs.Staying.{pages_kept, root_kept, slot_inside}
 

@@ -1,6 +1,7 @@
 pub mod Checkpoints
 pub mod Kept
 pub mod Placed
+pub mod Gates
 pub mod Stores
 pub mod Switch
 pub mod Touched

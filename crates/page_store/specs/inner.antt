@@ -2,7 +2,6 @@ pub mod Located
 pub mod Repacked
 pub mod SlotTables
 pub mod Planned
-pub mod Gates
 pub mod Laying
 pub mod Switching
 pub mod Lost

@@ -4,19 +4,19 @@ ghost use Rattle.std.specs.Option.{option_map};
 ghost use Rattle.pss_base.specs.Causes.{HasCause};
 ghost use Rattle.pss_disk.specs.Images.{IsQuiet, Keeps};
 ghost use Rattle.pss_disk.specs.Moments.{IsSettled, Through};
-ghost use Rattle.pss_disk.specs.Octets.{disk_end, write};
+ghost use Rattle.pss_disk.specs.Octets.{StaysOutside, disk_end, range_of, write};
 ghost use Rattle.pss_disk.specs.Reading.{OnlyReads};
 ghost use Rattle.redo_journal.specs.Journal.{Holds, IsClosed, IsOpen, Position, journal_start};
 ghost use Rattle.page_format.specs.Pages.{Entry};
 ghost use Rattle.page_format.specs.Places.{area_start};
 ghost use Rattle.page_store.specs.Stores.{AllHave, HasStore, IsEmptied, IsJournal, IsPrepared, IsSwitched};
 ghost use Rattle.page_format.specs.declared.root.Root.{Root};
-ghost use Rattle.page_store.specs.inner.Gates.{IsAnywhere};
+ghost use Rattle.page_store.specs.Gates.{IsAnywhere};
 
-use page_format::layout::{AREA, CLOSED, OPEN};
+use page_format::layout::AREA;
 use pss_base::Failed;
 use pss_disk::{Station, set_gate};
-use redo_journal::JOURNAL_START;
+use redo_journal::{CLOSED, JOURNAL_START, OPEN};
 
 // Whether a gate is open.
 fn is_open<W: Station>(w: &mut W, gate: u64) -> Result<bool, Failed>
@@ -45,12 +45,15 @@ fn make_sure<W: Station>(w: &mut W) -> Result<(), Failed>
     Ok(())
 }
 
-/// Closes a gate where it is open, and makes sure of it. Where it is closed already, nothing is written.
+/// Closes a gate where it is open, and makes sure of it. Where it is closed already, nothing is written. At each moment a crash
+/// leaves all other octets of the content as they are. `Failed`: the gate may be open or closed.
 pub fn close_gate<W: Station>(w: &mut W, gate: u64) -> Result<(), Failed>
     requires within { gate < disk_end }
     requires settled { IsSettled (W.content w.old) (W.now w.old) }
     ensures closed { OnOk result (IfSome (W.content w.new) (λ c. IsClosed c gate)) }
     ensures content { OnOk result ((W.content w.new ≡ W.content w.old) ⊎ (W.content w.new ≡ option_map (write gate (0 ∷ [])) (W.content w.old))) }
+    ensures stays { StaysOutside (range_of gate (0 ∷ [])) (W.content w.old) (W.content w.new) }
+    ensures same { IfSome (W.content w.old) (λ c. IsClosed c gate → W.content w.new ≡ W.content w.old) }
     ensures settled { OnOk result (IsSettled (W.content w.new) (W.now w.new)) }
     ensures images { Through (W.history w.old) (W.history w.new) (Keeps (λ i. i ≢ gate) (W.content w.old)) }
     ensures still { IfSome (W.content w.old) (λ c. IsClosed c gate) → Through (W.history w.old) (W.history w.new) (Keeps IsAnywhere (W.content w.old)) }

@@ -14,6 +14,7 @@ mod small;
 mod stop;
 mod switch;
 
+pub use gates::close_gate;
 pub use page_format::{
     PageFault, Root, RootFault, Slots, a_store_stays, pages_are_one_thing, read_root,
     roots_are_one_thing,

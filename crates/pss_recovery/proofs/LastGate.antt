@@ -1,5 +1,5 @@
 -- The gate that ends a journal is closed.
-use Rattle.std.proofs.Common.{ℕ, ◌≡◌, ◌≢◌, ◌⊎◌, ◌↔◌, inl, inr, ⊎_elim, ◌+◌, ◌-◌, ◌<◌, ◌≤◌, Bool, true, false, IsTrue, List, [], ◌∷◌, length, Option, None, Some, IfSome, refl, sym, ◌∙◌, subst, arith}
+use Rattle.std.proofs.Common.{ℕ, ◌≡◌, ◌≢◌, ◌⊎◌, inl, inr, ⊎_elim, ◌+◌, ◌-◌, ◌<◌, ◌≤◌, true, false, List, [], ◌∷◌, length, Option, None, Some, IfSome, refl, sym, ◌∙◌, subst, arith}
 use Rattle.std.proofs.lemmas.Bool.{cases_eq, true≢false}
 use Rattle.std.proofs.lemmas.Option.{slice_get-get_or}
 use Rattle.std.specs.Int.{to_be_bytes, w64}
@@ -19,7 +19,7 @@ use Rattle.page_format.specs.declared.root.Root.{Root}
 use Rattle.page_format.specs.Laws.{AreSameRoots}
 use Rattle.page_format.specs.Roots.{HasRoot}
 use Rattle.page_store.specs.Stores.{AllHave, HasStore}
-use Rattle.page_store.specs.inner.Gates.{IsAnywhere}
+use Rattle.page_store.specs.Gates.{IsAnywhere}
 use Rattle.page_store.proofs.Closing.{last_of, long_of, store_anywhere}
 use Rattle.page_format.proofs.ExactRoots.{roots_one_thing}
 use Rattle.page_store.proofs.JournalThere.{holds_there}
@@ -33,10 +33,6 @@ use Rattle.pss_recovery.specs.declared.parts.Parts.{Parts}
 use Rattle.pss_recovery.specs.inner.Mounting.{HasRead, IsRead}
 use Rattle.pss_recovery.proofs.Blank.{octet_from}
 use Rattle.pss_recovery.proofs.Standing.{epoch_of, kept_outside, loaded_there, objects, stands_with, store_outside, store_there}
-
-pub not_closed : (gate : ℕ) (content : Option (List ℕ)) (open_ : Bool) (X : Type 0) → IfSome content (λ c. IsTrue open_ ↔ IsOpen c gate) → open_ ≡ true → IfSome content (λ c. IsClosed c gate → X)
-not_closed gate None open_ X is e = tt
-not_closed gate (Some c) open_ X is e = λ closed. absurd (closed (is.0 e))
 
 -- a journal ends before its area does
 pub chain_inside : (epoch : ℕ) (image : List ℕ) (gate : ℕ) (bodies : List (List ℕ)) (last : ℕ) → gate < journal_end → Chain epoch image gate bodies last → last < journal_end

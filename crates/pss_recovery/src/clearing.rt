@@ -1,5 +1,5 @@
 // A new store is written into an empty file.
-ghost use Rattle.std.specs.Prelude.{ℕ, ◌≡◌, ◌+◌, ◌*◌, ◌<◌, ◌≤◌, ◌++◌, List, length, Err, EachIndex, IfOk, IfSome, IsSome, OnOk, slice_index};
+ghost use Rattle.std.specs.Prelude.{◌≡◌, ◌+◌, ◌*◌, ◌<◌, ◌≤◌, length, Err, EachIndex, IfOk, IfSome, IsSome, OnOk, slice_index};
 ghost use Rattle.pss_base.specs.Causes.{HasCause, HasCauseIf};
 ghost use Rattle.pss_disk.specs.Moments.{IsSettled};
 ghost use Rattle.pss_disk.specs.Octets.{disk_end};
@@ -11,11 +11,12 @@ ghost use Rattle.pss_recovery.specs.inner.Blanks.{IsBlank, IsMade, first_root, r
 
 use crate::fault::InitFault;
 use crate::layout::{
-    FIRST_EPOCH, FIRST_SERIAL, OPEN, PIECE, PIECES, ROOT_EPOCH, ROOT_HEAD, ROOT_MAGIC, ROOT_NEXT,
-    ROOT_SHAPE_LENGTH,
+    FIRST_EPOCH, FIRST_SERIAL, PIECE, PIECES, ROOT_EPOCH, ROOT_HEAD, ROOT_NEXT, ROOT_SHAPE_LENGTH,
 };
+use page_format::layout::ROOT_MAGIC;
 use pss_base::{Bytes, Failed, NoMemory};
 use pss_disk::{Station, set_gate};
+use redo_journal::OPEN;
 use std::alloc::Global;
 
 // So many zero octets.

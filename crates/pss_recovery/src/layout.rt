@@ -44,9 +44,6 @@ pub const BODY: u64 = 13;
 // | 27 | the number of pages, 4 octets |
 // | 31 | the shape |
 
-/// What stands behind the gate of a root.
-pub const ROOT_MAGIC: [u8; 7] = *b"PSSROOT";
-
 /// Where the epoch stands behind the gate.
 pub const ROOT_EPOCH: usize = 7;
 
@@ -64,12 +61,6 @@ pub const FIRST_EPOCH: u64 = 1;
 
 /// The first serial that a store gives.
 pub const FIRST_SERIAL: u64 = 1;
-
-/// An open gate.
-pub const OPEN: u8 = 0xA5;
-
-/// A gate that was closed.
-pub const CLOSED: u8 = 0;
 
 /// How many octets are written at once where a store is cleared.
 pub const PIECE: usize = 131072;

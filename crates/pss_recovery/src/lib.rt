@@ -11,7 +11,6 @@ mod claims;
 mod clearing;
 mod decoding;
 mod encoding;
-mod ending;
 mod entry_places;
 mod fault;
 mod head;

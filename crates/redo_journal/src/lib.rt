@@ -17,6 +17,6 @@ pub use bodies::Bodies;
 pub use fault::ReplayFault;
 pub use journal::Journal;
 pub use laws::a_journal_is_one_thing;
-pub use layout::{JOURNAL_END, JOURNAL_START};
+pub use layout::{CLOSED, JOURNAL_END, JOURNAL_START, OPEN};
 pub use reading::replay;
 pub use replayed::Replay;

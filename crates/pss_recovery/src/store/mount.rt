@@ -15,10 +15,10 @@ ghost use Rattle.pss_recovery.specs.Silence.{IsSilent};
 ghost use Rattle.pss_recovery.specs.Stands.{IsRefusal, Stands};
 ghost use Rattle.pss_recovery.specs.inner.Mounting.{HasRead};
 
-use crate::ending::close_gate;
 use crate::fault::MountFault;
 use crate::mounting::{Mounted, read_store};
 use crate::store::Store;
+use page_store::close_gate;
 use pss_disk::Station;
 use std::alloc::Global;
 use type_layout::Schema;

@@ -1,9 +1,10 @@
-use Rattle.std.proofs.Common.{ℕ, ◌≢◌}
+use Rattle.std.proofs.Common.{ℕ, ◌≢◌, ◌∙◌}
 use Rattle.pss_disk.specs.Images.{Keeps}
 use Rattle.pss_disk.specs.Moments.{Through}
 use Rattle.pss_disk.proofs.Passing.{then_come, weaker}
-use Rattle.page_store.specs.inner.Gates.{IsAnywhere}
-use Rattle.page_store.proofs.GateOctets.{from_before, keeps_there, not_still, quiet_before, read_keeps, read_quiet}
+use Rattle.page_store.specs.Gates.{IsAnywhere}
+use Rattle.page_format.proofs.Buffers.{some_all}
+use Rattle.page_store.proofs.GateOctets.{from_before, keeps_there, not_closed, not_still, quiet_before, read_keeps, read_quiet}
 use Rattle.page_store.proofs.gates.close_gate.Goals as goal
 
 pub returns-in-Ok-true-clause-images : goal.returns-in-Ok-true-clause-images
@@ -53,3 +54,12 @@ returns-in-Err-clause-still g c = λ closed. read_keeps IsAnywhere (g.W.Station.
 
 pub returns-in-Err-clause-quiet : goal.returns-in-Err-clause-quiet
 returns-in-Err-clause-quiet g c = read_quiet _ _ _ c.in-Err.ensures.reads.time
+
+pub returns-in-Ok-true-clause-same : goal.returns-in-Ok-true-clause-same
+returns-in-Ok-true-clause-same g c = not_closed c.args.gate (g.W.Station.content c.args.w.now) c.in-Ok-true.field-0 _ c.in-Ok-true.ensures.open_ c.in-Ok-true.field-0-test
+
+pub returns-in-Ok-false-clause-same : goal.returns-in-Ok-false-clause-same
+returns-in-Ok-false-clause-same g c = some_all (g.W.Station.content c.args.w.now) _ (λ x closed. c.make_sure.ensures.content ∙ c.in-Ok-false.ensures.reads.same)
+
+pub returns-in-Err-clause-same : goal.returns-in-Err-clause-same
+returns-in-Err-clause-same g c = some_all (g.W.Station.content c.args.w.now) _ (λ x closed. c.in-Err.ensures.reads.same)

@@ -3,7 +3,7 @@ use Rattle.pss_disk.specs.Images.{Keeps}
 use Rattle.pss_disk.specs.Moments.{Through}
 use Rattle.redo_journal.specs.Journal.{IsClosed}
 use Rattle.page_format.specs.Places.{area_start}
-use Rattle.page_store.specs.inner.Gates.{IsAnywhere}
+use Rattle.page_store.specs.Gates.{IsAnywhere}
 use Rattle.page_store.proofs.Closing.{while_closing}
 use Rattle.page_store.proofs.JournalThere.{while_gate}
 use Rattle.page_store.proofs.gates.close_other.Goals as goal

@@ -20,3 +20,9 @@ returns-in-Err-clause-content g c = λ S has.
 
 pub returns-in-Err-clause-images : goal.returns-in-Err-clause-images
 returns-in-Err-clause-images g c = λ S M next has. all_stand S c.args.mounted c.args.end c.requires.end M next (g.W.Station.content c.args.w.now) _ _ has c.close_gate.ensures.images c.close_gate.ensures.still
+
+pub returns-in-Ok-clause-silent : goal.returns-in-Ok-clause-silent
+returns-in-Ok-clause-silent g c = record { moments = c.close_gate.ensures.quiet; said = c.close_gate.ensures.said; speech = c.close_gate.ensures.other }
+
+pub returns-in-Err-clause-silent : goal.returns-in-Err-clause-silent
+returns-in-Err-clause-silent g c = record { moments = c.close_gate.ensures.quiet; said = c.close_gate.ensures.said; speech = c.close_gate.ensures.other }

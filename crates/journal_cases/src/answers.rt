@@ -1,54 +1,22 @@
 // The answers to the lines of commands.
 use crate::crashes::{Append, append_crashes};
-use crate::journals::{append_found, append_to, station_of};
-use case_lines::{Cases, append_octets, number_of, octets_of, split_word};
+use crate::journals::{append_found, append_to};
+use case_lines::{
+    Cases, append_octets, begin_store, number_of, octets_of, part_of, put_octets, set_octets,
+    short_number_of, split_word, station_of,
+};
 use pss_base::{Bytes, NoMemory};
 use std::alloc::Global;
 
-/// A store has at most so many octets.
-const MOST_OCTETS: u64 = 8388608;
-
-// Makes the store one of so many zero octets.
-fn begin(store: &mut Vec<u8>, rest: &[u8]) -> Result<(), NoMemory> {
-    store.clear();
-    if let Some(len) = number_of(rest) {
-        store.resize(len.min(MOST_OCTETS) as usize, 0)?;
-    }
-    Ok(())
-}
-
-// Puts octets where they lie in the store.
-fn put(alloc: Global, store: &mut Vec<u8>, rest: &[u8]) -> Result<(), NoMemory> {
-    let (at, digits) = split_word(rest);
-    let octets = octets_of(alloc, digits)?;
-    if let Some(at) = number_of(at) {
-        for (octet, place) in octets.as_slice().iter().zip(at..MOST_OCTETS) {
-            if let Some(here) = store.get_mut(place as usize) {
-                *here = *octet;
-            }
-        }
-    }
-    Ok(())
-}
-
 fn show(out: &mut Bytes, store: &[u8], rest: &[u8]) -> Result<(), NoMemory> {
-    let (at, count) = split_word(rest);
-    if let (Some(at), Some(count)) = (number_of(at), number_of(count)) {
-        let len = store.len() as u64;
-        let from = at.min(len);
-        let to = from + count.min(len - from);
-        append_octets(out, &store[from as usize..to as usize])?;
-    }
+    append_octets(out, part_of(store, rest))?;
     out.extend(b"\n")
 }
 
 fn tell(alloc: Global, out: &mut Bytes, store: &[u8], rest: &[u8]) -> Result<(), NoMemory> {
     let (epoch, failing) = split_word(rest);
     let epoch = number_of(epoch).unwrap_or(0);
-    match number_of(failing) {
-        Some(call) => append_found(alloc, out, store, epoch, &[call.min(99) as u32])?,
-        None => append_found(alloc, out, store, epoch, &[])?,
-    }
+    append_found(alloc, out, store, epoch, short_number_of(failing))?;
     out.extend(b"\n")
 }
 
@@ -70,11 +38,10 @@ fn append(
         return out.extend(b"no append\n");
     };
     let body = octets_of(alloc, digits)?;
-    let mut station = station_of(alloc, store, &[])?;
+    let mut station = station_of(alloc, store, None)?;
     match append_to(&mut station, epoch, end, body.as_slice()) {
         Some(true) => {
-            store.clear();
-            store.extend_from_slice(station.bytes())?;
+            set_octets(store, station.bytes())?;
             out.extend(b"ok\n")
         }
         Some(false) => out.extend(b"DiskFault\n"),
@@ -113,8 +80,8 @@ impl Cases for Journals {
     fn answer(&mut self, alloc: Global, out: &mut Bytes, line: &[u8]) -> Result<(), NoMemory> {
         let (word, rest) = split_word(line);
         match word {
-            b"store" => begin(&mut self.store, rest),
-            b"octets" => put(alloc, &mut self.store, rest),
+            b"store" => begin_store(&mut self.store, rest),
+            b"octets" => put_octets(alloc, &mut self.store, rest),
             b"replay" => tell(alloc, out, &self.store, rest),
             b"append" => append(alloc, out, &mut self.store, rest),
             b"show" => show(out, &self.store, rest),

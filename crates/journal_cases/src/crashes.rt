@@ -1,9 +1,10 @@
 // What a crash leaves of an append.
-ghost use Rattle.std.specs.Prelude.{◌≤◌, length, Some};
+ghost use Rattle.std.specs.Prelude.{Some};
 ghost use Rattle.pss_disk.specs.Moments.{IsSettled};
 ghost use Rattle.pss_disk.specs.Tape.{now_of, state_of};
 
-use crate::journals::{append_to, station_of};
+use crate::journals::append_to;
+use case_lines::{append_moments, station_of};
 use pss_base::{Bytes, NoMemory};
 use pss_disk::MemStation;
 use redo_journal::{Replay, ReplayFault, replay};
@@ -52,44 +53,12 @@ fn letter_in(
     before: &[Bytes],
     append: &Append,
 ) -> Result<u8, NoMemory> {
-    let mut station = station_of(alloc, image, &[])?;
+    let mut station = station_of(alloc, image, None)?;
     match replay(alloc, &mut station, append.epoch) {
         Ok(found) => Ok(letter_of(&found, before, append)),
         Err(ReplayFault::NoMemory) => Err(NoMemory),
         Err(_) => Ok(b'?'),
     }
-}
-
-// The letters of a moment, for picks 0 to 3.
-fn append_moment(
-    alloc: Global,
-    out: &mut Bytes,
-    station: &MemStation,
-    moment: u32,
-    before: &[Bytes],
-    append: &Append,
-) -> Result<(), NoMemory>
-    requires { moment ≤ length station.now.calls }
-{
-    out.extend(b" ")?;
-    for pick in 0..4u8 {
-        let image = station.crash(moment, pick)?;
-        out.push(letter_in(alloc, image.as_slice(), before, append)?)?;
-    }
-    Ok(())
-}
-
-fn append_moments(
-    alloc: Global,
-    out: &mut Bytes,
-    station: &MemStation,
-    before: &[Bytes],
-    append: &Append,
-) -> Result<(), NoMemory> {
-    for moment in 0..=station.calls() {
-        append_moment(alloc, out, station, moment, before, append)?;
-    }
-    out.extend(b"\n")
 }
 
 fn append_run(
@@ -106,7 +75,9 @@ fn append_run(
         Some(false) => out.extend(b"DiskFault")?,
         None => out.extend(b"does not fit")?,
     }
-    append_moments(alloc, out, station, before, append)
+    append_moments(out, station, 0, |image| {
+        letter_in(alloc, image, before, append)
+    })
 }
 
 fn append_runs(
@@ -116,10 +87,10 @@ fn append_runs(
     before: &[Bytes],
     append: &Append,
 ) -> Result<(), NoMemory> {
-    let mut station = station_of(alloc, store, &[])?;
+    let mut station = station_of(alloc, store, None)?;
     append_run(alloc, out, &mut station, before, append)?;
     for call in 0..6u32 {
-        let mut station = station_of(alloc, store, &[call])?;
+        let mut station = station_of(alloc, store, Some(call))?;
         append_run(alloc, out, &mut station, before, append)?;
     }
     Ok(())
@@ -132,7 +103,7 @@ pub fn append_crashes(
     store: &[u8],
     append: &Append,
 ) -> Result<(), NoMemory> {
-    let mut station = station_of(alloc, store, &[])?;
+    let mut station = station_of(alloc, store, None)?;
     match replay(alloc, &mut station, append.epoch) {
         Ok(found) => append_runs(alloc, out, store, found.bodies.as_slice(), append),
         Err(_) => out.extend(b"damaged\n"),

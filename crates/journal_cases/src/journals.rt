@@ -1,9 +1,9 @@
 // A store in memory: its journal is replayed, and bodies are appended.
-ghost use Rattle.std.specs.Prelude.{IfOk, Some};
+ghost use Rattle.std.specs.Prelude.{Some};
 ghost use Rattle.pss_disk.specs.Moments.{IsSettled};
 ghost use Rattle.pss_disk.specs.Tape.{now_of, state_of};
 
-use case_lines::append_octets;
+use case_lines::{append_octets, station_of, sum_of};
 use pss_base::{Bytes, NoMemory};
 use pss_disk::MemStation;
 use redo_journal::{Journal, Replay, ReplayFault, replay};
@@ -11,13 +11,6 @@ use std::alloc::Global;
 
 /// Bodies of more octets are told by their number and a sum.
 const MOST_SHOWN: usize = 200;
-
-/// A station with these octets, of which no call came yet.
-pub fn station_of(alloc: Global, store: &[u8], failing: &[u32]) -> Result<MemStation, NoMemory>
-    ensures { IfOk result (λ station. IsSettled (Some (state_of station).content) (now_of station)) }
-{
-    MemStation::new(alloc, store, failing)
-}
 
 /// Appends a body of a length that fits to the journal of a fresh station.
 pub fn append_to(station: &mut MemStation, epoch: u64, end: u32, body: &[u8]) -> Option<bool>
@@ -31,15 +24,6 @@ pub fn append_to(station: &mut MemStation, epoch: u64, end: u32, body: &[u8]) ->
         return None;
     }
     Some(journal.append(station, body).is_ok())
-}
-
-// A number that changes with each octet and its place.
-fn sum_of(octets: &[u8]) -> u32 {
-    let mut sum: u32 = 0;
-    for octet in octets {
-        sum = sum.wrapping_mul(31).wrapping_add(u32::from(*octet));
-    }
-    sum
 }
 
 fn append_body(alloc: Global, out: &mut Bytes, body: &[u8]) -> Result<(), NoMemory> {
@@ -73,13 +57,13 @@ fn append_fault(alloc: Global, out: &mut Bytes, fault: ReplayFault) -> Result<()
     }
 }
 
-/// What the journal of an epoch holds, where the calls of these numbers fail.
+/// What the journal of an epoch holds, where the call of a number fails, if there is one.
 pub fn append_found(
     alloc: Global,
     out: &mut Bytes,
     store: &[u8],
     epoch: u64,
-    failing: &[u32],
+    failing: Option<u32>,
 ) -> Result<(), NoMemory> {
     let mut station = station_of(alloc, store, failing)?;
     match replay(alloc, &mut station, epoch) {

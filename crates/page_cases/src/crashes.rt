@@ -1,10 +1,11 @@
 // What a crash leaves of a checkpoint.
-ghost use Rattle.std.specs.Prelude.{◌≤◌, length, Some};
+ghost use Rattle.std.specs.Prelude.{Some};
 ghost use Rattle.pss_disk.specs.Moments.{IsSettled};
 ghost use Rattle.pss_disk.specs.Tape.{now_of, state_of};
 
 use crate::checkpoints::{Changes, Ended, make};
-use crate::roots::{append_store, station_of};
+use crate::roots::append_store;
+use case_lines::{append_moments, station_of};
 use pss_base::{Bytes, NoMemory};
 use pss_disk::MemStation;
 use std::alloc::Global;
@@ -19,7 +20,7 @@ struct Told<'a> {
 /// The root and the objects of a store.
 pub fn told_of(alloc: Global, store: &[u8]) -> Result<Bytes, NoMemory> {
     let mut told = Bytes::new(alloc);
-    let mut station = station_of(alloc, store, &[])?;
+    let mut station = station_of(alloc, store, None)?;
     append_store(alloc, &mut told, &mut station)?;
     Ok(told)
 }
@@ -34,36 +35,6 @@ fn letter_in(alloc: Global, image: &[u8], told: Told) -> Result<u8, NoMemory> {
     } else {
         Ok(b'?')
     }
-}
-
-// The letters of a moment, for picks 0 to 3.
-fn append_moment(
-    alloc: Global,
-    out: &mut Bytes,
-    station: &MemStation,
-    moment: u32,
-    told: Told,
-) -> Result<(), NoMemory>
-    requires { moment ≤ length station.now.calls }
-{
-    out.extend(b" ")?;
-    for pick in 0..4u8 {
-        let image = station.crash(moment, pick)?;
-        out.push(letter_in(alloc, image.as_slice(), told)?)?;
-    }
-    Ok(())
-}
-
-fn append_moments(
-    alloc: Global,
-    out: &mut Bytes,
-    station: &MemStation,
-    told: Told,
-) -> Result<(), NoMemory> {
-    for moment in 0..=station.calls() {
-        append_moment(alloc, out, station, moment, told)?;
-    }
-    out.extend(b"\n")
 }
 
 /// The word for the end of a checkpoint.
@@ -86,7 +57,7 @@ fn append_run(
 {
     let ended = make(alloc, station, changes)?;
     out.extend(word_of(ended))?;
-    append_moments(alloc, out, station, told)
+    append_moments(out, station, 0, |image| letter_in(alloc, image, told))
 }
 
 fn append_runs(
@@ -97,10 +68,10 @@ fn append_runs(
     told: Told,
     calls: u32,
 ) -> Result<(), NoMemory> {
-    let mut station = station_of(alloc, store, &[])?;
+    let mut station = station_of(alloc, store, None)?;
     append_run(alloc, out, &mut station, changes, told)?;
     for call in 0..calls {
-        let mut station = station_of(alloc, store, &[call])?;
+        let mut station = station_of(alloc, store, Some(call))?;
         append_run(alloc, out, &mut station, changes, told)?;
     }
     Ok(())
@@ -113,7 +84,7 @@ pub fn append_crashes(
     store: &[u8],
     changes: Changes,
 ) -> Result<(), NoMemory> {
-    let mut station = station_of(alloc, store, &[])?;
+    let mut station = station_of(alloc, store, None)?;
     let _ = make(alloc, &mut station, changes)?;
     let before = told_of(alloc, store)?;
     let after = told_of(alloc, station.bytes())?;

@@ -1,47 +1,18 @@
 // The root and the pages of a store in memory.
-ghost use Rattle.std.specs.Prelude.{IfOk, Some};
 ghost use Rattle.page_format.specs.Roots.{IsWithinLimits};
-ghost use Rattle.pss_disk.specs.Moments.{IsSettled};
-ghost use Rattle.pss_disk.specs.Tape.{now_of, state_of};
 
 use case_lines::append_octets;
 use page_store::{PageFault, Pages, Root, RootFault, read_root};
-use pss_base::{Bytes, DamageKind, NoMemory, Put};
+use pss_base::{Bytes, NoMemory, Put};
 use pss_disk::MemStation;
 use std::alloc::Global;
-
-/// A station with these octets, of which no call came yet.
-pub fn station_of(alloc: Global, store: &[u8], failing: &[u32]) -> Result<MemStation, NoMemory>
-    ensures { IfOk result (λ station. IsSettled (Some (state_of station).content) (now_of station)) }
-{
-    MemStation::new(alloc, store, failing)
-}
-
-fn name_of(kind: DamageKind) -> &'static [u8] {
-    match kind {
-        DamageKind::Root => b"Root",
-        DamageKind::Page => b"Page",
-        DamageKind::Entry => b"Entry",
-        DamageKind::Serial => b"Serial",
-        DamageKind::Packing => b"Packing",
-        _ => b"?",
-    }
-}
-
-fn append_damage(
-    alloc: Global,
-    out: &mut Bytes,
-    at: u64,
-    kind: DamageKind,
-) -> Result<(), NoMemory> {
-    out.extend(format!(in alloc; "Damaged {at} ")?.as_bytes())?;
-    out.extend(name_of(kind))
-}
 
 fn append_root_fault(alloc: Global, out: &mut Bytes, fault: RootFault) -> Result<(), NoMemory> {
     match fault {
         RootFault::NotAStore => out.extend(b"NotAStore"),
-        RootFault::Damaged(at, kind) => append_damage(alloc, out, at, kind),
+        RootFault::Damaged(at, kind) => {
+            out.extend(format!(in alloc; "Damaged {at} {kind:?}")?.as_bytes())
+        }
         RootFault::DiskFault => out.extend(b"DiskFault"),
         RootFault::NoMemory => Err(NoMemory),
     }
@@ -49,7 +20,9 @@ fn append_root_fault(alloc: Global, out: &mut Bytes, fault: RootFault) -> Result
 
 fn append_page_fault(alloc: Global, out: &mut Bytes, fault: PageFault) -> Result<(), NoMemory> {
     match fault {
-        PageFault::Damaged(at, kind) => append_damage(alloc, out, at, kind),
+        PageFault::Damaged(at, kind) => {
+            out.extend(format!(in alloc; "Damaged {at} {kind:?}")?.as_bytes())
+        }
         PageFault::DiskFault => out.extend(b"DiskFault"),
         PageFault::NoMemory => Err(NoMemory),
     }

@@ -3,11 +3,14 @@ ghost use Rattle.std.specs.Prelude.{◌≡◌};
 ghost use Rattle.type_layout.specs.Sound.{IsSoundSchema};
 
 use crate::crashes::{Plan, append_crashes, append_end, append_store};
-use crate::octets::{begin, put, put_copies, put_numbers, tell_sum};
-use crate::runs::{run, station_of};
+use crate::octets::{put_copies, put_numbers};
+use crate::runs::run;
 use crate::schemas::schema_of;
-use crate::steps::{Step, change, fill};
-use case_lines::{Cases, number_of, short_number_of, split_word};
+use crate::steps::{Step, fill};
+use case_lines::{
+    Cases, append_sum, begin_store, number_of, put_octets, put_of, set_octets, short_number_of,
+    split_word, station_of,
+};
 use pss_base::{Bytes, NoMemory, Puts};
 use pss_recovery::{Body, InitFault, Store};
 use std::alloc::Global;
@@ -17,7 +20,7 @@ use type_layout::{Schema, shape_of};
 /// A schema's text, a store, and the steps that were told.
 #[derive(Drop)]
 pub struct Stores {
-    text: Bytes,
+    text: Vec<u8>,
     store: Vec<u8>,
     steps: Vec<Step>,
     puts: Puts,
@@ -26,26 +29,12 @@ pub struct Stores {
 impl Stores {
     pub fn new(alloc: Global) -> Stores {
         Stores {
-            text: Bytes::new(alloc),
+            text: Vec::new(alloc),
             store: Vec::new(alloc),
             steps: Vec::new(alloc),
             puts: Puts::new(alloc),
         }
     }
-
-    fn keep(&mut self, octets: &[u8]) -> Result<(), NoMemory> {
-        self.store.clear();
-        self.store.extend_from_slice(octets)?;
-        Ok(())
-    }
-}
-
-// `text PSDL`: the text of the schema.
-fn set_text(alloc: Global, state: &mut Stores, rest: &[u8]) -> Result<(), NoMemory> {
-    let mut text = Bytes::new(alloc);
-    text.extend(rest)?;
-    state.text = text;
-    Ok(())
 }
 
 // `body NEXT`: the changes so far are a step.
@@ -86,7 +75,7 @@ fn tell_init(
     let made = Store::init(alloc, &mut station, &shape);
     out.extend(word_of(made)?)?;
     out.extend(b"\n")?;
-    state.keep(station.bytes())
+    set_octets(&mut state.store, station.bytes())
 }
 
 fn tell_mount(
@@ -101,7 +90,7 @@ fn tell_mount(
     let mut station = station_of(alloc, &state.store, failing)?;
     append_store(alloc, out, schema, &mut station)?;
     out.extend(b"\n")?;
-    state.keep(station.bytes())
+    set_octets(&mut state.store, station.bytes())
 }
 
 fn tell_run(
@@ -118,7 +107,7 @@ fn tell_run(
     append_end(alloc, out, ended)?;
     out.extend(b"\n")?;
     state.steps.clear();
-    state.keep(station.bytes())
+    set_octets(&mut state.store, station.bytes())
 }
 
 fn tell_crashes(
@@ -146,7 +135,7 @@ fn answer_under(
     state: &mut Stores,
     line: &[u8],
 ) -> Result<(), NoMemory> {
-    let Some(schema) = schema_of(alloc, state.text.as_slice()) else {
+    let Some(schema) = schema_of(alloc, &state.text) else {
         return out.extend(b"no schema\n");
     };
     let (word, rest) = split_word(line);
@@ -164,16 +153,16 @@ impl Cases for Stores {
     fn answer(&mut self, alloc: Global, out: &mut Bytes, line: &[u8]) -> Result<(), NoMemory> {
         let (word, rest) = split_word(line);
         match word {
-            b"text" => set_text(alloc, self, rest),
-            b"store" => begin(&mut self.store, rest),
-            b"octets" => put(alloc, &mut self.store, rest),
+            b"text" => set_octets(&mut self.text, rest),
+            b"store" => begin_store(&mut self.store, rest),
+            b"octets" => put_octets(alloc, &mut self.store, rest),
             b"copies" => put_copies(alloc, &mut self.store, rest),
             b"numbers" => {
                 put_numbers(&mut self.store, rest);
                 Ok(())
             }
-            b"sum" => tell_sum(alloc, out, &self.store, rest),
-            b"change" => change(alloc, &mut self.puts, rest),
+            b"sum" => append_sum(alloc, out, &self.store, rest),
+            b"change" => self.puts.push(put_of(alloc, rest)?),
             b"fill" => fill(alloc, &mut self.puts, rest),
             b"body" => end_body(alloc, self, rest),
             b"checkpoint" => add_checkpoint(self),

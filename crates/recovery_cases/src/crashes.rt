@@ -1,12 +1,11 @@
 // What crashes leave of a run.
-ghost use Rattle.std.specs.Prelude.{◌≤◌, length, Some};
-ghost use Rattle.pss_disk.specs.Moments.{IsSettled};
-ghost use Rattle.pss_disk.specs.Tape.{now_of, state_of};
+ghost use Rattle.std.specs.Prelude.{◌≤◌, length};
 ghost use Rattle.type_layout.specs.Sound.{IsSoundSchema};
 
-use crate::runs::{RunStop, run, station_of};
+use crate::runs::{RunStop, run};
 use crate::steps::Step;
 use crate::telling::{append_fault, append_mounted};
+use case_lines::{append_moments, station_of};
 use pss_base::{Bytes, NoMemory};
 use pss_disk::MemStation;
 use pss_recovery::Store;
@@ -88,41 +87,6 @@ fn letter_in(alloc: Global, image: &[u8], told: Told) -> Result<u8, NoMemory>
     Ok(letter)
 }
 
-// The letters of a moment, for picks 0 to 3.
-fn append_moment(
-    alloc: Global,
-    out: &mut Bytes,
-    station: &MemStation,
-    moment: u32,
-    told: Told,
-) -> Result<(), NoMemory>
-    requires sound { IsSoundSchema told.schema.now }
-    requires moment { moment ≤ length station.now.calls }
-{
-    out.extend(b" ")?;
-    for pick in 0..4u8 {
-        let image = station.crash(moment, pick)?;
-        out.push(letter_in(alloc, image.as_slice(), told)?)?;
-    }
-    Ok(())
-}
-
-// The letters of all moments from that of a number on.
-fn append_moments(
-    alloc: Global,
-    out: &mut Bytes,
-    station: &MemStation,
-    from: u32,
-    told: Told,
-) -> Result<(), NoMemory>
-    requires { IsSoundSchema told.schema.now }
-{
-    for moment in from..=station.calls() {
-        append_moment(alloc, out, station, moment, told)?;
-    }
-    out.extend(b"\n")
-}
-
 /// How a run ended.
 pub fn append_end(
     alloc: Global,
@@ -162,7 +126,9 @@ fn append_run(
         schema: plan.schema,
         behind: told,
     };
-    append_moments(alloc, out, &station, plan.from, told)?;
+    append_moments(out, &station, plan.from, |image| {
+        letter_in(alloc, image, told)
+    })?;
     Ok(station.calls())
 }
 

@@ -1,38 +1,7 @@
-// The octets of a store, and lines that alter them.
-use case_lines::{number_of, octets_of, short_number_of, split_word};
-use pss_base::{Bytes, NoMemory};
+// Lines that alter a store at many places.
+use case_lines::{MOST_OCTETS, number_of, octets_of, put_at, short_number_of, split_word};
+use pss_base::NoMemory;
 use std::alloc::Global;
-
-/// A store has at most so many octets.
-const MOST_OCTETS: u64 = 83886080;
-
-/// `store LENGTH`: the store is one of so many zero octets.
-pub fn begin(store: &mut Vec<u8>, rest: &[u8]) -> Result<(), NoMemory> {
-    store.clear();
-    if let Some(len) = number_of(rest) {
-        store.resize(len.min(MOST_OCTETS) as usize, 0)?;
-    }
-    Ok(())
-}
-
-// Puts octets at a place, as far as the store reaches.
-fn put_at(store: &mut Vec<u8>, at: u64, octets: &[u8]) {
-    for (octet, place) in octets.iter().zip(at..MOST_OCTETS) {
-        if let Some(here) = store.get_mut(place as usize) {
-            *here = *octet;
-        }
-    }
-}
-
-/// `octets AT OCTETS`: octets of the store.
-pub fn put(alloc: Global, store: &mut Vec<u8>, rest: &[u8]) -> Result<(), NoMemory> {
-    let (at, digits) = split_word(rest);
-    let octets = octets_of(alloc, digits)?;
-    if let Some(at) = number_of(at) {
-        put_at(store, at, octets.as_slice());
-    }
-    Ok(())
-}
 
 // Where octets are put again and again.
 #[derive(Clone, Copy)]
@@ -84,23 +53,4 @@ pub fn put_numbers(store: &mut Vec<u8>, rest: &[u8]) {
         at = at.saturating_add(places.step);
         number = number.wrapping_add(by);
     }
-}
-
-// A number that changes with each octet and its place.
-fn sum_of(octets: &[u8]) -> u32 {
-    let mut sum: u32 = 0;
-    for octet in octets {
-        sum = sum.wrapping_mul(31).wrapping_add(u32::from(*octet));
-    }
-    sum
-}
-
-/// `sum AT COUNT`: the sum of octets of a store.
-pub fn tell_sum(alloc: Global, out: &mut Bytes, store: &[u8], rest: &[u8]) -> Result<(), NoMemory> {
-    let (at, count) = split_word(rest);
-    let len = store.len() as u64;
-    let from = number_of(at).unwrap_or(0).min(len);
-    let to = from + number_of(count).unwrap_or(0).min(len - from);
-    let sum = sum_of(&store[from as usize..to as usize]);
-    out.extend(format!(in alloc; "{sum}\n")?.as_bytes())
 }

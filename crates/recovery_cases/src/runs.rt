@@ -12,16 +12,6 @@ use pss_recovery::{Body, MountFault, Store};
 use std::alloc::Global;
 use type_layout::Schema;
 
-/// A station with the octets of a store, whose call of this number fails, where there is one.
-pub fn station_of(alloc: Global, store: &[u8], failing: Option<u32>) -> Result<MemStation, NoMemory>
-    ensures { IfOk result (λ station. IsSettled (Some (state_of station).content) (now_of station)) }
-{
-    match failing {
-        Some(call) => MemStation::new(alloc, store, &[call]),
-        None => MemStation::new(alloc, store, &[]),
-    }
-}
-
 /// Why a run did not come to its end. Steps are counted from 1.
 #[derive(Clone, Copy, Drop)]
 pub enum RunStop {

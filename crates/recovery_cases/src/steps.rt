@@ -4,9 +4,9 @@ ghost use Rattle.std.specs.List.{AllByRecursion};
 ghost use Rattle.page_format.specs.Objects.{IsRightPut};
 ghost use Rattle.pss_recovery.specs.Mounted.{MayFollow};
 
-use case_lines::{number_of, octets_of, short_number_of, split_word};
+use case_lines::{number_of, short_number_of, split_word};
 use pss_base::{Bytes, NoMemory, Put, Puts};
-use pss_recovery::Body;
+use pss_recovery::{Body, copy_put};
 use std::alloc::Global;
 
 /// A record is told with at most so many octets.
@@ -17,23 +17,6 @@ const LONGEST_FILL: u64 = 8001;
 pub enum Step {
     Commit(Body),
     Checkpoint,
-}
-
-/// `change SERIAL HOME OCTETS`: a change of the next body.
-pub fn change(alloc: Global, puts: &mut Puts, rest: &[u8]) -> Result<(), NoMemory> {
-    let (serial, rest) = split_word(rest);
-    let (home, digits) = split_word(rest);
-    let bytes = octets_of(alloc, digits)?;
-    let bytes = if bytes.as_slice().is_empty() {
-        None
-    } else {
-        Some(bytes)
-    };
-    puts.push(Put {
-        home: short_number_of(home).unwrap_or(0),
-        serial: number_of(serial).unwrap_or(0),
-        bytes,
-    })
 }
 
 // A record of so many octets whose one member is a text: nothing is unset, four octets of its length with the NUL at its end, and letters.
@@ -94,33 +77,12 @@ pub fn may_follow(next: u64, body: &Body) -> bool
     next <= body.next && body.puts.as_slice().len() <= 256 && are_right(body.puts.as_slice())
 }
 
-fn copy_of_put(put: &Put) -> Result<Put, NoMemory>
-    ensures { IfOk result (λ copy. copy ≡ put.now) }
-{
-    let (home, serial) = (put.home, put.serial);
-    match &put.bytes {
-        Some(bytes) => {
-            let bytes = Some(bytes.copy()?);
-            Ok(Put {
-                home,
-                serial,
-                bytes,
-            })
-        }
-        None => Ok(Put {
-            home,
-            serial,
-            bytes: None,
-        }),
-    }
-}
-
 fn copy_of_puts(alloc: Global, puts: &[Put]) -> Result<Puts, NoMemory>
     ensures { IfOk result (λ copy. copy ≡ puts.now) }
 {
     let mut copy = Puts::new(alloc);
     for put in puts {
-        copy.push(copy_of_put(put)?)?;
+        copy.push(copy_put(put)?)?;
     }
     Ok(copy)
 }

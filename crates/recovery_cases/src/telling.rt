@@ -1,26 +1,10 @@
 // What a store stands for, as text.
 use case_lines::append_octets;
-use pss_base::{Bytes, DamageKind, NoMemory};
+use pss_base::{Bytes, NoMemory};
 use pss_recovery::{MountFault, Mounted};
 use std::alloc::Global;
 use storage_home::Homes;
 use type_layout::{HomeNo, Schema};
-
-fn name_of(kind: DamageKind) -> &'static [u8] {
-    match kind {
-        DamageKind::Root => b"Root",
-        DamageKind::Page => b"Page",
-        DamageKind::Entry => b"Entry",
-        DamageKind::Serial => b"Serial",
-        DamageKind::Packing => b"Packing",
-        DamageKind::Record => b"Record",
-        DamageKind::Ref => b"Ref",
-        DamageKind::Key => b"Key",
-        DamageKind::Total => b"Total",
-        DamageKind::Journal => b"Journal",
-        DamageKind::Change => b"Change",
-    }
-}
 
 /// Why a store is not mounted.
 pub fn append_fault(alloc: Global, out: &mut Bytes, fault: MountFault) -> Result<(), NoMemory> {
@@ -30,8 +14,7 @@ pub fn append_fault(alloc: Global, out: &mut Bytes, fault: MountFault) -> Result
             out.extend(format!(in alloc; "ShapeDiffers {}", home.0)?.as_bytes())
         }
         MountFault::Damaged(at, kind) => {
-            out.extend(format!(in alloc; "Damaged {at} ")?.as_bytes())?;
-            out.extend(name_of(kind))
+            out.extend(format!(in alloc; "Damaged {at} {kind:?}")?.as_bytes())
         }
         MountFault::DiskFault => out.extend(b"DiskFault"),
         MountFault::NoMemory => Err(NoMemory),

@@ -1,15 +1,9 @@
 // The answers to the lines of commands.
 use crate::calling::{NONE, Texts, call};
 use crate::failing::{append_calls, append_schema_reads, append_script_reads};
-use case_lines::{Cases, split_word};
+use case_lines::{Cases, set_octets, split_word};
 use pss_base::{Bytes, NoMemory};
 use std::alloc::Global;
-
-fn set_text(text: &mut Vec<u8>, rest: &[u8]) -> Result<(), NoMemory> {
-    text.clear();
-    text.extend_from_slice(rest)?;
-    Ok(())
-}
 
 fn add_line(script: &mut Vec<u8>, rest: &[u8]) -> Result<(), NoMemory> {
     script.extend_from_slice(rest)?;
@@ -28,9 +22,7 @@ fn make(alloc: Global, out: &mut Bytes, service: &mut Service) -> Result<(), NoM
     let made = call(alloc, b"init", &[], texts_of(service), NONE)?;
     let status = made.status.code();
     out.extend(format!(in alloc; "{status}\n")?.as_bytes())?;
-    service.store.clear();
-    service.store.extend_from_slice(made.station.bytes())?;
-    Ok(())
+    set_octets(&mut service.store, made.station.bytes())
 }
 
 fn run(alloc: Global, out: &mut Bytes, service: &Service) -> Result<(), NoMemory> {
@@ -68,7 +60,7 @@ impl Cases for Service {
     fn answer(&mut self, alloc: Global, out: &mut Bytes, line: &[u8]) -> Result<(), NoMemory> {
         let (word, rest) = split_word(line);
         match word {
-            b"text" => set_text(&mut self.schema, rest),
+            b"text" => set_octets(&mut self.schema, rest),
             b"line" => add_line(&mut self.script, rest),
             b"init" => make(alloc, out, self),
             b"run" => run(alloc, out, self),

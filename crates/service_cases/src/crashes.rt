@@ -1,9 +1,6 @@
 // What a crash leaves.
-ghost use Rattle.std.specs.Prelude.{◌≤◌, length};
-
 use crate::calling::{NONE, Texts, call};
-use pss_base::{Bytes, NoMemory};
-use pss_disk::MemStation;
+use pss_base::NoMemory;
 use std::alloc::Global;
 
 const COUNTING: &[u8] = b"open s1 basic ro\ncount s1 Cells\n";
@@ -58,8 +55,13 @@ fn digit_in(replies: &[u8]) -> u8 {
     }
 }
 
-// How many objects an image has, where it may have so many.
-fn letter_in(alloc: Global, image: &[u8], schema: &[u8], bounds: Bounds) -> Result<u8, NoMemory> {
+/// How many objects an image has, where it may have so many.
+pub fn letter_in(
+    alloc: Global,
+    image: &[u8],
+    schema: &[u8],
+    bounds: Bounds,
+) -> Result<u8, NoMemory> {
     let texts = Texts {
         schema,
         script: COUNTING,
@@ -71,23 +73,4 @@ fn letter_in(alloc: Global, image: &[u8], schema: &[u8], bounds: Bounds) -> Resu
     } else {
         Ok(b'?')
     }
-}
-
-/// The letters of a moment, for picks 0 to 3.
-pub fn append_moment(
-    alloc: Global,
-    out: &mut Bytes,
-    station: &MemStation,
-    moment: u32,
-    schema: &[u8],
-    bounds: Bounds,
-) -> Result<(), NoMemory>
-    requires { moment ≤ length station.now.calls }
-{
-    out.extend(b" ")?;
-    for pick in 0..4u8 {
-        let image = station.crash(moment, pick)?;
-        out.push(letter_in(alloc, image.as_slice(), schema, bounds)?)?;
-    }
-    Ok(())
 }

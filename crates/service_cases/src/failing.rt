@@ -1,6 +1,7 @@
 // Each call fails in turn.
 use crate::calling::{Ended, Failing, NONE, Texts, call};
-use crate::crashes::{Served, append_moment, bounds_at};
+use crate::crashes::{Served, bounds_at, letter_in};
+use case_lines::append_moment;
 use pss_base::{Bytes, NoMemory};
 use std::alloc::Global;
 
@@ -29,16 +30,13 @@ fn append_moments(
     let calls = ended.station.calls();
     let schema = served.texts.schema;
     let before = bounds_at(served, whole_lines(spoken));
-    append_moment(
-        alloc,
-        out,
-        &ended.station,
-        calls.saturating_sub(1),
-        schema,
-        before,
-    )?;
+    append_moment(out, &ended.station, calls.saturating_sub(1), |image| {
+        letter_in(alloc, image, schema, before)
+    })?;
     let behind = bounds_at(served, spoken.len());
-    append_moment(alloc, out, &ended.station, calls, schema, behind)?;
+    append_moment(out, &ended.station, calls, |image| {
+        letter_in(alloc, image, schema, behind)
+    })?;
     out.extend(b"\n")
 }
 

@@ -4,6 +4,7 @@ use crate::records::{append_decoded, append_default, append_encoded, append_leng
 use crate::types::{append_descends, append_is};
 use crate::values::{append_octets_read, append_value_read};
 use crate::words::first_word;
+use case_lines::{Cases, split_word};
 use psdl_check::check;
 use psdl_syntax::parse;
 use pss_base::{Bytes, NoMemory};
@@ -72,16 +73,26 @@ fn append_answer_over(
     append_answer(alloc, out, subject, line)
 }
 
-/// The answers to all lines of commands, a line for each.
-pub fn answers(alloc: Global, input: &[u8]) -> Result<Bytes, NoMemory> {
-    let mut out = Bytes::new(alloc);
-    let mut schema: Option<Schema> = None;
-    for line in input.split(|byte| *byte == b'\n') {
-        match line {
-            [] => {}
-            [b't', b'e', b'x', b't', b' ', text @ ..] => schema = schema_of(alloc, text),
-            _ => append_answer_over(alloc, &mut out, &schema, line)?,
+/// The schema of the text that came last, none where it was refused.
+#[derive(Drop)]
+pub struct Records {
+    schema: Option<Schema>,
+}
+
+impl Records {
+    pub fn new() -> Records {
+        Records { schema: None }
+    }
+}
+
+impl Cases for Records {
+    fn answer(&mut self, alloc: Global, out: &mut Bytes, line: &[u8]) -> Result<(), NoMemory> {
+        match split_word(line) {
+            (b"text", text) => {
+                self.schema = schema_of(alloc, text);
+                Ok(())
+            }
+            _ => append_answer_over(alloc, out, &self.schema, line),
         }
     }
-    Ok(out)
 }

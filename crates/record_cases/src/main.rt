@@ -22,25 +22,11 @@ mod types;
 mod values;
 mod words;
 
-use answers::answers;
-use pss_base::{StdSource, read_all};
-use std::io::Write;
+use answers::Records;
+use case_lines::run_cases;
 use std::process::ExitCode;
 
-/// The commands have at most so many bytes, with the line ends.
-const MOST_INPUT: u32 = 16777216;
-
 fn main(rt: HostRuntime) -> ExitCode {
-    let alloc = rt.alloc();
-    let mut source = StdSource::new(Some(rt.stdin()));
-    let Ok(input) = read_all(alloc, &mut source, MOST_INPUT) else {
-        return ExitCode::from(5);
-    };
-    let Ok(told) = answers(alloc, input.as_slice()) else {
-        return ExitCode::from(4);
-    };
-    match rt.stdout().write_all(told.as_slice()) {
-        Ok(()) => ExitCode::from(0),
-        Err(_) => ExitCode::from(7),
-    }
+    let mut cases = Records::new();
+    run_cases(&rt, &mut cases)
 }

@@ -2,7 +2,8 @@
 ghost use Rattle.std.specs.Prelude.{◌≡◌, ◌<◌, length};
 
 use crate::records::append_read;
-use crate::words::{next_word, octets_of, place_of};
+use crate::words::{next_word, place_of};
+use case_lines::octets_of;
 use cdr_codec::{RecordFault, decode_record};
 use pss_base::{Bytes, NoMemory, Steps, skip_blanks};
 use std::alloc::Global;

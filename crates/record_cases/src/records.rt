@@ -1,6 +1,6 @@
 // Commands on records: `encode`, `length`, `decode` and `default`.
 use crate::values::append_value;
-use crate::words::{append_octets, octets_of};
+use case_lines::{append_octets, octets_of};
 use cdr_codec::{RecordFault, decode, encode_record, record_len};
 use pss_base::{Bytes, NoMemory, skip_blanks};
 use std::alloc::Global;

@@ -1,5 +1,6 @@
 // Commands on types and homes: `is` and `descends`.
-use crate::words::{next_word, number_of, octets_of};
+use crate::words::{integer_of, next_word};
+use case_lines::{number_of, octets_of, short_number_of};
 use pss_base::{Bytes, NoMemory, Pid};
 use std::alloc::Global;
 use type_layout::{HomeNo, Layout, Schema, Value, Values, descends, is_of};
@@ -8,17 +9,13 @@ fn append_answer(out: &mut Bytes, is_so: bool) -> Result<(), NoMemory> {
     out.extend(if is_so { b"yes" } else { b"no" })
 }
 
-fn narrow(word: &[u8]) -> Option<u32> {
-    u32::try_from(number_of(word)?).ok()
-}
-
 // Numbers, as values.
 fn numbers_of(alloc: Global, text: &[u8]) -> Result<Values, NoMemory> {
     let mut values = Values::new(alloc);
     let mut rest = text;
     for _ in 0..text.len() {
         let (word, behind) = next_word(rest);
-        let Some(number) = number_of(word) else {
+        let Some(number) = integer_of(word) else {
             return Ok(values);
         };
         values.push(Value::Int(number))?;
@@ -31,8 +28,8 @@ fn reference_of(text: &[u8]) -> Option<Value> {
     let (home, behind) = next_word(text);
     let (serial, _) = next_word(behind);
     Some(Value::Ref(Some(Pid {
-        home: narrow(home)?,
-        serial: u64::try_from(number_of(serial)?).ok()?,
+        home: short_number_of(home)?,
+        serial: number_of(serial)?,
     })))
 }
 
@@ -40,10 +37,10 @@ fn reference_of(text: &[u8]) -> Option<Value> {
 fn plain_of(kind: &[u8], text: &[u8]) -> Option<Value> {
     let (word, _) = next_word(text);
     match kind {
-        b"int" => Some(Value::Int(number_of(word)?)),
-        b"char" => Some(Value::Char(u8::try_from(number_of(word)?).ok()?)),
+        b"int" => Some(Value::Int(integer_of(word)?)),
+        b"char" => Some(Value::Char(u8::try_from(integer_of(word)?).ok()?)),
         b"bool" => Some(Value::Bool(word == b"TRUE".as_slice())),
-        b"enum" => Some(Value::Enum(narrow(word)?)),
+        b"enum" => Some(Value::Enum(short_number_of(word)?)),
         b"nil" => Some(Value::Ref(None)),
         b"ref" => reference_of(text),
         _ => None,
@@ -84,7 +81,7 @@ pub fn append_is(
 fn homes_of(text: &[u8]) -> Option<(HomeNo, HomeNo)> {
     let (home, behind) = next_word(text);
     let (of, _) = next_word(behind);
-    Some((HomeNo(narrow(home)?), HomeNo(narrow(of)?)))
+    Some((HomeNo(short_number_of(home)?), HomeNo(short_number_of(of)?)))
 }
 
 /// `descends HOME OF`: whether the home with one number derives from that with the other, or is it.

@@ -1,5 +1,6 @@
 // Commands on one value: `value` and `octets`.
-use crate::words::{next_word, octets_of, place_of};
+use crate::words::{next_word, place_of};
+use case_lines::octets_of;
 use pss_base::{Bytes, NoMemory, skip_blanks};
 use std::alloc::Global;
 use type_layout::{Layout, Ty, Value, is_of};

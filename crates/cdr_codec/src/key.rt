@@ -6,7 +6,6 @@ ghost use Rattle.type_layout.specs.Views.{plain_type};
 ghost use Rattle.type_layout.specs.Members.{plain_member};
 ghost use Rattle.type_layout.specs.Spelling.{gap};
 ghost use Rattle.type_layout.specs.Keys.{key_bytes};
-ghost use Rattle.type_layout.specs.Schemas.{members_at};
 ghost use Rattle.type_layout.specs.Sound.{IsSound, IsSoundSchema};
 ghost use Rattle.cdr_codec.specs.Reading.{value_at};
 ghost use Rattle.cdr_codec.specs.Widths.{octets_in};
@@ -17,7 +16,7 @@ use crate::places::{count_at, places_of};
 use crate::width::{Width, width_of};
 use pss_base::{Bytes, NoMemory};
 use std::alloc::Global;
-use type_layout::{HomeNo, KeyNo, Member, Schema, Ty};
+use type_layout::{HomeNo, KeyNo, Member, Schema, Ty, members_at};
 
 /// The bytes of a key, from octets that spell a record of a home that has the key: those that `key_of`
 /// gives of the record. No value is made. It takes time in the octets, and memory in the number of
@@ -33,21 +32,9 @@ pub fn key_of_octets(
     requires spelled { SpellsRecordWith schema.now key home bytes.now }
     ensures { IfOk result (λ made. (s : SpellsRecordWith schema.now key home bytes.now) → made ≡ key_bytes schema.now key s.whole.values) }
 {
-    let members = members_of(schema, home);
+    let members = members_at(schema, home);
     let places = places_of(alloc, members, bytes, 1)?;
     parts_of(alloc, members, bytes, &places, indexes_of(schema, key))
-}
-
-fn members_of(schema: &Schema, home: HomeNo) -> &[Member]
-    ensures { map plain_member result.now ≡ members_at schema.now home }
-{
-    if home.0 == 0 {
-        return &[];
-    }
-    match schema.homes.as_slice().get(home.0 as usize - 1) {
-        Some(found) => found.layout.members.as_slice(),
-        None => &[],
-    }
 }
 
 fn indexes_of(schema: &Schema, key: KeyNo) -> &[u32]

@@ -14,9 +14,8 @@ ghost use Rattle.data_calls.specs.Replying.{MayPrint, IsOfMember, found_as, MayR
 use connector_parts::Parts;
 use pss_asking::Asked;
 use pss_base::{Bytes, NoMemory, Pid};
-use pss_catalog::{home_at, key_at};
 use pss_machine::{Answer, Op, Reply};
-use type_layout::{HomeNo, KeyNo, Member, Value};
+use type_layout::{HomeNo, KeyNo, Member, Value, home_at, key_at};
 use value_text::{append_number, append_value, print_value};
 
 // The member of an object with this number.

@@ -11,7 +11,7 @@ use Rattle.type_layout.specs.declared.key.KeyNo.{KeyNo}
 use Rattle.type_layout.specs.declared.schema.Home.{Home}
 use Rattle.type_layout.specs.declared.schema.Schema.{Schema}
 use Rattle.type_layout.specs.Keys.{key_bytes}
-use Rattle.type_layout.specs.Schemas.{given}
+use Rattle.type_layout.specs.Schemas.{given, keys_at}
 use Rattle.type_layout.specs.Sound.{IsSoundSchema, are_distinct, key_name}
 use Rattle.type_layout.specs.Types.{PlainValue}
 use Rattle.pss_catalog.specs.Catalog.{Object, Catalog, EachObject, object_spelling}
@@ -21,7 +21,6 @@ use Rattle.storage_home.specs.Applied.{IsState, AreKeysOf, IsChange, AreChanges}
 use Rattle.storage_home.specs.Indexes.{IsOnce}
 use Rattle.pss_machine.specs.Changes.{Changes, change_of, listed}
 use Rattle.pss_machine.proofs.Found.{first, second}
-use Rattle.pss_machine.specs.Homes.{keys_at}
 use Rattle.pss_laws.proofs.Logic.{and_left, and_right}
 use Rattle.owner_view.specs.Keyed.{keyed, keys_of}
 use Rattle.owner_view.specs.Net.{is_net, net_of, IsNet, AreNet, home_left}

@@ -10,12 +10,11 @@ use Rattle.type_layout.specs.declared.key.KeyNo.{KeyNo}
 use Rattle.type_layout.specs.declared.schema.Home.{Home}
 use Rattle.type_layout.specs.declared.schema.Schema.{Schema}
 use Rattle.type_layout.specs.Keys.{key_bytes}
-use Rattle.type_layout.specs.Schemas.{given, home_at}
+use Rattle.type_layout.specs.Schemas.{given, home_at, keys_at}
 use Rattle.type_layout.specs.Sound.{IsSoundSchema, are_distinct, key_name}
 use Rattle.pss_catalog.specs.Catalog.{Object, Catalog, holds, holders, IsUnique}
 use Rattle.pss_catalog.proofs.Listing.{only_listed}
 use Rattle.pss_machine.specs.Changes.{Changes}
-use Rattle.pss_machine.specs.Homes.{keys_at}
 use Rattle.pss_machine.specs.Alone.{is_taken, first_taken}
 use Rattle.pss_laws.proofs.Listing.{no_others}
 use Rattle.pss_laws.proofs.Logic.{and_left, and_right}

@@ -9,14 +9,13 @@ use Rattle.type_layout.specs.declared.key.KeyNo.{KeyNo}
 use Rattle.type_layout.specs.declared.schema.Schema.{Schema}
 use Rattle.type_layout.specs.Types.{PlainValue}
 use Rattle.type_layout.specs.Keys.{key_bytes}
-use Rattle.type_layout.specs.Schemas.{given}
+use Rattle.type_layout.specs.Schemas.{given, keys_at}
 use Rattle.pss_catalog.specs.Catalog.{Object, Catalog, references}
 use Rattle.pss_machine.specs.declared.level.Level.{Level}
 use Rattle.pss_machine.specs.declared.level.Level.TheVariants.{Serializable, ReadCommitted, Basic}
 use Rattle.pss_machine.specs.declared.lock.Need.{Need}
 use Rattle.pss_machine.specs.declared.lock.Mode.TheVariants.{M as Many, X as Write}
 use Rattle.pss_machine.specs.Operations.{PlainOp, Create, Set, Destroy}
-use Rattle.pss_machine.specs.Homes.{keys_at}
 use Rattle.pss_machine.specs.Alone.{object_of, with_member}
 use Rattle.pss_machine.specs.Needs.{needs, writes, reads, keys_written, object_keys, changed_keys, object_need, extent_need, targets, set_needs as machine_set_needs}
 use Rattle.owner_view.specs.Keyed.{Pair, keyed, all_keyed, key_needs}

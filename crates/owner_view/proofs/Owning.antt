@@ -13,11 +13,10 @@ use Rattle.type_layout.specs.declared.schema.Home.{Home}
 use Rattle.type_layout.specs.declared.schema.Schema.{Schema}
 use Rattle.type_layout.specs.Types.{PlainValue}
 use Rattle.type_layout.specs.Keys.{key_bytes}
-use Rattle.type_layout.specs.Schemas.{given, home_at, has_key}
+use Rattle.type_layout.specs.Schemas.{given, home_at, has_key, keys_at}
 use Rattle.pss_catalog.specs.Catalog.{Object, Catalog, holds, IsUnique}
 use Rattle.pss_catalog.proofs.Listing.{tie}
 use Rattle.pss_machine.specs.Changes.{Changes}
-use Rattle.pss_machine.specs.Homes.{keys_at}
 use Rattle.owner_view.specs.Keyed.{keyed, all_keyed, keys_of}
 use Rattle.storage_home.specs.Indexes.{KeyIndexes, found_at, lists}
 use Rattle.owner_view.specs.Overlay.{HasHolders, FoundAfter}

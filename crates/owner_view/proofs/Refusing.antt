@@ -4,10 +4,9 @@ use Rattle.std.specs.Prelude.{find, nat_lt, if◌then◌else◌}
 use Rattle.std.specs.Option.{option_map}
 use Rattle.type_layout.specs.declared.key.KeyNo.{KeyNo}
 use Rattle.type_layout.specs.declared.schema.Schema.{Schema}
-use Rattle.type_layout.specs.Schemas.{given}
+use Rattle.type_layout.specs.Schemas.{given, keys_at}
 use Rattle.pss_catalog.specs.Catalog.{Object, Catalog, object_spelling}
 use Rattle.pss_machine.specs.Operations.{PlainAnswer, Duplicate, TooLarge}
-use Rattle.pss_machine.specs.Homes.{keys_at}
 use Rattle.pss_machine.specs.Alone.{Outcome, answers, first_taken, stored}
 use Rattle.owner_view.specs.declared.refusal.Refusal.{Refusal}
 use Rattle.owner_view.specs.declared.refusal.Refusal.TheVariants as refusal

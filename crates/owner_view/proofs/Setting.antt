@@ -7,12 +7,11 @@ use Rattle.std.proofs.lemmas.Option.{slice_get_within}
 use Rattle.pss_base.specs.declared.pid.Pid.{Pid}
 use Rattle.type_layout.specs.declared.home.HomeNo.{HomeNo}
 use Rattle.type_layout.specs.declared.schema.Schema.{Schema}
-use Rattle.type_layout.specs.Schemas.{given, members_at}
+use Rattle.type_layout.specs.Schemas.{given, members_at, keys_at}
 use Rattle.type_layout.specs.Types.{PlainValue}
 use Rattle.pss_catalog.specs.Catalog.{Object, Catalog, references}
 use Rattle.pss_machine.specs.declared.level.Level.{Level}
 use Rattle.pss_machine.specs.Operations.{Set, Gone, Done}
-use Rattle.pss_machine.specs.Homes.{keys_at}
 use Rattle.pss_machine.specs.Alone.{Outcome, answers, object_of, with_member, unless_gone, stored}
 use Rattle.pss_machine.specs.Needs.{object_need, targets}
 use Rattle.pss_machine.specs.declared.lock.Mode.TheVariants.{X as Write}

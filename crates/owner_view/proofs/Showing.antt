@@ -8,12 +8,11 @@ use Rattle.std.proofs.lemmas.Option.{slice_get-map, slice_get-get_or, same_Some}
 use Rattle.type_layout.specs.declared.home.HomeNo.{HomeNo}
 use Rattle.type_layout.specs.declared.key.KeyNo.{KeyNo}
 use Rattle.type_layout.specs.declared.schema.Schema.{Schema}
-use Rattle.type_layout.specs.Schemas.{home_at, members_at, given}
+use Rattle.type_layout.specs.Schemas.{home_at, members_at, given, keys_at}
 use Rattle.type_layout.specs.Values.{IsRecord}
 use Rattle.type_layout.specs.Spelling.{record_spelling}
 use Rattle.type_layout.specs.declared.schema.Home.{Home}
 use Rattle.pss_catalog.specs.Catalog.{Object}
-use Rattle.pss_machine.specs.Homes.{keys_at}
 use Rattle.type_layout.specs.Types.{PlainMember, PlainValue}
 use Rattle.type_layout.specs.declared.value.Value.{Value}
 use Rattle.type_layout.specs.Views.{plain_value}

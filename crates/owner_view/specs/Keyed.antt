@@ -4,11 +4,10 @@ use Rattle.type_layout.specs.declared.key.KeyNo.{KeyNo}
 use Rattle.type_layout.specs.declared.schema.Schema.{Schema}
 use Rattle.type_layout.specs.Types.{PlainValue}
 use Rattle.type_layout.specs.Keys.{key_bytes}
-use Rattle.type_layout.specs.Schemas.{given}
+use Rattle.type_layout.specs.Schemas.{given, keys_at}
 use Rattle.pss_catalog.specs.Catalog.{Object}
 use Rattle.pss_machine.specs.declared.lock.Need.{Need}
 use Rattle.pss_machine.specs.declared.lock.Mode.TheVariants.{X as Write}
-use Rattle.pss_machine.specs.Homes.{keys_at}
 use Rattle.pss_machine.specs.Needs.{key_need}
 
 -- a key with its bytes

@@ -1,25 +1,14 @@
 // The keys of objects with their bytes.
 ghost use Rattle.std.specs.Prelude.{◌≡◌, IfOk};
 ghost use Rattle.type_layout.specs.Sound.{IsSoundSchema};
-ghost use Rattle.pss_machine.specs.Homes.{keys_at as keys_in};
+ghost use Rattle.type_layout.specs.Schemas.{keys_at as keys_in};
 ghost use Rattle.owner_view.specs.Seen.{IsShown, home_seen, HasKeys};
 ghost use Rattle.owner_view.specs.Keyed.{keyed, all_keyed};
 
 use crate::seen::{Seen, home_of, key_bytes_of};
 use pss_base::{Bytes, NoMemory};
-use pss_catalog::home_at;
 use std::alloc::Global;
-use type_layout::{HomeNo, KeyNo, Schema};
-
-/// The keys of a home, in its order.
-pub fn keys_at(schema: &Schema, home: HomeNo) -> &[KeyNo]
-    ensures { result.now ≡ keys_in schema.now home }
-{
-    match home_at(schema, home) {
-        Some(found) => found.keys.as_slice(),
-        None => &[],
-    }
-}
+use type_layout::{HomeNo, KeyNo, Schema, keys_at};
 
 fn keyed_by(
     alloc: Global,

@@ -24,10 +24,9 @@ use crate::step::Pairs;
 use crate::view::{View, stored_at};
 use cdr_codec::encode_record;
 use pss_base::{Bytes, NoMemory, Put};
-use pss_catalog::home_at;
 use std::alloc::Global;
 use storage_home::{Change, Changes, KeyValues};
-use type_layout::{HomeNo, KeyNo, Schema};
+use type_layout::{HomeNo, KeyNo, Schema, home_at};
 
 /// The changes that a commit has to make, by rising serials. An object that was set back to what it was
 /// committed as is not among them.

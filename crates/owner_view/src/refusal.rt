@@ -15,9 +15,8 @@ use crate::object::Changed;
 use crate::view::{View, first_gone, first_taken};
 use cdr_codec::record_len;
 use pss_base::{Bytes, Pid};
-use pss_catalog::home_at;
 use pss_machine::Answer;
-use type_layout::{KeyNo, Schema};
+use type_layout::{KeyNo, Schema, home_at};
 
 /// The most octets that a record has.
 const MOST_OCTETS: u64 = 8000;

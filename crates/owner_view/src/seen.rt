@@ -11,9 +11,8 @@ ghost use Rattle.owner_view.specs.Seen.{IsShown, home_seen, HasKey};
 use crate::object::Changed;
 use cdr_codec::{decode, key_of_octets, read_member};
 use pss_base::{Bytes, NoMemory};
-use pss_catalog::home_at;
 use std::alloc::Global;
-use type_layout::{HomeNo, KeyNo, Layout, Record, Schema, Value, key_of};
+use type_layout::{HomeNo, KeyNo, Layout, Record, Schema, Value, home_at, key_of};
 
 /// An object as an owner sees it.
 #[derive(Clone, Copy)]

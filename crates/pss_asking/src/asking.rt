@@ -16,11 +16,10 @@ use crate::asked::{AskFault, Asked, Named, Refusal};
 use crate::making::made;
 use crate::naming::{home_called, is_reference, member_called, members_at, object_of, only_reads};
 use crate::reading::{read_chosen, read_members, read_of, read_one};
-use pss_catalog::key_at;
 use pss_machine::{Access, Op, Rest};
 use schema_names::NamedSchema;
 use std::alloc::Global;
-use type_layout::{HomeNo, Indexes, KeyNo, Record, Values, key_of_values};
+use type_layout::{HomeNo, Indexes, KeyNo, Record, Values, key_at, key_of_values};
 
 /// What a data command is asked under: the schema with its names, what the session may do, and the serial that a new
 /// object takes.

@@ -10,26 +10,15 @@ ghost use Rattle.pss_asking.specs.Telling.{Tells, IsNamed, plain_place, pid_in};
 
 use crate::asked::{AskFault, Named, Refusal};
 use pss_base::Pid;
-use pss_catalog::home_at;
 use pss_machine::Access;
 use schema_names::NamedSchema;
-use type_layout::{HomeNo, Member, Schema, Ty};
+use type_layout::{HomeNo, Member, Schema, Ty, members_at};
 
 /// A member of a home, by its number.
 #[derive(Clone, Copy, Drop)]
 pub struct Place<'a> {
     pub number: u32,
     pub member: &'a Member,
-}
-
-/// The members of a home, none where it is not there.
-pub fn members_at(schema: &Schema, home: HomeNo) -> &[Member]
-    ensures { map plain_member result.now ≡ members_in schema.now home }
-{
-    match home_at(schema, home) {
-        Some(found) => found.layout.members.as_slice(),
-        None => &[],
-    }
 }
 
 /// The home that a word names.

@@ -3,10 +3,8 @@
 
 mod families;
 mod laws;
-mod numbers;
 mod row;
 mod table;
 
 pub use families::Families;
 pub use laws::{keys_stay_unique, lists_change, objects_change, totals_change};
-pub use numbers::{base_at, has_key, home_at, key_at};

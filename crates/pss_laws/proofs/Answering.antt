@@ -13,14 +13,14 @@ use Rattle.type_layout.specs.declared.schema.Home.{Home}
 use Rattle.type_layout.specs.declared.schema.Schema.{Schema}
 use Rattle.type_layout.specs.Types.{PlainValue, Int, Character, Truth, Ordinal, Text, Items, Parts, Ref}
 use Rattle.type_layout.specs.Keys.{key_bytes}
-use Rattle.type_layout.specs.Schemas.{given, home_at, descends, descends_within}
+use Rattle.type_layout.specs.Schemas.{given, home_at, descends, descends_within, keys_at}
 use Rattle.pss_catalog.specs.Catalog.{Object, Catalog, has, holds, holders, references, IsUnique, object_spelling}
 use Rattle.pss_catalog.proofs.Listing.{only_listed}
 use Rattle.pss_machine.specs.declared.level.Level.TheVariants.{Serializable}
 use Rattle.pss_machine.specs.declared.lock.Mode.TheVariants.{S as Read, M as Many, X as Write}
 use Rattle.pss_machine.specs.declared.lock.Need.{Need}
 use Rattle.pss_machine.specs.Operations.{Question, FindKey, FindPid, FindShort, Exists, Get, Follow, Count, ListOf, PlainOp, Create, Set, Destroy, Ask, PlainAnswer, Done, Found, IsThere, Val, Number, Listing, NotFound, Gone, Duplicate, TooLarge}
-use Rattle.pss_machine.specs.Homes.{numbers_from, all_homes, below, in_one_family, extent, keys_at}
+use Rattle.pss_machine.specs.Homes.{numbers_from, all_homes, below, in_one_family, extent}
 use Rattle.pss_machine.specs.Alone.{Outcome, answers, pid_at, object_of, first_gone, is_taken, first_taken, stored, unless_gone, with_member, followed, told, alone}
 use Rattle.pss_machine.specs.Needs.{object_need, extent_need, keys_written, changed_keys, set_needs, object_keys, writes, targets, asks, reads, needs}
 use Rattle.pss_laws.specs.Alike.{home_where, is_of_home, PassAlike, AllAlike}

@@ -13,7 +13,7 @@ use Rattle.type_layout.specs.declared.schema.Home.{Home}
 use Rattle.type_layout.specs.declared.schema.Schema.{Schema}
 use Rattle.type_layout.specs.Types.{PlainValue}
 use Rattle.type_layout.specs.Keys.{key_bytes}
-use Rattle.type_layout.specs.Schemas.{given, home_at, has_key}
+use Rattle.type_layout.specs.Schemas.{given, home_at, has_key, keys_at}
 use Rattle.pss_catalog.specs.Catalog.{Object, Catalog, holds, references, object_spelling}
 use Rattle.pss_catalog.specs.Changes.{Change, over}
 use Rattle.pss_catalog.proofs.Uniqueness.{found_over}
@@ -24,7 +24,6 @@ use Rattle.pss_machine.specs.declared.lock.Resource.TheVariants as resource
 use Rattle.pss_machine.specs.declared.lock.Mode.TheVariants.{M as Many, X as Write}
 use Rattle.pss_machine.specs.declared.lock.Need.{Need}
 use Rattle.pss_machine.specs.Operations.{PlainOp, Create, Set, Destroy, Ask, PlainAnswer, Done, Found, Gone}
-use Rattle.pss_machine.specs.Homes.{keys_at}
 use Rattle.pss_machine.specs.Alone.{Outcome, answers, pid_at, object_of, first_gone, first_taken, stored, unless_gone, with_member, alone}
 use Rattle.pss_machine.specs.Needs.{object_need, key_need, extent_need, keys_written, changed_keys, set_needs, object_keys, writes, reads, needs}
 use Rattle.pss_machine.proofs.Cases.{of_given, of_if}

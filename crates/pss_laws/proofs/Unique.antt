@@ -10,13 +10,12 @@ use Rattle.pss_base.specs.declared.pid.Pid.{Pid}
 use Rattle.type_layout.specs.declared.key.KeyNo.{KeyNo}
 use Rattle.type_layout.specs.declared.schema.Schema.{Schema}
 use Rattle.type_layout.specs.Keys.{key_bytes}
-use Rattle.type_layout.specs.Schemas.{given, home_at, has_key}
+use Rattle.type_layout.specs.Schemas.{given, home_at, has_key, keys_at}
 use Rattle.pss_catalog.specs.Catalog.{Object, Catalog, holders, references, without, IsUnique, object_spelling}
 use Rattle.pss_catalog.specs.Changes.{over}
 use Rattle.pss_catalog.specs.Laws.{HasNoRival}
 use Rattle.pss_catalog.proofs.Uniqueness.{unique_with, unique_without}
 use Rattle.pss_machine.specs.Operations.{PlainOp, Create, Set, Destroy, Ask, PlainAnswer, Done, Found, Duplicate, TooLarge}
-use Rattle.pss_machine.specs.Homes.{keys_at}
 use Rattle.pss_machine.specs.Alone.{Outcome, answers, pid_at, object_of, first_gone, is_taken, first_taken, stored, with_member, alone}
 use Rattle.pss_machine.proofs.Cases.{of_given, of_if}
 use Rattle.pss_laws.specs.Operations.{IsApartFrom}

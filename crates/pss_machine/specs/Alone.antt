@@ -8,11 +8,11 @@ use Rattle.type_layout.specs.declared.key.KeyNo.{KeyNo}
 use Rattle.type_layout.specs.declared.schema.Schema.{Schema}
 use Rattle.type_layout.specs.Types.{PlainValue, Ref}
 use Rattle.type_layout.specs.Keys.{key_bytes}
-use Rattle.type_layout.specs.Schemas.{given, descends}
+use Rattle.type_layout.specs.Schemas.{given, descends, keys_at}
 use Rattle.pss_catalog.specs.Catalog.{Object, Catalog, has, holders, references, object_spelling}
 use Rattle.pss_machine.specs.Operations.{Question, FindKey, FindPid, FindShort, Exists, Get, Follow, Count, ListOf, PlainOp, Create, Set, Destroy, Ask, PlainAnswer, Done, Found, IsThere, Val, Number, Listing, NotFound, Gone, Nil, Duplicate, TooLarge}
 use Rattle.pss_catalog.specs.Changes.{Change}
-use Rattle.pss_machine.specs.Homes.{in_one_family, extent, keys_at}
+use Rattle.pss_machine.specs.Homes.{in_one_family, extent}
 
 -- what an operation does
 pub record Outcome : Type 0 where

@@ -34,10 +34,6 @@ in_one_family S g h = list_any (λ root. is_root S root && (descends S g root &&
 abbrev pub extent : Schema → Catalog → HomeNo → List Pid
 extent S M h = pids_where (λ object. descends S object.home h) M
 
--- the keys of a home, in its order
-abbrev pub keys_at : Schema → HomeNo → List KeyNo
-keys_at S h = given (home_at S h) [] (λ home. home.keys)
-
 abbrev pub home_of : Pid → HomeNo
 home_of pid = record { 0 = pid.home }
 

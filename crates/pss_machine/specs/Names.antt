@@ -8,8 +8,7 @@ use Rattle.type_layout.specs.declared.schema.Factory.{Factory}
 use Rattle.type_layout.specs.declared.schema.Home.{Home}
 use Rattle.type_layout.specs.declared.schema.Provided.{Provided}
 use Rattle.type_layout.specs.declared.schema.Schema.{Schema}
-use Rattle.type_layout.specs.Schemas.{given, home_at, key_at, members_at}
-use Rattle.pss_machine.specs.Homes.{keys_at}
+use Rattle.type_layout.specs.Schemas.{given, home_at, key_at, members_at, keys_at}
 
 -- the word is the home's scoped name, with or without `::` in front
 abbrev pub is_name_of : List ℕ → Home → Bool

@@ -12,7 +12,7 @@ use Rattle.type_layout.specs.declared.key.KeyNo.{KeyNo}
 use Rattle.type_layout.specs.declared.schema.Schema.{Schema}
 use Rattle.type_layout.specs.Types.{PlainValue}
 use Rattle.type_layout.specs.Keys.{key_bytes}
-use Rattle.type_layout.specs.Schemas.{given}
+use Rattle.type_layout.specs.Schemas.{given, keys_at}
 use Rattle.pss_catalog.specs.Catalog.{Object, Catalog, references}
 use Rattle.std.specs.Hash as fed
 use Rattle.pss_machine.specs.declared.lock.Resource.{Resource}
@@ -23,7 +23,7 @@ use Rattle.pss_machine.specs.declared.lock.Need.{Need}
 use Rattle.pss_machine.specs.declared.level.Level.{Level}
 use Rattle.pss_machine.specs.declared.level.Level.TheVariants.{Serializable, ReadCommitted, Basic}
 use Rattle.pss_machine.specs.Operations.{Question, FindKey, FindPid, FindShort, Exists, Get, Follow, Count, ListOf, PlainOp, Create, Set, Destroy, Ask}
-use Rattle.pss_machine.specs.Homes.{below, keys_at}
+use Rattle.pss_machine.specs.Homes.{below}
 use Rattle.pss_machine.specs.Alone.{object_of, with_member}
 
 abbrev pub object_need : Mode → ℕ → Need

@@ -17,10 +17,9 @@ use crate::references::record_refers_below;
 use crate::shapes::first_difference;
 use cdr_codec::{RecordFault, decode};
 use pss_base::{DamageKind, NoMemory, Put};
-use pss_catalog::home_at;
 use std::alloc::Global;
-use storage_home::{KeyValues, keys_at};
-use type_layout::{Home, HomeNo, KeyNo, Record, Schema, key_of, shape_of};
+use storage_home::KeyValues;
+use type_layout::{Home, HomeNo, KeyNo, Record, Schema, home_at, key_of, keys_at, shape_of};
 
 /// Tests that the shape of a store is that of the schema.
 pub fn test_shape(alloc: Global, schema: &Schema, shape: &[u8]) -> Result<(), MountFault>

@@ -10,10 +10,9 @@ use crate::members::{keys_by_name, members_by_name};
 use crate::roots::{homes_by_name, provided_by_name};
 use crate::table::{NameTable, read};
 use pss_base::NoMemory;
-use pss_catalog::home_at;
 use std::alloc::Global;
 use std::marker::Model;
-use type_layout::{Home, HomeNo, Indexes, Key, KeyNo, Schema};
+use type_layout::{Home, HomeNo, Indexes, Key, KeyNo, Schema, home_at};
 
 // The names of what one home has.
 #[derive(Drop)]

@@ -8,9 +8,8 @@ ghost use Rattle.connector_parts.specs.Stands.{IsAt, Comes};
 use crate::states::state_of;
 use connector_parts::Parts;
 use pss_base::{Bytes, NoMemory};
-use pss_catalog::home_at;
 use pss_machine::{Kind, Reply, Text};
-use type_layout::HomeNo;
+use type_layout::{HomeNo, home_at};
 
 /// `status S`: the state, `NOSESSION` or `KIND`.
 pub fn status(parts: &Parts, name: &Text<'_>) -> Reply

@@ -9,14 +9,14 @@ use Rattle.type_layout.specs.declared.key.KeyNo.{KeyNo}
 use Rattle.type_layout.specs.declared.schema.Home.{Home}
 use Rattle.type_layout.specs.declared.schema.Schema.{Schema}
 use Rattle.type_layout.specs.Types.{PlainValue}
-use Rattle.type_layout.specs.Schemas.{given, home_at, has_key, members_at}
+use Rattle.type_layout.specs.Schemas.{given, home_at, has_key, members_at, keys_at as keys_in}
 use Rattle.type_layout.specs.Values.{IsRecord}
 use Rattle.type_layout.specs.Keys.{key_bytes}
 use Rattle.type_layout.specs.Spelling.{record_spelling}
 use Rattle.type_layout.specs.Sound.{IsSoundSchema, are_distinct, key_name}
 use Rattle.cdr_codec.specs.Spelled.{SpellsRecordWith}
 use Rattle.storage_home.specs.Indexes.{lists, IsOnce}
-use Rattle.storage_home.specs.Applied.{AreKeysOf, SpellsObject, keys_in}
+use Rattle.storage_home.specs.Applied.{AreKeysOf, SpellsObject}
 use Rattle.storage_home.proofs.Places.{by_test, same_number}
 use Rattle.storage_home.proofs.Holding.{same_bytes_turned}
 

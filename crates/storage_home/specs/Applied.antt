@@ -40,10 +40,6 @@ pub record SpellsObject (S : Schema) (home : HomeNo) (bytes : List ℕ) : Type 0
 abbrev pub object_of : {S : Schema} {home : HomeNo} {bytes : List ℕ} → SpellsObject S home bytes → Object
 object_of {home = home} spells = record { home = home; values = spells.values }
 
--- the keys of a home, none where it is not there
-abbrev pub keys_in : Schema → HomeNo → List KeyNo
-keys_in S home = given (home_at S home) [] (λ h. h.keys)
-
 -- a change says what becomes of the object with its serial, and which keys this one holds before and after
 pub record IsChange (S : Schema) (M : Catalog) (change : Change) (step : Step) : Type 0 where
   pub step_is : IsStep S change.put step

@@ -1,24 +1,14 @@
 // The keys of a home, and of the objects in it.
 ghost use Rattle.std.specs.Prelude.{◌≡◌, Some, IfOk};
 ghost use Rattle.type_layout.specs.Sound.{IsSoundSchema};
-ghost use Rattle.storage_home.specs.Applied.{AreKeysOf, SpellsObject, object_of, keys_in};
+ghost use Rattle.type_layout.specs.Schemas.{keys_at as keys_in};
+ghost use Rattle.storage_home.specs.Applied.{AreKeysOf, SpellsObject, object_of};
 
 use crate::change::KeyValues;
 use cdr_codec::key_of_octets;
 use pss_base::NoMemory;
-use pss_catalog::home_at;
 use std::alloc::Global;
-use type_layout::{HomeNo, KeyNo, Schema};
-
-/// The keys of a home, none where it is not there.
-pub fn keys_at(schema: &Schema, home: HomeNo) -> &[KeyNo]
-    ensures { result.now ≡ keys_in schema.now home }
-{
-    match home_at(schema, home) {
-        Some(found) => found.keys.as_slice(),
-        None => &[],
-    }
-}
+use type_layout::{HomeNo, KeyNo, Schema, keys_at};
 
 /// The keys of an object of a home, with the bytes that its record, in these octets, gives each.
 pub fn keys_of_octets(

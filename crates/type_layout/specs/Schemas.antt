@@ -32,6 +32,10 @@ base_of S h = given (home_at S h) None (λ home. home.base)
 abbrev pub members_at : Schema → HomeNo → List PlainMember
 members_at S h = given (home_at S h) [] (λ home. home.layout.members)
 
+-- the keys of a home, in its order, none where it is not there
+abbrev pub keys_at : Schema → HomeNo → List KeyNo
+keys_at S h = given (home_at S h) [] (λ home. home.keys)
+
 -- from base to base one comes to a home
 pub data DescendsFrom (S : Schema) : HomeNo → HomeNo → Type 0 where
   itself : (h : HomeNo) → DescendsFrom S h h

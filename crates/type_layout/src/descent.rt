@@ -1,8 +1,9 @@
 // Which storage homes derive from which.
 ghost use Rattle.std.specs.Prelude.{◌≡◌, ◌↔◌, IsTrue};
-ghost use Rattle.type_layout.specs.Schemas.{base_of as base_in, descends as descends_in, DescendsFrom};
+ghost use Rattle.type_layout.specs.Schemas.{descends as descends_in, DescendsFrom};
 ghost use Rattle.type_layout.specs.Sound.{IsSoundSchema};
 
+use crate::numbers::base_at;
 use crate::{HomeNo, Schema};
 
 /// Whether a home is `of` or derives from it, by one base or several. It takes time in the number
@@ -23,22 +24,10 @@ fn comes_to(schema: &Schema, home: HomeNo, of: HomeNo) -> bool
         if current == of {
             return true;
         }
-        let Some(base) = base_of(schema, current) else {
+        let Some(base) = base_at(schema, current) else {
             return false;
         };
         current = base;
     }
     false
-}
-
-fn base_of(schema: &Schema, home: HomeNo) -> Option<HomeNo>
-    ensures { result ≡ base_in schema.now home }
-{
-    if home.0 == 0 {
-        return None;
-    }
-    match schema.homes.as_slice().get(home.0 as usize - 1) {
-        Some(found) => found.base,
-        None => None,
-    }
 }

@@ -6,11 +6,11 @@ ghost use Rattle.type_layout.specs.Types.{Int};
 ghost use Rattle.type_layout.specs.Views.{plain_type, plain_value};
 ghost use Rattle.type_layout.specs.Members.{plain_member};
 ghost use Rattle.type_layout.specs.Values.{Of, IsRecord};
-ghost use Rattle.type_layout.specs.Schemas.{members_at};
 ghost use Rattle.type_layout.specs.Sound.{IsSoundSchema};
 ghost use Rattle.type_layout.specs.Keys.{key_part, part_at, key_bytes, IsRecordWith, FitsAt, AreFit, chosen, key_members, parts, value_bytes};
 
-use crate::{HomeNo, KeyNo, Member, Record, Schema, Ty, Value};
+use crate::numbers::members_at;
+use crate::{KeyNo, Member, Record, Schema, Ty, Value};
 use pss_base::{Bytes, NoMemory};
 use std::alloc::Global;
 
@@ -27,7 +27,7 @@ pub fn key_of(alloc: Global, schema: &Schema, key: KeyNo, value: &Record) -> Res
     let Some(found) = schema.keys.as_slice().get(key.0 as usize) else {
         return Ok(bytes);
     };
-    let members = members_of(schema, found.home);
+    let members = members_at(schema, found.home);
     put_parts(
         &mut bytes,
         members,
@@ -52,7 +52,7 @@ pub fn key_of_values(
     let Some(found) = schema.keys.as_slice().get(key.0 as usize) else {
         return Ok(bytes);
     };
-    let members = members_of(schema, found.home);
+    let members = members_at(schema, found.home);
     put_values(&mut bytes, members, found.members.as_slice(), values)?;
     Ok(bytes)
 }
@@ -78,18 +78,6 @@ fn put_values(
         place += 1;
     }
     Ok(())
-}
-
-fn members_of(schema: &Schema, home: HomeNo) -> &[Member]
-    ensures { map plain_member result.now ≡ members_at schema.now home }
-{
-    if home.0 == 0 {
-        return &[];
-    }
-    match schema.homes.as_slice().get(home.0 as usize - 1) {
-        Some(found) => found.layout.members.as_slice(),
-        None => &[],
-    }
 }
 
 fn put_parts(

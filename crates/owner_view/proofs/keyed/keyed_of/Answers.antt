@@ -1,6 +1,6 @@
 use Rattle.std.proofs.Common.{subst, sym, ap, ◌∙◌}
 use Rattle.type_layout.specs.declared.home.HomeNo.{HomeNo}
-use Rattle.pss_machine.specs.Homes.{keys_at}
+use Rattle.type_layout.specs.Schemas.{keys_at}
 use Rattle.owner_view.specs.Seen.{HasKeys}
 use Rattle.owner_view.proofs.Showing.{has_keys, home_shown}
 use Rattle.owner_view.proofs.keyed.keyed_of.Goals as goal

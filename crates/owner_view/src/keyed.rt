@@ -1,7 +1,6 @@
 // The keys of objects with their bytes.
 ghost use Rattle.std.specs.Prelude.{◌≡◌, IfOk};
 ghost use Rattle.type_layout.specs.Sound.{IsSoundSchema};
-ghost use Rattle.type_layout.specs.Schemas.{keys_at as keys_in};
 ghost use Rattle.owner_view.specs.Seen.{IsShown, home_seen, HasKeys};
 ghost use Rattle.owner_view.specs.Keyed.{keyed, all_keyed};
 

@@ -6,9 +6,8 @@ ghost use Rattle.page_format.specs.Roots.{IsRoot};
 ghost use Rattle.page_format.specs.inner.Heads.{IsHead};
 
 use crate::layout::{AREA, EPOCH, NEXT, PAGE_COUNT, ROOT_MAGIC, SHAPE, SHAPE_LENGTH};
-use crate::number::{read_number4, read_number8};
 use pss_base::DiskFault;
-use pss_disk::Station;
+use pss_disk::{Station, read_number4, read_number8};
 use redo_journal::OPEN;
 
 /// What stands in a root area in front of the shape.

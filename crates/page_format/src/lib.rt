@@ -14,7 +14,6 @@ mod laws;
 pub mod layout;
 mod marks;
 mod new_page;
-mod number;
 mod objects;
 mod packing;
 mod page;

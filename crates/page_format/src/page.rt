@@ -7,7 +7,7 @@ use crate::layout::{
     ENTRIES, ENTRY_COUNT, LONGEST_RECORD, MOST_USED, PAGE_MAGIC, PAGE_SLOT, PAGE_ZEROS, RECORD,
     RECORD_LENGTH, SERIAL, USED, ZEROS,
 };
-use crate::number::{read_number4, read_number8};
+use pss_disk::{read_number4, read_number8};
 
 /// What stands in a page in front of its entries.
 #[derive(Clone, Copy)]

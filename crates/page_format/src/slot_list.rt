@@ -9,11 +9,10 @@ ghost use Rattle.page_format.specs.Roots.{IsWrongSlot, slot_in};
 
 use crate::layout::{AREA, FIRST_SLOT, PAGE, SLOT_LIST, SLOTS};
 use crate::marks::flags;
-use crate::number::read_number4;
 use crate::reading::read_octets;
 use crate::slots::Slots;
 use pss_base::{NoMemory, StoreStop};
-use pss_disk::Station;
+use pss_disk::{Station, read_number4};
 use std::alloc::Global;
 
 // The numbers of four octets each.

@@ -14,12 +14,12 @@ ghost use Rattle.pss_asking.specs.Telling.{Tells, IsNamed, plain_asked, finding_
 
 use crate::asked::{AskFault, Asked, Named, Refusal};
 use crate::making::made;
-use crate::naming::{home_called, is_reference, member_called, members_at, object_of, only_reads};
-use crate::reading::{read_chosen, read_members, read_of, read_one};
+use crate::naming::{home_called, is_reference, member_called, object_of, only_reads};
+use crate::reading::{read_chosen, read_members, read_one};
 use pss_machine::{Access, Op, Rest};
 use schema_names::NamedSchema;
 use std::alloc::Global;
-use type_layout::{HomeNo, Indexes, KeyNo, Record, Values, key_at, key_of_values};
+use type_layout::{HomeNo, Indexes, KeyNo, Record, Values, key_at, key_of_values, members_at};
 
 /// What a data command is asked under: the schema with its names, what the session may do, and the serial that a new
 /// object takes.
@@ -146,7 +146,7 @@ impl Asking<'_> {
                 found.members.as_slice(),
                 values,
             ),
-            None => read_of(self.alloc, &[], values),
+            None => read_members(self.alloc, &[], values),
         }
     }
 

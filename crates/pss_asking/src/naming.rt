@@ -1,7 +1,5 @@
 // What the words of a command name.
-ghost use Rattle.std.specs.Prelude.{◌≡◌, map};
-ghost use Rattle.type_layout.specs.Members.{plain_member};
-ghost use Rattle.type_layout.specs.Schemas.{members_at as members_in};
+ghost use Rattle.std.specs.Prelude.{◌≡◌};
 ghost use Rattle.pss_machine.specs.Sessions.{Session, is_read_only};
 ghost use Rattle.pss_machine.specs.Copies.{Copies};
 ghost use Rattle.pss_machine.specs.Asking.{read_home, read_member, is_reference as refers};

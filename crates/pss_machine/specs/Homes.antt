@@ -3,11 +3,10 @@ use Rattle.std.specs.Prelude.{ℕ, ◌+◌, List, [], ◌∷◌, filter, Option,
 use Rattle.std.specs.List.{list_any, slice_get}
 use Rattle.pss_base.specs.declared.pid.Pid.{Pid}
 use Rattle.type_layout.specs.declared.home.HomeNo.{HomeNo}
-use Rattle.type_layout.specs.declared.key.KeyNo.{KeyNo}
 use Rattle.type_layout.specs.declared.schema.Home.{Home}
 use Rattle.type_layout.specs.declared.schema.Schema.{Schema}
 use Rattle.type_layout.specs.Types.{PlainMember}
-use Rattle.type_layout.specs.Schemas.{given, home_at, base_of, members_at, descends}
+use Rattle.type_layout.specs.Schemas.{given, base_of, members_at, descends}
 use Rattle.pss_catalog.specs.Catalog.{Catalog, pids_where}
 
 -- as many numbers as homes, from the first one on

@@ -1,5 +1,5 @@
 // A body from octets.
-ghost use Rattle.std.specs.Prelude.{ℕ, ◌≡◌, ◌+◌, ◌<◌, ◌≤◌, ◌++◌, ◌∷◌, [], List, length, drop, take, IfOk, IfSome, IsNone, OnOk};
+ghost use Rattle.std.specs.Prelude.{◌≡◌, ◌+◌, ◌<◌, ◌≤◌, ◌++◌, ◌∷◌, [], List, length, IfOk, IfSome, IsNone, OnOk};
 ghost use Rattle.pss_recovery.specs.declared.body.Body.{Body as Said};
 ghost use Rattle.pss_recovery.specs.Bodies.{Spells};
 ghost use Rattle.pss_recovery.specs.inner.Changes.{AreChanges, Begins, change_in, record_in};
@@ -8,8 +8,9 @@ ghost use Rattle.pss_base.specs.declared.put.Put.{Put as Change};
 use crate::body::Body;
 use crate::head::{ChangeHead, read_head};
 use crate::layout::{CHANGES, COUNT, MOST_CHANGES, RECORD};
-use crate::octets::{behind, number4, number8};
+use crate::octets::behind;
 use pss_base::{Bytes, NoMemory, Put, Puts};
+use pss_disk::{read_number4, read_number8};
 use std::alloc::Global;
 
 // The record that octets are; none where there are none.
@@ -73,13 +74,13 @@ pub fn decode_body(alloc: Global, octets: &[u8]) -> Result<Option<Body>, NoMemor
     if octets.len() < CHANGES {
         return Ok(None);
     }
-    let count = number4(octets, COUNT);
+    let count = read_number4(octets, COUNT);
     if count > MOST_CHANGES {
         return Ok(None);
     }
     match changes_of(alloc, &octets[CHANGES..], count) {
         Ok(Some(puts)) => Ok(Some(Body {
-            next: number8(octets, 0),
+            next: read_number8(octets, 0),
             puts,
         })),
         Ok(None) => Ok(None),

@@ -1,10 +1,10 @@
 // What stands in front of the record of a change.
-ghost use Rattle.std.specs.Prelude.{ℕ, ◌≡◌, ◌+◌, ◌≤◌, ◌++◌, List, length, take, drop, MatchOption};
+ghost use Rattle.std.specs.Prelude.{◌≡◌, ◌≤◌, length, take, MatchOption};
 ghost use Rattle.pss_recovery.specs.Bodies.{change_head};
 ghost use Rattle.pss_recovery.specs.inner.Changes.{AreNumbers, Begins, BeginsNone};
 
 use crate::layout::{LENGTH, RECORD, SERIAL};
-use crate::octets::{number4, number8};
+use pss_disk::{read_number4, read_number8};
 
 /// A change but for its record.
 #[derive(Clone, Copy)]
@@ -23,9 +23,9 @@ fn head_of(octets: &[u8]) -> ChangeHead
     ensures spelled { take 16 octets.now ≡ change_head result.home result.serial result.len }
 {
     ChangeHead {
-        home: number4(octets, 0),
-        serial: number8(octets, SERIAL),
-        len: number4(octets, LENGTH),
+        home: read_number4(octets, 0),
+        serial: read_number8(octets, SERIAL),
+        len: read_number4(octets, LENGTH),
     }
 }
 

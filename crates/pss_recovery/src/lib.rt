@@ -41,6 +41,6 @@ pub use laws::{
     a_body_is_one_thing, a_mounted_store_stands, a_store_is_good, an_image_is_one_thing,
 };
 pub use mounting::Mounted;
-pub use noting::copy_put;
+pub use noting::{copy_put, copy_puts};
 pub use prepared::Prepared;
 pub use store::Store;

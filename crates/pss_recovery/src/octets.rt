@@ -1,6 +1,5 @@
-// Parts of octets.
-ghost use Rattle.std.specs.Prelude.{◌≡◌, ◌+◌, ◌≤◌, length, take, drop};
-ghost use Rattle.std.specs.Int.{to_be_bytes, w32, w64};
+// Octets behind others.
+ghost use Rattle.std.specs.Prelude.{◌≡◌, ◌≤◌, length, drop};
 
 /// The octets from a place on.
 pub fn behind(octets: &[u8], at: usize) -> &[u8]
@@ -8,29 +7,4 @@ pub fn behind(octets: &[u8], at: usize) -> &[u8]
     ensures { result.now ≡ drop at octets.now }
 {
     &octets[at..]
-}
-
-/// The number in the four octets from a place on.
-pub fn number4(octets: &[u8], at: usize) -> u32
-    requires { at + 4 ≤ length octets.now }
-    ensures { to_be_bytes w32 result ≡ take 4 (drop at octets.now) }
-{
-    u32::from_be_bytes([octets[at], octets[at + 1], octets[at + 2], octets[at + 3]])
-}
-
-/// The number in the eight octets from a place on.
-pub fn number8(octets: &[u8], at: usize) -> u64
-    requires { at + 8 ≤ length octets.now }
-    ensures { to_be_bytes w64 result ≡ take 8 (drop at octets.now) }
-{
-    u64::from_be_bytes([
-        octets[at],
-        octets[at + 1],
-        octets[at + 2],
-        octets[at + 3],
-        octets[at + 4],
-        octets[at + 5],
-        octets[at + 6],
-        octets[at + 7],
-    ])
 }

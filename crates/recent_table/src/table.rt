@@ -128,6 +128,7 @@ impl<K: Copy + Eq + Hash + Drop, V: Drop> RecentTable<K, V> {
         }
     }
 
+    /// How many entries there are, fewer than 2 to the 63rd. No key stands twice, so this is the number of keys.
     pub fn len(&self) -> usize
         ensures len { result ≡ length self.now }
         ensures small { result < 2 ^ 63 }

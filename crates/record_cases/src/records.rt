@@ -4,19 +4,11 @@ use case_lines::{append_octets, octets_of};
 use cdr_codec::{RecordFault, decode, encode_record, record_len};
 use pss_base::{Bytes, NoMemory, skip_blanks};
 use std::alloc::Global;
-use type_layout::{Layout, Record, Ty, Values, default_of, is_record};
-use value_text::{LineFault, read_values};
+use type_layout::{Layout, Record, Values, default_of, is_record};
+use value_text::{LineFault, read_members};
 
 /// No line has more bytes than all of the input.
 const MOST_LINE: usize = 16777216;
-
-fn types_of(alloc: Global, layout: &Layout) -> Result<Vec<&Ty>, NoMemory> {
-    let mut types = Vec::new(alloc);
-    for member in layout.members.as_slice() {
-        types.push(&member.ty)?;
-    }
-    Ok(types)
-}
 
 fn append_octets_of(
     alloc: Global,
@@ -54,8 +46,7 @@ fn record_in(
     if column > MOST_LINE || rest.len() > MOST_LINE {
         return Err(LineFault::BadValue(0));
     }
-    let types = types_of(alloc, layout)?;
-    match read_values(alloc, types.as_slice(), rest, column as u32) {
+    match read_members(alloc, layout.members.as_slice(), rest, column as u32) {
         Ok(values) => Ok(Record(values)),
         Err(fault) => Err(fault),
     }

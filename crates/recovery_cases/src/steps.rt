@@ -6,7 +6,7 @@ ghost use Rattle.pss_recovery.specs.Mounted.{MayFollow};
 
 use case_lines::{number_of, short_number_of, split_word};
 use pss_base::{Bytes, NoMemory, Put, Puts};
-use pss_recovery::{Body, copy_put};
+use pss_recovery::{Body, copy_puts};
 use std::alloc::Global;
 
 /// A record is told with at most so many octets.
@@ -77,22 +77,12 @@ pub fn may_follow(next: u64, body: &Body) -> bool
     next <= body.next && body.puts.as_slice().len() <= 256 && are_right(body.puts.as_slice())
 }
 
-fn copy_of_puts(alloc: Global, puts: &[Put]) -> Result<Puts, NoMemory>
-    ensures { IfOk result (λ copy. copy ≡ puts.now) }
-{
-    let mut copy = Puts::new(alloc);
-    for put in puts {
-        copy.push(copy_put(put)?)?;
-    }
-    Ok(copy)
-}
-
 /// A copy of a body.
 pub fn copy_of(alloc: Global, body: &Body) -> Result<Body, NoMemory>
     ensures { IfOk result (λ copy. copy ≡ body.now) }
 {
     Ok(Body {
         next: body.next,
-        puts: copy_of_puts(alloc, body.puts.as_slice())?,
+        puts: copy_puts(alloc, body.puts.as_slice())?,
     })
 }

@@ -1,7 +1,6 @@
 // The keys of a home, and of the objects in it.
-ghost use Rattle.std.specs.Prelude.{◌≡◌, Some, IfOk};
+ghost use Rattle.std.specs.Prelude.{Some, IfOk};
 ghost use Rattle.type_layout.specs.Sound.{IsSoundSchema};
-ghost use Rattle.type_layout.specs.Schemas.{keys_at as keys_in};
 ghost use Rattle.storage_home.specs.Applied.{AreKeysOf, SpellsObject, object_of};
 
 use crate::change::KeyValues;

@@ -10,3 +10,4 @@ pub mod ValueLaws
 pub mod Standing
 pub mod PrintLaws
 pub mod LineReading
+pub mod ChosenReading

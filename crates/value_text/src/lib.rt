@@ -13,6 +13,6 @@ mod words;
 
 pub use fault::ValueFault;
 pub use laws::{one_value, spelling_stands, what_stands_is_read};
-pub use line::{LineFault, read_one_value, read_values};
+pub use line::{LineFault, read_chosen, read_members, read_one_value};
 pub use print::{append_number, append_value, print_value};
 pub use read::read_value;

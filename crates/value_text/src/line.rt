@@ -1,6 +1,8 @@
 // The values in the rest of a line.
 ghost use Rattle.std.specs.Prelude.{◌≡◌, ◌≤◌, ◌<◌, ◌+◌, ◌-◌, ◌^◌, [], ◌∷◌, length, map, IfOk};
 ghost use Rattle.type_layout.specs.Views.{plain_type, plain_value, plain_values};
+ghost use Rattle.type_layout.specs.Members.{plain_member};
+ghost use Rattle.type_layout.specs.Keys.{chosen};
 ghost use Rattle.value_text.specs.Line.{Tells, pushed, first_value, values_from};
 ghost use Rattle.value_text.specs.declared.line.LineFault.TheVariants.{NoMemory as OutOfMemory};
 
@@ -8,7 +10,7 @@ use crate::ValueFault;
 use crate::read::front_of;
 use pss_base::{NoMemory, skip_blanks};
 use std::alloc::Global;
-use type_layout::{Ty, Value, Values};
+use type_layout::{Member, Ty, Value, Values};
 
 /// Why the values of a line were not read.
 #[derive(Clone, Copy, Debug, PartialEq, Eq, Drop)]
@@ -28,31 +30,56 @@ impl From<NoMemory> for LineFault {
     }
 }
 
-/// The values that the rest of a line has, one of each type, with blanks in front of each and behind
-/// the last. The text begins at the column, and columns count bytes. A value ends at a blank or the
-/// end of the text, so two values without a blank between them do not read.
+/// The values that the rest of a line has, one for each of these members, with blanks in front of each
+/// and behind the last. The text begins at the column, and columns count bytes. A value ends at a blank
+/// or the end of the text, so two values without a blank between them do not read.
 ///
-/// It goes over the text once, and takes memory for what it reads.
-pub fn read_values(
+/// It goes over the text once, and takes memory for a value of each member.
+pub fn read_members(
     alloc: Global,
-    types: &[&Ty],
+    members: &[Member],
     text: &[u8],
     column: u32,
 ) -> Result<Values, LineFault>
     requires { column + length text.now < 2 ^ 32 }
-    ensures { Tells plain_values result (values_from (map (λ t. plain_type t.now) types.now) column text.now) }
+    ensures { Tells plain_values result (values_from (map (λ m. m.type) (map plain_member members.now)) column text.now) }
 {
     let end = column + text.len() as u32;
-    let mut values = Values::new(alloc);
+    let mut values = Values::with_capacity(alloc, members.len())?;
     let mut rest = text;
-    for ty in types {
-        rest = push_next(&mut values, alloc, ty, rest, end)?;
+    for member in members {
+        rest = push_next(&mut values, alloc, &member.ty, rest, end)?;
     }
     expect_end(rest, end)?;
     Ok(values)
 }
 
-/// The one value that the rest of a line has, as `read_values` reads it for a list of its type alone.
+/// The values that the rest of a line has, one for each of the members with these numbers, as
+/// `read_members` reads them. A number that no member has is left out.
+pub fn read_chosen(
+    alloc: Global,
+    members: &[Member],
+    numbers: &[u32],
+    text: &[u8],
+    column: u32,
+) -> Result<Values, LineFault>
+    requires { column + length text.now < 2 ^ 32 }
+    ensures { Tells plain_values result (values_from (map (λ m. m.type) (chosen (map plain_member members.now) numbers.now)) column text.now) }
+{
+    let end = column + text.len() as u32;
+    let mut values = Values::with_capacity(alloc, numbers.len())?;
+    let mut rest = text;
+    for number in numbers {
+        let Some(member) = members.get(*number as usize) else {
+            continue;
+        };
+        rest = push_next(&mut values, alloc, &member.ty, rest, end)?;
+    }
+    expect_end(rest, end)?;
+    Ok(values)
+}
+
+/// The one value that the rest of a line has, as `read_members` reads it for one member of this type.
 pub fn read_one_value(alloc: Global, ty: &Ty, text: &[u8], column: u32) -> Result<Value, LineFault>
     requires { column + length text.now < 2 ^ 32 }
     ensures { Tells (λ value. plain_value value ∷ []) result (values_from (plain_type ty.now ∷ []) column text.now) }

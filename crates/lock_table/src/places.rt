@@ -140,11 +140,14 @@ fn found_at(table: &Table<Resource, Place>, at: usize, resource: &Resource) -> O
     }
 }
 
-// The place of a resource by its hash. The next one is looked for near it.
+// The place of a resource by its hash, for which nothing is hashed where nothing is locked. The next one is looked for near it.
 fn look_up(table: &Table<Resource, Place>, last: &Cell<usize>, resource: &Resource) -> Option<Found>
     ensures some { IfSome result (IsAt table.now.entries resource.now) }
     ensures none { IfNone result (entry_at same_resource table.now.entries resource.now ≡ None) }
 {
+    if table.is_empty() {
+        return None;
+    }
     match table.get_full(resource) {
         Some((at, _, place)) => {
             last.set(at);

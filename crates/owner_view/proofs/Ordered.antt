@@ -1,6 +1,6 @@
 -- Slots by the order of their serials.
 use Rattle.std.proofs.Common.{ℕ, suc, ◌≡◌, ◌<◌, ◌≤◌, ◌+◌, ◌==◌, Bool, true, false, cond, List, [], ◌∷◌, length, drop, get_or, Option, Some, None, refl, sym, ap, subst, ◌∙◌, arith, zero, add-one}
-use Rattle.std.specs.Prelude.{is_some, nat_eq, ◌||◌}
+use Rattle.std.specs.Prelude.{is_some, nat_eq, ◌||◌, slice_get}
 use Rattle.std.specs.List.{list_any, IsDistinct}
 use Rattle.std.specs.List.Sorted.{IsPermutation, IsSorted, IsNonDecreasing}
 use Rattle.std.specs.Map.{keys_of}
@@ -39,6 +39,17 @@ listed_key q (e ∷ es) = by (q == e.0) (listed_key q es)
     by : (b : Bool) → list_any (λ t. q == t) (keys_of es) ≡ is_some (slot_at q es) → (b || list_any (λ t. q == t) (keys_of es)) ≡ is_some (cond b (Some e.1) (slot_at q es))
     by true rest = refl
     by false rest = rest
+
+-- a slot alone is in order
+pub alone : (es : List (ℕ × Slot)) (s : ℕ) (at : Slot) → length es ≡ 1 → Some (s, at) ≡ slice_get es 0 → AreInOrder es (s ∷ [])
+alone [] s at one there = absurd (omega (arith, one))
+alone (e ∷ []) s at one there =
+    let same : s ≡ e.0 = ap (λ (o : Option (ℕ × Slot)). given o 0 (λ x. x.0)) there in
+    record {
+      rise = (omega arith, tt);
+      all = λ q. subst (λ (n : ℕ). list_any (λ t. q == t) (n ∷ []) ≡ is_some (slot_at q (e ∷ []))) (sym same) (listed_key q (e ∷ []));
+    }
+alone (e ∷ f ∷ fs) s at one there = absurd (omega (arith, one))
 
 flips : (x y : ℕ) → nat_eq x y ≡ nat_eq y x
 flips x y = grind (arith, nat_tests)

@@ -25,6 +25,7 @@ use crate::view::{View, stored_at};
 use cdr_codec::encode_record;
 use pss_base::{Bytes, NoMemory, Put};
 use std::alloc::Global;
+use std::slice;
 use storage_home::{Change, Changes, KeyValues};
 use type_layout::{HomeNo, KeyNo, Schema, home_at};
 
@@ -35,8 +36,18 @@ pub fn net_changes<C: Committed>(alloc: Global, view: &View<'_, C>) -> Result<Ch
     ensures net { IfOk result (λ changes. (v : Shows C.shows view.now) → AreNet view.now.schema.now v.catalog (net_of v.catalog (changes_in view.now.overlay.now)) changes) }
     ensures wanted { IfOk result (λ changes. (v : Shows C.shows view.now) → AreChanges view.now.schema.now v.catalog changes (net_of v.catalog (changes_in view.now.overlay.now))) }
 {
-    let serials = view.overlay.in_order()?;
-    net_at(alloc, view, &serials)
+    net_all(alloc, view)
+}
+
+// The changes at all serials. For one alone no list is made.
+fn net_all<C: Committed>(alloc: Global, view: &View<'_, C>) -> Result<Changes, NoMemory>
+    requires { Shows C.shows view.now }
+    ensures { IfOk result (λ changes. (v : Shows C.shows view.now) → AreNet view.now.schema.now v.catalog (net_of v.catalog (changes_in view.now.overlay.now)) changes) }
+{
+    match view.overlay.only() {
+        Some(serial) => net_at(alloc, view, slice::from_ref(&serial)),
+        None => net_at(alloc, view, &view.overlay.in_order()?),
+    }
 }
 
 // The changes at these serials.

@@ -1,5 +1,5 @@
 // What an owner changed, and who holds which keys among the changed objects.
-ghost use Rattle.std.specs.Prelude.{◌≡◌, [], None, IfOk, OnOk, IsSome};
+ghost use Rattle.std.specs.Prelude.{◌≡◌, [], ◌∷◌, None, IfOk, IfSome, OnOk, IsSome};
 ghost use Rattle.std.specs.FinMap as map;
 ghost use Rattle.owner_view.specs.States.{slot_at, slot_state, told_state, with_told, AreInOrder};
 ghost use Rattle.storage_home.specs.Indexes.{KeyIndexes as Table, found_at, MayPut, KeepsFound, TurnsFound, KeepsKeysReserved};
@@ -39,6 +39,13 @@ impl Overlay {
     {
         states::clear(&mut self.states, self.alloc);
         indexes::clear(&mut self.indexes, self.alloc);
+    }
+
+    /// The serial of the only state, or of the only one that is reserved.
+    pub fn only(&self) -> Option<u64>
+        ensures { IfSome result (λ serial. AreInOrder self.now.states.table.entries (serial ∷ [])) }
+    {
+        states::only(&self.states)
     }
 
     /// The serials of the states in their order, with those that are only reserved.

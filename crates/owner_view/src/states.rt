@@ -1,5 +1,5 @@
 // The states to which objects were changed, by serial.
-ghost use Rattle.std.specs.Prelude.{◌≡◌, [], Some, None, nat_eq, is_some, IfOk, IfSome, OnOk, IsSome};
+ghost use Rattle.std.specs.Prelude.{◌≡◌, [], ◌∷◌, Some, None, nat_eq, is_some, IfOk, IfSome, OnOk, IsSome};
 ghost use Rattle.std.specs.Option.{option_map};
 ghost use Rattle.owner_view.specs.States.{slot_at, slot_state, state_at, told_state, KeepsStates, TurnsState, AreInOrder};
 ghost use Rattle.std.specs.List.{IsDistinct};
@@ -92,22 +92,24 @@ fn told_by(slot: &Slot) -> Told<'_>
 }
 
 // The slot of a serial, where it has one. Where it is the one found last or stands behind it, it is not hashed.
+#[inline(always)]
 fn slot_of(states: &States, serial: u64) -> Option<&Slot>
     ensures { option_map (λ slot. slot.now) result ≡ slot_at serial states.now.table.entries }
 {
-    match slot_near(states, serial) {
+    match slot_there(&states.table, states.last.get(), serial) {
         Some(slot) => Some(slot),
-        None => look_up(states, serial),
+        None => slot_elsewhere(states, serial),
     }
 }
 
-fn slot_near(states: &States, serial: u64) -> Option<&Slot>
-    ensures { IfSome result (λ slot. Some slot.now ≡ slot_at serial states.now.table.entries) }
+// The slot of a serial that is not looked for where the last one was found.
+#[inline(never)]
+fn slot_elsewhere(states: &States, serial: u64) -> Option<&Slot>
+    ensures { option_map (λ slot. slot.now) result ≡ slot_at serial states.now.table.entries }
 {
-    let last = states.last.get();
-    match slot_there(&states.table, last, serial) {
+    match slot_next(states, states.last.get().wrapping_add(1), serial) {
         Some(slot) => Some(slot),
-        None => slot_next(states, last.wrapping_add(1), serial),
+        None => look_up(states, serial),
     }
 }
 
@@ -124,6 +126,7 @@ fn slot_next(states: &States, place: usize, serial: u64) -> Option<&Slot>
     }
 }
 
+#[inline(always)]
 fn slot_there(table: &Table, place: usize, serial: u64) -> Option<&Slot>
     ensures { IfSome result (λ slot. Some slot.now ≡ slot_at serial table.now.entries) }
 {
@@ -192,6 +195,19 @@ fn stands(slot: &Slot) -> bool
         Slot::Reserved => false,
         Slot::Gone => true,
         Slot::There(_) => true,
+    }
+}
+
+/// The serial that has a slot, where one alone has.
+pub fn only(states: &States) -> Option<u64>
+    ensures { IfSome result (λ serial. AreInOrder states.now.table.entries (serial ∷ [])) }
+{
+    if states.table.len() != 1 {
+        return None;
+    }
+    match states.table.get_index(0) {
+        Some((serial, _)) => Some(*serial),
+        None => None,
     }
 }
 

@@ -16,7 +16,7 @@ pub fn number_of(word: &[u8]) -> Option<u64> {
     from_utf8(word).ok()?.parse::<u64>().ok()
 }
 
-/// The same up to 2^32 - 1.
+/// The number of a word of decimal digits, up to 2^32 - 1.
 pub fn short_number_of(word: &[u8]) -> Option<u32> {
     u32::try_from(number_of(word)?).ok()
 }

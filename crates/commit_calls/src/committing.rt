@@ -87,7 +87,7 @@ fn commit_changes<L: Ledger, W: Station>(
     }
 }
 
-/// `commit T`: `OK`, `NOTRANSACTION`, `STILLOPEN`, `ROLLEDBACK` or `FULL`. Where it changed an object, `OK` comes when the store
+/// `commit T`: `OK`, `NOTRANSACTION`, `OPEN`, `ROLLEDBACK` or `FULL`. Where it changed an object, `OK` comes when the store
 /// holds the changes, with the next serial.
 ///
 /// At each moment each image stands for the objects before, with the next serial that was stored, or for those after. After

@@ -34,7 +34,7 @@ use type_layout::Schema;
 /// what was committed.
 ///
 /// Contracts see what the machine keeps of all this (`Keeps`). What the store holds is said of the content of its station
-/// (`IsSaved`).
+/// (`BecomesSaved`).
 pub struct Connector {
     pub(crate) parts: Parts,
     pub(crate) store: Store,

@@ -125,7 +125,7 @@ fn perform<L: Ledger, W: Station>(
     }
 }
 
-/// The same, with a count of steps that nobody reads.
+/// Performs a command, with a count of steps that nobody reads.
 pub fn perform_counted<L: Ledger, W: Station>(
     parts: &mut Parts,
     store: &mut Store,

@@ -28,7 +28,7 @@ pub struct Accounts {
 }
 
 impl Accounts {
-    /// These objects, the serial that the next one takes, and nobody who has read or changed any.
+    /// Accounts of these objects and of the serial that the next one takes, in which nobody has read or changed any.
     pub fn new(alloc: Global, homes: Homes, next: u64) -> Result<Accounts, NoMemory>
         ensures { IfOk result (λ accounts. (S : PlainSchema) (M : Catalog) → IsKept S M homes → AreAccounts S accounts (first_kept M next)) }
     {

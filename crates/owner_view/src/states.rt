@@ -220,7 +220,7 @@ pub fn in_order(alloc: Global, states: &States) -> Result<Vec<u64>, NoMemory>
     Ok(serials)
 }
 
-// They as they came.
+// The serials of the states, in the order in which they stand in the table.
 fn serials_of(alloc: Global, states: &States) -> Result<Vec<u64>, NoMemory>
     ensures apart { OnOk result (IsDistinct nat_eq (keys_of states.now.table.entries)) }
     ensures all { IfOk result (λ serials. serials.items ≡ keys_of states.now.table.entries) }

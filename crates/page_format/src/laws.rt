@@ -10,14 +10,15 @@ pub fn a_store_stays()
     ensures store { IsStoreKept }
 {}
 
-/// In each image the roots are one thing: one current root with right fields, or none at all, or damaged at one place.
-/// So what `read_root` answers is the only answer. The function does nothing: its contract is the law.
+/// An image has at most one current root with right fields and is damaged at one place at most, and no two of these hold:
+/// that it has a root, that it has none at all, that it is damaged. So what `read_root` answers is the only answer. The
+/// function does nothing: its contract is the law.
 pub fn roots_are_one_thing()
     ensures { AreRootsOneThing }
 {}
 
-/// In each image the pages of some slots are right, or damaged at one place by one kind. So what `fetch` answers is the
-/// only answer. The function does nothing: its contract is the law.
+/// In an image the pages of some slots are damaged at one place by one kind at most, and never both damaged and right. So
+/// what `gather` answers is the only answer. The function does nothing: its contract is the law.
 pub fn pages_are_one_thing()
     ensures { ArePagesOneThing }
 {}

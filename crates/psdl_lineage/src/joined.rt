@@ -48,7 +48,7 @@ pub(crate) fn is_own(own: &[bool], number: usize) -> bool
     number < own.len() && own[number]
 }
 
-/// Those that have something of their own.
+/// Which of these have something of their own.
 pub(crate) fn owners(alloc: Global, own: &[bool], numbers: &[usize]) -> Result<Vec<usize>, NoMemory>
     ensures { IfOk result (λ owners. owners.items ≡ filter (is_own own.now) numbers.now) }
 {

@@ -35,7 +35,7 @@ pub fn is_concrete_home(what: What<'_>) -> bool
     matches!(what, What::ConcreteHome(_))
 }
 
-/// Both are storage types, or both homes.
+/// Whether both are storage types, or both homes.
 pub fn same_sort(first: What<'_>, second: What<'_>) -> bool
     ensures { result ≡ of_same_sort (what_view first.entry) (what_view second.entry) }
 {

@@ -136,7 +136,7 @@ impl SourceLists {
         Ok(table)
     }
 
-    /// Those that a declaration descends from, itself last, which have something of their own.
+    /// What a declaration descends from and has something of its own, the declaration itself last.
     pub(crate) fn of(
         &self,
         alloc: Global,

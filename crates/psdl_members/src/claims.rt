@@ -88,7 +88,7 @@ impl Claims {
     ghost use Rattle.psdl_members.specs.inner.Claims.{AreClaims};
     ghost use Rattle.psdl_members.specs.inner.Heirs.{AreColumns};
 
-    /// Those of these rows.
+    /// The claims of these rows.
     pub(crate) fn new(alloc: Global, rows: &Rows) -> Result<Claims, NoMemory>
         ensures columns { IfOk result (λ c. AreColumns rows.now.entries.items c.columns.items) }
         ensures claims { IfOk result (λ c. AreClaims rows.now c.by_name.items) }
@@ -99,7 +99,7 @@ impl Claims {
     }
 }
 
-/// Those of a name.
+/// The claims to a name.
 pub(crate) fn claims_to(claims: &[Vec<Claim>], name: usize) -> &[Claim]
     ensures { result.now ≡ claims_in claims.now name }
 {

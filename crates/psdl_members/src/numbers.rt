@@ -87,7 +87,7 @@ impl Numbers {
     ghost use Rattle.std.specs.Prelude.{◌≡◌};
     ghost use Rattle.psdl_members.specs.inner.Flat.{piece_of};
 
-    /// Those of a declaration.
+    /// The numbers of a declaration.
     pub(crate) fn of(&self, declaration: usize) -> &[usize]
         ensures { result.now ≡ piece_of self.now.starts.items declaration self.now.numbers.items }
     {

@@ -18,7 +18,7 @@ impl Rows {
     ghost use Rattle.std.specs.Prelude.{◌≡◌, ◌≤◌, ℕ, []};
     ghost use Rattle.psdl_members.specs.inner.Rowed.{row_of};
 
-    /// Those of a declaration.
+    /// The entries of a declaration.
     pub(crate) fn of(&self, declaration: usize) -> &[Entry]
         ensures { result.now ≡ row_of self.now declaration }
     {

@@ -9,7 +9,8 @@ pub fn schema_has_sound_homes()
     ensures { SchemasHaveSoundHomes }
 {}
 
-/// The same schema has sound keys, factories and catalogs, but for the types of keys.
+/// The schema of a text without a fault, whose identifiers are names, has sound keys, factories and catalogs, but for the types
+/// of keys.
 pub fn schema_has_sound_catalogs()
     ensures { SchemasHaveSoundCatalogs }
 {}

@@ -1,4 +1,4 @@
-//! That the schema of every PSDL text without a fault is sound, and that the names in the schema of every text are identifiers.
+//! Laws alone: the schema of every PSDL text without a fault is sound, and the names in the schema of every text are identifiers.
 #![tactic(auto)]
 
 mod laws;

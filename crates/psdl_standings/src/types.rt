@@ -240,7 +240,7 @@ impl<'a> Types<'a> {
         }
     }
 
-    /// It stands for an integer, octet or string type.
+    /// Whether it stands for an integer, octet or string type.
     pub(crate) fn may_be_constant(&self, told: NumberedStanding) -> bool
         ensures { result ≡ may_be_constant (stand self.now told) }
     {

@@ -1,14 +1,14 @@
 // What the definitions come to.
 ghost use Rattle.pss_recovery.specs.Laws.{IsImageOneThing, MountedStands, SpellsOneBody, StoresAreGood};
 
-/// Octets spell one body, or none. So what `decode_body` answers is the only answer. The function does nothing: its
+/// Octets spell at most one body. So what `decode_body` answers is the only answer. The function does nothing: its
 /// contract is the law.
 pub fn a_body_is_one_thing()
     ensures { SpellsOneBody }
 {}
 
-/// Under a schema an image stands for one catalog and one next serial, or it is refused with one fault, and never both. So
-/// what a mount answers is the only answer. The function does nothing: its contract is the law.
+/// Under a schema an image stands for at most one catalog and one next serial, is refused with at most one fault, and never
+/// both. So what a mount answers is the only answer. The function does nothing: its contract is the law.
 pub fn an_image_is_one_thing()
     ensures { IsImageOneThing }
 {}

@@ -85,7 +85,7 @@ impl SessionRecord {
         }
     }
 
-    /// It is active or suspended with the transaction.
+    /// Whether it is active or suspended with the transaction.
     pub fn is_open_in(&self, owner: OwnerNo) -> bool
         ensures { result ≡ is_owner owner (open_in self.now.association) }
     {
@@ -95,7 +95,7 @@ impl SessionRecord {
         }
     }
 
-    /// It is in the transaction.
+    /// Whether it is in the transaction.
     pub fn is_in(&self, owner: OwnerNo) -> bool
         ensures { result ≡ is_owner owner (transaction_of self.now.association) }
     {

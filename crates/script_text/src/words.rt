@@ -14,7 +14,7 @@ use pss_base::{is_blank, skip_blanks};
 #[derive(Clone, Copy)]
 pub struct Word<'a> {
     pub text: &'a [u8],
-    /// That of its first byte, from 1.
+    /// The column of its first byte, from 1.
     pub column: u32,
     /// What stands directly behind it.
     pub rest: Tail<'a>,

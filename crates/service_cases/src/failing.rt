@@ -111,7 +111,7 @@ pub fn append_schema_reads(
     out.extend(b"\n")
 }
 
-/// The same of the script.
+/// The statuses where each read of the script fails in turn, up to one that does not come.
 pub fn append_script_reads(
     alloc: Global,
     out: &mut Bytes,

@@ -32,7 +32,7 @@ impl KeyValues {
         }
     }
 
-    /// These, which are not copied.
+    /// The list of these pairs, which are not copied.
     pub fn from_vec(pairs: Vec<(KeyNo, Bytes)>) -> KeyValues
         ensures { result ≡ pairs.items }
     {

@@ -43,7 +43,7 @@ impl Model for DeclaredFactories {
 }
 
 impl DeclaredFactories {
-    /// These.
+    /// The factories, with a table of their names.
     pub fn new(
         alloc: Global,
         factories: Vec<DeclaredFactory>,
@@ -143,7 +143,7 @@ impl Model for MemberNames {
 }
 
 impl MemberNames {
-    /// These.
+    /// The names, with a table of their places.
     pub fn new(alloc: Global, names: Names) -> Result<MemberNames, NoMemory>
         ensures { IfOk result (λ m. m ≡ names) }
     {
@@ -190,7 +190,7 @@ impl Model for Factories {
 }
 
 impl Factories {
-    /// Those of a home with these members and with what it and others declare.
+    /// The factories of a home with these members, by what it and others declare.
     pub fn new(members: MemberNames, held: HeldFactories) -> Factories
         ensures { result ≡ factories_held members held }
     {

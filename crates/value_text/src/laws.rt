@@ -13,8 +13,8 @@ pub fn spelling_stands()
     ensures { SpellingStands }
 {}
 
-/// What `read_values` takes from the front of a line, where a value of a sound type stands there, is this
-/// value up to its end, and it takes nothing where none stands.
+/// What `read_members`, `read_chosen` and `read_one_value` take from the front of a line, where a value of a sound
+/// type stands there, is this value up to its end, and they take nothing where none stands.
 pub fn what_stands_is_read()
     ensures { WhatStandsIsRead }
 {}

@@ -18,12 +18,12 @@ use Rattle.owner_accounts.proofs.Runs.{fine_at, keeping_at}
 use Rattle.pss_copies.specs.Settling.{AreOf}
 use Rattle.commit_calls.specs.Ready.{pid_of}
 
--- each is of the home in which its object was committed
+-- each is of the home in which its object was committed, and is where it does not go
 of_changes : (S : Schema) (M : Catalog) (next : ℕ) (ds : List Step) (cs : List Change) → AreNet S M ds cs → EachChange (λ d. IsGiven next d.serial × MayBecome S next M d.serial d.state) ds → AreOf M ds (map pid_of cs)
 of_changes S M next [] [] net each = tt
 of_changes S M next [] (c ∷ cs) net each = absurd net
 of_changes S M next (d ∷ ds) [] net each = absurd net
-of_changes S M next (d ∷ ds) (c ∷ cs) net each = (net.0.serial, λ x there. by x there d.state each.0.1 ∙ sym net.0.home, of_changes S M next ds cs net.1 each.1)
+of_changes S M next (d ∷ ds) (c ∷ cs) net each = (net.0.serial, λ x there. by x there d.state each.0.1 ∙ sym net.0.home, λ x stays. sym (ap (λ o. home_left o (get M d.serial)) stays) ∙ sym net.0.home, of_changes S M next ds cs net.1 each.1)
   where
     by : (x : Object) → get M d.serial ≡ Some x → (o : Option Object) → MayBecome S next M d.serial o → x.home.0 ≡ home_left o (get M d.serial)
     by x there None may = sym (ap (home_left None) there)

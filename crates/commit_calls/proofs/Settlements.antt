@@ -1,6 +1,6 @@
 -- What stands behind a commit.
-use Rattle.std.proofs.Common.{◌≡◌, Option, Some, refl, sym, ap, ◌∙◌}
-use Rattle.std.specs.FinMap.{get}
+use Rattle.std.proofs.Common.{ℕ, ◌≡◌, Option, Some, refl, sym, ap, ◌∙◌}
+use Rattle.std.specs.FinMap.{get, len}
 use Rattle.pss_base.specs.declared.owner.OwnerNo.{OwnerNo}
 use Rattle.pss_base.specs.declared.session.SessionNo.{SessionNo}
 use Rattle.type_layout.specs.declared.schema.Schema.{Schema}
@@ -32,8 +32,8 @@ module _ (c : Parts) (k : Kept) (n : OwnerNo) (ready : Ready) (is : IsReady c k 
         closed = may.closed;
       }
 
-  pub flush_settles : (s : SessionNo) → MayFlush k s n → copies.MayFlush k s n (pids_in ready.pids)
-  flush_settles s may = record { settles = record { owner = is.owner; there = is.there; pids_are = is.pids; own = may.own }; session = may.session; there = may.there; kind = may.kind }
+  pub flush_settles : (s : SessionNo) (changed : ℕ) → changed ≡ len is.owner.changes → MayFlush k s n → copies.MayFlush k s n (pids_in ready.pids) changed
+  flush_settles s changed so_many may = record { settles = record { owner = is.owner; there = is.there; pids_are = is.pids; own = may.own }; session = may.session; there = may.there; kind = may.kind; changed_is = so_many }
 
 -- accounts whose owner has gone are those of the transaction that has gone
 pub gone_alike : (S : Schema) (a : Accounts) (k : Kept) (n : OwnerNo) → AreAccounts S a (without_owner (settled k n) n) → AreAccounts S a (moved k (Commits n))

@@ -37,8 +37,11 @@ fn apply<L: Ledger>(
     ensures rest { StayAs parts.old parts.new }
 {
     let Ready { commit, pids } = ready;
+    let changed = parts.accounts.changed_count(owner);
     parts.accounts.commit(commit);
-    parts.attended.flush(session, owner, pids.as_slice(), steps);
+    parts
+        .attended
+        .flush(session, owner, pids.as_slice(), changed, steps);
     parts.accounts.empty(owner, steps);
 }
 

@@ -73,4 +73,5 @@ module _ (p : Pool Slot) (p_is : p ≡ empty_pool) (rings : AreRings p) (session
           all = zero_of is_attached;
         };
         lengths = λ s r h. no_value r (sym (get-empty session_cmp s) ∙ h);
+        fronts = λ s r h. no_value r (sym (get-empty session_cmp s) ∙ h);
       })

@@ -1,14 +1,14 @@
 -- What is stored after an entry came.
-use Rattle.std.proofs.Common.{ℕ, ◌≡◌, ◌≢◌, ◌⊎◌, inl, inr, ⊎_elim, ◌<◌, ◌≤◌, ◌+◌, [], ◌∷◌, Bool, true, false, Option, Some, None, IsSome, refl, sym, ap, ◌∙◌, subst, arith}
-use Rattle.std.specs.Prelude.{IsSomeAnd, length}
-use Rattle.std.specs.Option.{option_map}
+use Rattle.std.proofs.Common.{ℕ, ◌≡◌, ◌≢◌, ◌⊎◌, inl, inr, ⊎_elim, ◌<◌, ◌≤◌, ◌+◌, List, [], ◌∷◌, ◌++◌, Bool, true, false, Option, Some, None, IsSome, refl, sym, ap, ◌∙◌, subst, arith}
+use Rattle.std.specs.Prelude.{IsSomeAnd, length, is_some, Contains, ◌&&◌}
+use Rattle.std.specs.Option.{option_map, option_and_then}
 use Rattle.std.specs.FinMap.{FinMap, get, insert, remove}
 use Rattle.pss_base.specs.declared.session.SessionNo.{SessionNo}
 use Rattle.link_pool.specs.Meaning.{Meaning as Pool, AreRings}
 use Rattle.link_pool.specs.declared.names.Row.{Row}
 use Rattle.link_pool.specs.declared.names.Col.{Col}
 use Rattle.link_pool.specs.declared.names.Node.{Node}
-use Rattle.link_pool.specs.Rings.{list_in}
+use Rattle.link_pool.specs.Rings.{list_in, without}
 use Rattle.incarnations.specs.declared.names.Slot.{Slot}
 use Rattle.incarnations.specs.declared.names.Entry.{Entry}
 use Rattle.incarnations.specs.declared.names.EntryRecord.{EntryRecord}
@@ -17,7 +17,10 @@ use Rattle.incarnations.specs.declared.stock.Stock.{Stock}
 use Rattle.incarnations.specs.Keys.{slot_cmp}
 use Rattle.incarnations.specs.Maps.{each, count}
 use Rattle.incarnations.specs.Meaning.{stands_on, is_of, is_attached}
-use Rattle.incarnations.specs.Stock.{Place, Loose, On, spot_of, spots_in, spot_at, row_at, col_at, meaning_of, AreSeated, IsSound, AreNumbered}
+use Rattle.incarnations.specs.Stock.{Place, Loose, On, spot_of, spots_in, spot_at, row_at, col_at, meaning_of, AreSeated, IsSound, AreNumbered, AreFirst, is_standing, IsInFront, AreInFront, Last}
+use Rattle.type_layout.specs.Schemas.{given}
+use Rattle.incarnations.proofs.FirstNodes.{first_behind, first_alike}
+use Rattle.incarnations.proofs.Fronts.{is_front, in_column}
 use Rattle.incarnations.proofs.Maps.{no_value, one_value, same_or_apart, insert_here, insert_apart, get_each, weight, remove_insert, each_insert}
 use Rattle.incarnations.proofs.Keys.{slot_key}
 use Rattle.incarnations.proofs.Seats.{node_key, seats_alike, seats_kept}
@@ -34,10 +37,22 @@ use Rattle.link_pool.specs.declared.names.Seat.{Seat}
 use Rattle.link_pool.specs.Meaning.{inserted, unlinked}
 use Rattle.std.proofs.lemmas.Bool.{eq-eqb}
 use Rattle.std.proofs.lemmas.List.{length-append}
-use Rattle.link_pool.proofs.NodeLists.{without-absent}
-use Rattle.link_pool.proofs.RingChanges.{row_stays-inserted, col_stays-inserted, row_stays-unlinked, col_stays-unlinked, seat-inserted, col_list-inserted, col_list-inserted_other, col_list-unlinked, col_length-unlinked}
+use Rattle.link_pool.proofs.NodeLists.{AreDistinct, without-absent, without-split}
+use Rattle.link_pool.proofs.RingChanges.{row_stays-inserted, col_stays-inserted, row_stays-unlinked, col_stays-unlinked, seat-inserted, seat-inserted_other, col_list-inserted, col_list-inserted_other, col_list-unlinked}
 use Rattle.incarnations.proofs.Stood.{pool_alike}
 use Rattle.incarnations.proofs.Sets.{has_map, plain, entry_is}
+
+append_nil : (l : List Node) → l ++ [] ≡ l
+append_nil [] = refl
+append_nil (y ∷ ys) = ap (λ l. y ∷ l) (append_nil ys)
+
+-- an entry on no body is none of those on one
+loose_weight : (t : SessionNo) (y : Slot) (e : Entry) → e.view ≡ None → weight (is_front t (y, e)) ≡ 0
+loose_weight t y e loose = ap (λ o. weight (is_of t (y, e) && is_some o)) loose ∙ by (is_of t (y, e))
+  where
+    by : (b : Bool) → weight (b && false) ≡ 0
+    by true = refl
+    by false = refl
 
 abbrev pub slot : SessionNo → ℕ → Slot
 slot s n = record { session = s; number = n }
@@ -90,7 +105,7 @@ module _ (k : Stock) (sound : IsSound k) (s : SessionNo) (home : SessionRecord) 
           subst (λ t. AreSeated p (spots_in t) (row_at k) (col_at k)) (sym is)
           (subst (λ (t : Pool Slot). AreSeated t (spots_in (insert k.entries x (record { entry = record { pid = pid; count = 1; view = None }; node = node }))) (row_at k) (col_at k)) (sym p_is)
           (seats_in q (spot_at k) (spots_in (insert k.entries x (record { entry = record { pid = pid; count = 1; view = None }; node = node }))) (row_at k) (col_at k) seats x
-          (λ y ne. ap (option_map (spot_of y)) (insert_apart slot_key k.entries x (record { entry = record { pid = pid; count = 1; view = None }; node = node }) y ne)) node seat (Loose s) (ap (option_map (spot_of x)) no_entry) new
+          (λ y ne. ap (option_map (spot_of y)) (insert_apart slot_key k.entries x (record { entry = record { pid = pid; count = 1; view = None }; node = node }) y ne)) Last node seat (Loose s) (ap (option_map (spot_of x)) no_entry) new
           (ap (option_map (spot_of x)) (insert_here slot_key k.entries x (record { entry = record { pid = pid; count = 1; view = None }; node = node }))) refl (ap (option_map (λ z. z.row)) home_is) (ap (option_map (λ z. z.col)) home_is) rings_i))
 
       row_stays : (r : Row) → IsSome (get k.pool.rows r) → IsSome (get p.rows r)
@@ -99,16 +114,18 @@ module _ (k : Stock) (sound : IsSound k) (s : SessionNo) (home : SessionRecord) 
       col_stays : (c : Col) → IsSome (get k.pool.cols c) → IsSome (get p.cols c)
       col_stays c there = subst (λ (t : Pool Slot). IsSome (get t.cols c)) (sym p_is) (col_stays-inserted q node seat c (subst (λ t. IsSome (get t c)) (sym c_is) there))
 
+      list_here : list_in p.cols home.col ≡ list_in k.pool.cols home.col ++ node ∷ []
+      list_here = ap (λ (t : Pool Slot). list_in t.cols home.col) p_is ∙ col_list-inserted q node seat ∙ ap (λ t. list_in t home.col ++ node ∷ []) c_is
+
       long_here : length (list_in p.cols home.col) ≡ length (list_in k.pool.cols home.col) + 1
-      long_here =
-          ap (λ (t : Pool Slot). length (list_in t.cols home.col)) p_is ∙ ap length (col_list-inserted q node seat) ∙ length-append (list_in q.cols home.col) (node ∷ []) ∙ ap (λ t. length (list_in t home.col) + 1) c_is
+      long_here = ap length list_here ∙ length-append (list_in k.pool.cols home.col) (node ∷ [])
 
       long_there : (c : Col) → c ≢ home.col → list_in p.cols c ≡ list_in k.pool.cols c
       long_there c ne = ap (λ (t : Pool Slot). list_in t.cols c) p_is ∙ col_list-inserted_other q node seat c ne ∙ ap (λ t. list_in t c) c_is
 
       -- the tables have it
       module _ (after : FinMap slot_cmp EntryRecord) (is : after ≡ insert k.entries x (record { entry = record { pid = pid; count = 1; view = None }; node = node })) (objects : FinMap object_cmp ℕ)
-          (objects_is : objects ≡ insert k.objects (object s pid) (home.last + 1)) (sessions : FinMap session_cmp SessionRecord) (sessions_is : sessions ≡ insert k.sessions s (record { col = home.col; row = home.row; last = home.last + 1; entries = home.entries + 1 })) where
+          (objects_is : objects ≡ insert k.objects (object s pid) (home.last + 1)) (sessions : FinMap session_cmp SessionRecord) (sessions_is : sessions ≡ insert k.sessions s (record { col = home.col; row = home.row; last = home.last + 1; entries = home.entries + 1; attached = home.attached })) where
         abbrev entry : Entry
         entry = record { pid = pid; count = 1; view = None }
 
@@ -116,7 +133,7 @@ module _ (k : Stock) (sound : IsSound k) (s : SessionNo) (home : SessionRecord) 
         put = record { entry = entry; node = node }
 
         abbrev next : SessionRecord
-        next = record { col = home.col; row = home.row; last = home.last + 1; entries = home.entries + 1 }
+        next = record { col = home.col; row = home.row; last = home.last + 1; entries = home.entries + 1; attached = home.attached }
 
         abbrev pub entered : Stock
         entered = record { pool = p; sessions = sessions; entries = after; objects = objects; bodies = k.bodies; attached = k.attached }
@@ -171,6 +188,51 @@ module _ (k : Stock) (sound : IsSound k) (s : SessionNo) (home : SessionRecord) 
                 let other : r.col ≢ home.col = λ e. ne (sound.cols.apart t s r.col (ap (option_map (λ z. z.col)) was) (ap (option_map (λ z. z.col)) home_is ∙ ap Some (sym e))) in
                 sound.lengths t r was ∙ ap length (sym (long_there r.col other))
 
+        -- the new node is last in its column, and stands on no body
+        new_standing : is_standing p.nodes after node ≡ false
+        new_standing =
+            ap (λ (t : Pool Slot). is_standing t.nodes after node) p_is ∙ ap (λ o. given (option_and_then (λ (z : Seat Slot). get after z.item) o) false (λ z. is_some z.entry.view)) (seat-inserted q node seat) ∙ ap (λ m. given (get m x) false (λ z. is_some z.entry.view)) is ∙ ap (λ o. given o false (λ z. is_some z.entry.view)) (insert_here slot_key k.entries x put)
+
+        same_standing : (t : SessionNo) (r : SessionRecord) → get k.sessions t ≡ Some r → (y : Node) → Contains (list_in k.pool.cols r.col) y → is_standing p.nodes after y ≡ is_standing k.pool.nodes k.entries y
+        same_standing t r h y m =
+            let i = in_column k sound t r h y m in
+            let other : y ≢ node = λ e. no_value i.seat (sym (ap (get q.nodes) e ∙ new) ∙ ap (λ z. get z y) n_is ∙ i.at) in
+            let kept : get p.nodes y ≡ Some i.seat = ap (λ (z : Pool Slot). get z.nodes y) p_is ∙ seat-inserted_other q node seat y other ∙ ap (λ z. get z y) n_is ∙ i.at in
+            let apart : i.seat.item ≢ x = λ e. no_value i.was (sym no_entry ∙ ap (get k.entries) (sym e) ∙ i.entry) in
+            ap (λ o. given (option_and_then (λ (z : Seat Slot). get after z.item) o) false (λ z. is_some z.entry.view)) kept
+            ∙ ap (λ o. given o false (λ z. is_some z.entry.view)) (ap (λ m'. get m' i.seat.item) is ∙ insert_apart slot_key k.entries x put i.seat.item apart)
+            ∙ sym (ap (λ o. given (option_and_then (λ (z : Seat Slot). get k.entries z.item) o) false (λ z. is_some z.entry.view)) i.at)
+
+        none_more : (t : SessionNo) → count (is_front t) (plain after) ≡ count (is_front t) (plain k.entries)
+        none_more t = omega (arith, one_came (is_front t), loose_weight t x entry refl)
+
+        fronts : AreInFront p.nodes p.cols after sessions
+        fronts t r h = by (same_or_apart session_key t s)
+          where
+            by : (t ≡ s) ⊎ (t ≢ s) → IsInFront p.nodes p.cols after t r
+            by (inl e) =
+                let is' : next ≡ r = one_value (sym (ap (λ m. get m t) sessions_is ∙ ap (get (insert k.sessions s next)) e ∙ insert_here session_key k.sessions s next) ∙ h) in
+                let f = sound.fronts s home home_is in
+                subst (λ z. IsInFront p.nodes p.cols after z r) (sym e)
+                (subst (λ z. IsInFront p.nodes p.cols after s z) is'
+                (record {
+                  first =
+                      subst (λ l. AreFirst (is_standing p.nodes after) home.attached l) (sym list_here)
+                      (first_behind (is_standing p.nodes after) home.attached (list_in k.pool.cols home.col) node new_standing
+                      (first_alike (is_standing k.pool.nodes k.entries) (is_standing p.nodes after) home.attached (list_in k.pool.cols home.col) (same_standing s home home_is) f.first));
+                  counted = f.counted ∙ sym (none_more s);
+                }))
+            by (inr ne) =
+                let was = sym (ap (λ m. get m t) sessions_is ∙ insert_apart session_key k.sessions s next t ne) ∙ h in
+                let other : r.col ≢ home.col = λ e. ne (sound.cols.apart t s r.col (ap (option_map (λ z. z.col)) was) (ap (option_map (λ z. z.col)) home_is ∙ ap Some (sym e))) in
+                let f = sound.fronts t r was in
+                record {
+                  first =
+                      subst (λ l. AreFirst (is_standing p.nodes after) r.attached l) (sym (long_there r.col other))
+                      (first_alike (is_standing k.pool.nodes k.entries) (is_standing p.nodes after) r.attached (list_in k.pool.cols r.col) (same_standing t r was) f.first);
+                  counted = f.counted ∙ sym (none_more t);
+                }
+
         pub entered_sound : IsSound entered
         entered_sound = record {
           seats =
@@ -192,6 +254,7 @@ module _ (k : Stock) (sound : IsSound k) (s : SessionNo) (home : SessionRecord) 
             all = omega (arith, sound.counts.all, one_came is_attached);
           };
           lengths = lengths;
+          fronts = fronts;
         }
 
         pub entered_new : IsNew (meaning_of k) (meaning_of entered) s pid (home.last + 1)
@@ -209,12 +272,13 @@ module _ (k : Stock) (sound : IsSound k) (s : SessionNo) (home : SessionRecord) 
         gone : r ≡ unlinked p node seat
         gone = subst (λ o. IsSomeAnd o (λ z. r ≡ unlinked p node z)) node_at left
 
-        long : (t : SessionNo) (c : Col) → col_at k t ≡ Some c → length (list_in r.cols c) ≡ length (list_in k.pool.cols c)
-        long t c h =
-            ap (λ (z : Pool Slot). length (list_in z.cols c)) gone
+        lists : (t : SessionNo) (c : Col) → col_at k t ≡ Some c → list_in r.cols c ≡ list_in k.pool.cols c
+        lists t c h =
+            ap (λ (z : Pool Slot). list_in z.cols c) gone ∙ col_list-unlinked p node seat rings node_at c
             ∙ ⊎_elim
-            (λ e. subst (λ z. length (list_in (unlinked p node seat).cols z) ≡ length (list_in k.pool.cols z)) (sym e) (omega (arith, col_length-unlinked p node seat rings node_at, long_here)))
-            (λ ne. ap length (col_list-unlinked p node seat rings node_at c ∙ without-absent node (list_in p.cols c) (λ m. ne (one_value (sym (rings.cols.only c node m) ∙ ap (option_map (λ z. z.col)) node_at))) ∙ long_there c ne))
+            (λ e. subst (λ z. without node (list_in p.cols z) ≡ list_in k.pool.cols z) (sym e)
+            (ap (without node) list_here ∙ without-split node (list_in k.pool.cols home.col) [] (subst AreDistinct list_here (rings.cols.once home.col)) ∙ append_nil (list_in k.pool.cols home.col)))
+            (λ ne. without-absent node (list_in p.cols c) (λ m. ne (one_value (sym (rings.cols.only c node m) ∙ ap (option_map (λ z. z.col)) node_at))) ∙ long_there c ne)
             (same_or_apart col_key c home.col)
 
         nodes_again : r.nodes ≡ k.pool.nodes
@@ -223,7 +287,7 @@ module _ (k : Stock) (sound : IsSound k) (s : SessionNo) (home : SessionRecord) 
         undone : IsSound (record { pool = r; sessions = k.sessions; entries = k.entries; objects = k.objects; bodies = k.bodies; attached = k.attached })
         undone =
             pool_alike k sound r nodes_again (λ a z h there. subst (λ (t : Pool Slot). IsSome (get t.rows z)) (sym gone) (row_stays-unlinked p node seat z (row_stays z there)))
-            (λ t c h there. subst (λ (z : Pool Slot). IsSome (get z.cols c)) (sym gone) (col_stays-unlinked p node seat c (col_stays c there))) long rings_r
+            (λ t c h there. subst (λ (z : Pool Slot). IsSome (get z.cols c)) (sym gone) (col_stays-unlinked p node seat c (col_stays c there))) lists rings_r
 
         pub undone_sound : IsSound (record { pool = r; sessions = k.sessions; entries = after; objects = objects; bodies = k.bodies; attached = k.attached })
         undone_sound = subst (λ t. IsSound (record { pool = r; sessions = k.sessions; entries = t; objects = objects; bodies = k.bodies; attached = k.attached })) (sym is) (subst (λ t. IsSound (record { pool = r; sessions = k.sessions; entries = k.entries; objects = t; bodies = k.bodies; attached = k.attached })) (sym objects_is) undone)

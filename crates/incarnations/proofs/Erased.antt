@@ -17,10 +17,12 @@ use Rattle.incarnations.specs.declared.names.SessionRecord.{SessionRecord}
 use Rattle.incarnations.specs.declared.stock.Stock.{Stock}
 use Rattle.incarnations.specs.Keys.{slot_cmp, session_cmp, object_cmp}
 use Rattle.incarnations.specs.Maps.{each, count}
+use Rattle.incarnations.specs.Records.{without_one}
 use Rattle.incarnations.specs.Meaning.{stands_on, is_of, is_attached, body, same_body}
-use Rattle.incarnations.specs.Stock.{Place, Loose, On, place_of, Spot, spot_of, spots_in, spot_at, row_at, col_at, size_at, load_at, meaning_of, AreSeated, AreApart, AreCounted, IsSound, IsFewer, IsLowered, IsErased, KeepsCols, AreNumbered, AreNamed, pid_at, number_at}
+use Rattle.incarnations.specs.Stock.{Place, Loose, On, place_of, Spot, spot_of, spots_in, spot_at, row_at, col_at, size_at, load_at, meaning_of, AreSeated, AreApart, AreCounted, AreInFront, IsSound, IsFewer, IsLowered, IsErased, KeepsCols, AreNumbered, AreNamed, pid_at, number_at}
 use Rattle.incarnations.proofs.Maps.{one_value, same_or_apart, insert_here, insert_apart, remove_here, remove_apart, get_each, weight, count_gone, count_some, each_same, each_remove}
 use Rattle.incarnations.proofs.Keys.{slot_key, session_key, object_key, session_told}
+use Rattle.incarnations.proofs.Fronts.{attached_some, fronts_gone}
 use Rattle.incarnations.proofs.Seats.{seats_alike, seats_kept, seats_out}
 use Rattle.incarnations.proofs.Places.{on_told, on_found, bare_row}
 use Rattle.incarnations.proofs.Named.{object, apart_less, names_out, numbered_less}
@@ -37,9 +39,6 @@ use Rattle.incarnations.proofs.Sets.{Has, has_map, plain, entry_is, spot_is, sea
 on_name : {b c : BodyName} → On b ≡ On c → b ≡ c
 on_name e = cc
 
-abbrev pub with_size : ℕ → SessionRecord → SessionRecord
-with_size n r = record { col = r.col; row = r.row; last = r.last; entries = n }
-
 module _ (k : Stock) (sound : IsSound k) (x : Slot) (was : EntryRecord) (at : get k.entries x ≡ Some was) (home : SessionRecord) (home_is : get k.sessions x.session ≡ Some home)
     (seat : Seat Slot) (seat_at : get k.pool.nodes was.node ≡ Some seat) (rings : AreRings (unlinked k.pool was.node seat)) where
   abbrev p : Pool Slot
@@ -49,7 +48,7 @@ module _ (k : Stock) (sound : IsSound k) (x : Slot) (was : EntryRecord) (at : ge
   after = remove k.entries x
 
   abbrev sessions : FinMap session_cmp SessionRecord
-  sessions = insert k.sessions x.session (with_size (home.entries - 1) home)
+  sessions = insert k.sessions x.session (without_one (is_some was.entry.view) home)
 
   abbrev objects : FinMap object_cmp ℕ
   objects = remove k.objects (object x.session was.entry.pid)
@@ -65,11 +64,11 @@ module _ (k : Stock) (sound : IsSound k) (x : Slot) (was : EntryRecord) (at : ge
   plain_is = each_remove (λ r. r.entry) slot_key k.entries x
 
   -- what a session's record has beside its count
-  same_of : {X : Type 0} (f : SessionRecord → X) → f (with_size (home.entries - 1) home) ≡ f home → (s : SessionNo) → option_map f (get sessions s) ≡ option_map f (get k.sessions s)
+  same_of : {X : Type 0} (f : SessionRecord → X) → f (without_one (is_some was.entry.view) home) ≡ f home → (s : SessionNo) → option_map f (get sessions s) ≡ option_map f (get k.sessions s)
   same_of f same s =
       ⊎_elim
-      (λ e. ap (λ z. option_map f (get sessions z)) e ∙ ap (option_map f) (insert_here session_key k.sessions x.session (with_size (home.entries - 1) home)) ∙ ap Some same ∙ sym (ap (option_map f) home_is) ∙ ap (λ z. option_map f (get k.sessions z)) (sym e))
-      (λ ne. ap (option_map f) (insert_apart session_key k.sessions x.session (with_size (home.entries - 1) home) s ne)) (same_or_apart session_key s x.session)
+      (λ e. ap (λ z. option_map f (get sessions z)) e ∙ ap (option_map f) (insert_here session_key k.sessions x.session (without_one (is_some was.entry.view) home)) ∙ ap Some same ∙ sym (ap (option_map f) home_is) ∙ ap (λ z. option_map f (get k.sessions z)) (sym e))
+      (λ ne. ap (option_map f) (insert_apart session_key k.sessions x.session (without_one (is_some was.entry.view) home) s ne)) (same_or_apart session_key s x.session)
 
   same_col : seat.col ≡ home.col
   same_col =
@@ -85,7 +84,7 @@ module _ (k : Stock) (sound : IsSound k) (x : Slot) (was : EntryRecord) (at : ge
   stay r h = row_stays-unlinked k.pool was.node seat r h
 
   lasts_is : each (λ r. r.last) sessions ≡ (meaning_of k).lasts
-  lasts_is = each_same (λ r. r.last) session_key k.sessions x.session home (with_size (home.entries - 1) home) home_is refl
+  lasts_is = each_same (λ r. r.last) session_key k.sessions x.session home (without_one (is_some was.entry.view) home) home_is refl
 
   size_is : home.entries ≡ count (is_of x.session) (plain k.entries)
   size_is = sound.counts.sessions x.session home.entries (ap (option_map (λ r. r.entries)) home_is)
@@ -108,11 +107,11 @@ module _ (k : Stock) (sound : IsSound k) (x : Slot) (was : EntryRecord) (at : ge
 
       by : (s ≡ x.session) ⊎ (s ≢ x.session) → c ≡ count (is_of s) (plain after)
       by (inl e) =
-          let is : home.entries - 1 ≡ c = one_value (sym (ap (λ z. option_map (λ r. r.entries) (get sessions z)) e ∙ ap (option_map (λ r. r.entries)) (insert_here session_key k.sessions x.session (with_size (home.entries - 1) home))) ∙ h) in
+          let is : home.entries - 1 ≡ c = one_value (sym (ap (λ z. option_map (λ r. r.entries) (get sessions z)) e ∙ ap (option_map (λ r. r.entries)) (insert_here session_key k.sessions x.session (without_one (is_some was.entry.view) home))) ∙ h) in
           let here : c ≡ count (is_of x.session) (plain after) = omega (arith, is, size_is, one_gone (is_of x.session), ap weight own) in
           here ∙ ap (λ z. count (is_of z) (plain after)) (sym e)
       by (inr ne) =
-          let was' = sound.counts.sessions s c (sym (ap (option_map (λ r. r.entries)) (insert_apart session_key k.sessions x.session (with_size (home.entries - 1) home) s ne)) ∙ h) in
+          let was' = sound.counts.sessions s c (sym (ap (option_map (λ r. r.entries)) (insert_apart session_key k.sessions x.session (without_one (is_some was.entry.view) home) s ne)) ∙ h) in
           omega (arith, was', one_gone (is_of s), ap weight (not_of ne (is_of s (x, was.entry)) refl))
 
   names : AreNamed (λ y. option_map (λ r. r.entry.pid) (get after y)) (get objects)
@@ -128,11 +127,11 @@ module _ (k : Stock) (sound : IsSound k) (x : Slot) (was : EntryRecord) (at : ge
     where
       by : (s ≡ x.session) ⊎ (s ≢ x.session) → r.entries ≡ length (list_in p.cols r.col)
       by (inl e) =
-          let is : with_size (home.entries - 1) home ≡ r = one_value (sym (ap (get sessions) e ∙ insert_here session_key k.sessions x.session (with_size (home.entries - 1) home)) ∙ h) in
+          let is : without_one (is_some was.entry.view) home ≡ r = one_value (sym (ap (get sessions) e ∙ insert_here session_key k.sessions x.session (without_one (is_some was.entry.view) home)) ∙ h) in
           let l : length (list_in p.cols home.col) + 1 ≡ length (list_in k.pool.cols home.col) = subst (λ c. length (list_in p.cols c) + 1 ≡ length (list_in k.pool.cols c)) same_col (col_length-unlinked k.pool was.node seat sound.seats.rings seat_at) in
           subst (λ z. z.entries ≡ length (list_in p.cols z.col)) is (omega (arith, l, sound.lengths x.session home home_is))
       by (inr ne) =
-          let was' = sym (insert_apart session_key k.sessions x.session (with_size (home.entries - 1) home) s ne) ∙ h in
+          let was' = sym (insert_apart session_key k.sessions x.session (without_one (is_some was.entry.view) home) s ne) ∙ h in
           let other : r.col ≢ seat.col = λ e. ne (sound.cols.apart s x.session r.col (ap (option_map (λ z. z.col)) was') (ap (option_map (λ z. z.col)) home_is ∙ ap Some (sym same_col ∙ sym e))) in
           let absent : Contains (list_in k.pool.cols r.col) was.node → ⊥ = λ m. other (one_value (sym (sound.seats.rings.cols.only r.col was.node m) ∙ ap (option_map (λ z. z.col)) seat_at)) in
           sound.lengths s r was' ∙ ap length (sym (col_list-unlinked k.pool was.node seat sound.seats.rings seat_at r.col ∙ without-absent was.node (list_in k.pool.cols r.col) absent))
@@ -144,6 +143,13 @@ module _ (k : Stock) (sound : IsSound k) (x : Slot) (was : EntryRecord) (at : ge
 
   cols_kept : (s : SessionNo) → option_map (λ r. r.col) (get sessions s) ≡ col_at k s
   cols_kept = same_of (λ r. r.col) refl
+
+  fronts : AreInFront p.nodes p.cols after sessions
+  fronts = fronts_gone k sound x was at home home_is seat seat_at
+
+  -- the session's record counts it, and it is counted as attached
+  pub attached_size : is_some was.entry.view ≡ true → 0 < home.attached
+  attached_size stood = attached_some k sound x was at home home_is stood
 
   -- an entry that stood on no body
   module _ (loose : was.entry.view ≡ None) where
@@ -168,6 +174,7 @@ module _ (k : Stock) (sound : IsSound k) (x : Slot) (was : EntryRecord) (at : ge
         all = omega (arith, sound.counts.all, one_gone is_attached, ap (λ o. weight (is_some o)) loose);
       };
       lengths = lengths;
+      fronts = fronts;
     }
 
     pub loose_erased : IsErased (meaning_of k) (meaning_of (left_stock k.attached)) x
@@ -235,6 +242,9 @@ module _ (k : Stock) (sound : IsSound k) (x : Slot) (was : EntryRecord) (at : ge
               some = λ c l h. (loads k sound b here.value here.is p after sessions objects (k.attached - 1) (same_of (λ r. r.row) refl) stay nobody n f fewer alike c l h).1;
               all = omega (arith, sound.counts.all, one_gone is_attached, ap (λ o. weight (is_some o)) is, f.attached);
             });
+        fronts =
+            subst (λ t. AreInFront n.pool.nodes n.pool.cols t n.sessions) (sym f.entries)
+            (subst (λ t. AreInFront n.pool.nodes n.pool.cols after t) (sym f.sessions) (subst (λ t. AreInFront t n.pool.cols after sessions) (sym f.nodes) (subst (λ t. AreInFront p.nodes t after sessions) (sym f.cols) fronts)));
         lengths = λ s r h. lengths s r (ap (λ t. get t s) (sym f.sessions) ∙ h) ∙ ap (λ t. length (list_in t r.col)) (sym f.cols);
       }
         where
@@ -255,7 +265,7 @@ module _ (k : Stock) (sound : IsSound k) (x : Slot) (was : EntryRecord) (at : ge
 
 module _ (k : Stock) (sound : IsSound k) (x : Slot) (was : EntryRecord) (at : get k.entries x ≡ Some was) (home : SessionRecord) (home_is : get k.sessions x.session ≡ Some home)
     (mid : Pool Slot) (left : IsSomeAnd (get k.pool.nodes was.node) (λ seat. mid ≡ unlinked k.pool was.node seat)) (rings_mid : AreRings mid)
-    (t1 : FinMap session_cmp SessionRecord) (e1 : t1 ≡ insert k.sessions x.session (with_size (home.entries - 1) home)) (t2 : FinMap slot_cmp EntryRecord) (e2 : t2 ≡ remove k.entries x)
+    (t1 : FinMap session_cmp SessionRecord) (e1 : t1 ≡ insert k.sessions x.session (without_one (is_some was.entry.view) home)) (t2 : FinMap slot_cmp EntryRecord) (e2 : t2 ≡ remove k.entries x)
     (t3 : FinMap object_cmp ℕ) (e3 : t3 ≡ remove k.objects (object x.session was.entry.pid)) where
   w : Was k.pool mid was.node left (node_there k sound x was at)
   w = unlinked_was k.pool mid was.node left (node_there k sound x was at)
@@ -271,6 +281,9 @@ module _ (k : Stock) (sound : IsSound k) (x : Slot) (was : EntryRecord) (at : ge
 
   pub has_size : 0 < home.entries
   has_size = size_some k sound x was at home home_is w.seat w.at rings
+
+  pub has_attached : is_some was.entry.view ≡ true → 0 < home.attached
+  has_attached = attached_size k sound x was at home home_is w.seat w.at rings
 
   module _ (loose : was.entry.view ≡ None) where
     pub told_loose_sound : IsSound (stock k.attached)

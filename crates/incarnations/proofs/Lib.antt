@@ -6,7 +6,10 @@ pub mod Moved
 pub mod Places
 pub mod Named
 pub mod Sets
+pub mod Freed
 pub mod Parted
+pub mod FirstNodes
+pub mod Fronts
 pub mod Loosened
 pub mod Passed
 pub mod Erased
@@ -14,7 +17,6 @@ pub mod Stood
 pub mod Shared
 pub mod Entered
 pub mod Opened
-pub mod Freed
 pub mod Swept
 pub mod Seen
 pub mod Empty

@@ -1,6 +1,6 @@
 -- What is stored after a session came or went.
 use Rattle.std.proofs.Common.{◌≡◌, ◌≢◌, ◌⊎◌, inl, inr, ⊎_elim, ◌<◌, ◌≤◌, List, [], ◌∷◌, Bool, true, false, Option, Some, None, IsSome, refl, sym, ap, ◌∙◌, subst, arith}
-use Rattle.std.specs.Prelude.{IsSomeAnd, length}
+use Rattle.std.specs.Prelude.{IsSomeAnd, length, is_some, ◌&&◌}
 use Rattle.std.specs.Option.{option_map}
 use Rattle.std.specs.FinMap.{FinMap, get, insert, remove}
 use Rattle.pss_base.specs.declared.session.SessionNo.{SessionNo}
@@ -18,7 +18,7 @@ use Rattle.incarnations.specs.declared.names.SessionRecord.{SessionRecord}
 use Rattle.incarnations.specs.declared.stock.Stock.{Stock}
 use Rattle.incarnations.specs.Maps.{each, count}
 use Rattle.incarnations.specs.Meaning.{is_of, body}
-use Rattle.incarnations.specs.Stock.{Place, Loose, On, place_of, Spot, spot_of, spot_at, row_at, col_at, meaning_of, IsSound}
+use Rattle.incarnations.specs.Stock.{Place, Loose, On, place_of, Spot, spot_of, spot_at, row_at, col_at, meaning_of, AreFirst, is_standing, IsInFront, IsSound}
 use Rattle.incarnations.proofs.Maps.{no_value, one_value, same_or_apart, insert_here, insert_apart, remove_here, remove_apart, get_each, each_insert}
 use Rattle.incarnations.proofs.Keys.{slot_key}
 use Rattle.incarnations.proofs.Seats.{row_key, seats_alike, seats_kept}
@@ -32,7 +32,8 @@ use Rattle.std.specs.Option.{unwrap_or}
 use Rattle.std.specs.Prelude.{◌==◌}
 use Rattle.incarnations.proofs.Maps.{by_key, each_remove}
 use Rattle.incarnations.proofs.Sets.{seat_is}
-use Rattle.incarnations.proofs.Stood.{some_none, unused, pool_alike}
+use Rattle.incarnations.proofs.Fronts.{is_front}
+use Rattle.incarnations.proofs.Stood.{some_none, unused, front_alike, pool_alike}
 use Rattle.link_pool.proofs.RingChanges.{bare}
 use Rattle.incarnations.specs.Meaning.{opened, closed}
 use Rattle.incarnations.proofs.Places.{bare_row}
@@ -60,7 +61,7 @@ is_of_self s y e h = ap (λ z. z.0 == s.0) h ∙ eq-eqb s.0 s.0 refl
 module _ (k : Stock) (sound : IsSound k) (q : Pool Slot) (nodes : q.nodes ≡ k.pool.nodes) (rows : (a : Place) (r : Row) → row_at k a ≡ Some r → get q.rows r ≡ get k.pool.rows r) (cols : (s : SessionNo) (c : Col) → col_at k s ≡ Some c → get q.cols c ≡ get k.pool.cols c) (rings : AreRings q) where
   pub used_sound : IsSound (record { pool = q; sessions = k.sessions; entries = k.entries; objects = k.objects; bodies = k.bodies; attached = k.attached })
   used_sound =
-      pool_alike k sound q nodes (λ a r h there. subst IsSome (sym (rows a r h)) there) (λ s c h there. subst IsSome (sym (cols s c h)) there) (λ s c h. ap (λ o. length (unwrap_or o [])) (cols s c h)) rings
+      pool_alike k sound q nodes (λ a r h there. subst IsSome (sym (rows a r h)) there) (λ s c h there. subst IsSome (sym (cols s c h)) there) (λ s c h. ap (λ o. unwrap_or o []) (cols s c h)) rings
 
 stay_in : (rows : FinMap row_cmp (List Node)) (row r : Row) → IsSome (get rows r) → IsSome (get (insert rows row []) r)
 stay_in rows row r h = ⊎_elim (λ e. some (get (insert rows row []) r) (ap (get (insert rows row [])) e ∙ insert_here row_key rows row [])) (λ ne. subst IsSome (sym (insert_apart row_key rows row [] r ne)) h) (same_or_apart row_key r row)
@@ -121,9 +122,9 @@ module _ (k : Stock) (sound : IsSound k) (s : SessionNo) (free : get k.sessions 
         pub no_table_same : meaning_of (record { pool = r; sessions = sessions; entries = k.entries; objects = k.objects; bodies = k.bodies; attached = k.attached }) ≡ meaning_of k
         no_table_same = λ i. record { lasts = each (λ z. z.last) (same i); entries = (meaning_of k).entries; bodies = (meaning_of k).bodies }
 
-    module _ (sessions : FinMap session_cmp SessionRecord) (is : sessions ≡ insert k.sessions s (record { col = col; row = row; last = 0; entries = 0 })) where
+    module _ (sessions : FinMap session_cmp SessionRecord) (is : sessions ≡ insert k.sessions s (record { col = col; row = row; last = 0; entries = 0; attached = 0 })) where
       abbrev home : SessionRecord
-      home = record { col = col; row = row; last = 0; entries = 0 }
+      home = record { col = col; row = row; last = 0; entries = 0; attached = 0 }
 
       abbrev n : Stock
       n = record { pool = q2; sessions = sessions; entries = k.entries; objects = k.objects; bodies = k.bodies; attached = k.attached }
@@ -200,6 +201,15 @@ module _ (k : Stock) (sound : IsSound k) (s : SessionNo) (free : get k.sessions 
             let was = sym (there t ne) ∙ h in
             sound.lengths t r was ∙ ap (λ o. length (unwrap_or o [])) (sym (cols2 t r.col (ap (option_map (λ z. z.col)) was))))
             (same_or_apart session_key t s);
+        fronts = λ t r h.
+            ⊎_elim
+            (λ e.
+            let is' : home ≡ r = one_value (sym (ap (get sessions) e ∙ here) ∙ h) in
+            subst (λ z. IsInFront q2.nodes q2.cols k.entries z r) (sym e) (subst (λ z. IsInFront q2.nodes q2.cols k.entries s z) is' front_here))
+            (λ ne.
+            let was = sym (there t ne) ∙ h in
+            front_alike k sound q2 nodes2 t r was (ap (λ o. unwrap_or o []) (cols2 t r.col (ap (option_map (λ z. z.col)) was))))
+            (same_or_apart session_key t s);
       }
         where
           nobody : (y : Slot) (e : Entry) → get (plain k.entries) y ≡ Some e → is_of s (y, e) ≡ false
@@ -208,6 +218,12 @@ module _ (k : Stock) (sound : IsSound k) (s : SessionNo) (free : get k.sessions 
               by : (t : Bool) → is_of s (y, e) ≡ t → t ≡ false
               by true on = absurd (other y e at (session_told y.session s on))
               by false on = refl
+
+          front_here : IsInFront q2.nodes q2.cols k.entries s home
+          front_here = record {
+            first = subst (λ l. AreFirst (is_standing q2.nodes k.entries) 0 l) (sym (ap (λ o. unwrap_or o []) (ap (λ (z : Pool Slot). get z.cols col) q2_is ∙ col_q))) tt;
+            counted = sym (count_none slot_key (is_front s) (plain k.entries) (λ y e at. ap (λ t. t && is_some e.view) (nobody y e at)));
+          }
 
       pub opened_is : meaning_of n ≡ opened (meaning_of k) s
       opened_is = λ i. record { lasts = lasts_is i; entries = (meaning_of k).entries; bodies = (meaning_of k).bodies }
@@ -317,6 +333,9 @@ module _ (k : Stock) (sound : IsSound k) (s : SessionNo) (nobody : count (is_of 
           lengths = λ t r h.
               let here = ap (option_map (λ z. z.col)) h in
               sound.lengths t r (sym (others t (not_s (λ z. z.col) t r.col here)) ∙ h) ∙ ap (λ o. length (unwrap_or o [])) (sym (kept_col r.col (not_home_col t r.col here)));
+          fronts = λ t r h.
+              let here = ap (option_map (λ z. z.col)) h in
+              front_alike k sound q (ap (λ (z : Pool Slot). z.nodes) q_is ∙ ap (λ (z : Pool Slot). z.nodes) q1_is) t r (sym (others t (not_s (λ z. z.col) t r.col here)) ∙ h) (ap (λ o. unwrap_or o []) (kept_col r.col (not_home_col t r.col here)));
         }
           where
             place_same : (y : Slot) (spot : Spot) → spot_at k y ≡ Some spot → (a : Place) → spot.place ≡ a → row_at rest a ≡ row_at k a

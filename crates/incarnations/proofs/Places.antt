@@ -1,31 +1,29 @@
 -- Where entries stand, and which node is whose.
-use Rattle.std.proofs.Common.{suc, ◌≡◌, ◌≢◌, ⊎_elim, List, [], ◌∷◌, ◌++◌, length, map, true, false, Option, Some, None, IsSome, refl, sym, ap, ◌∙◌, subst, arith}
+use Rattle.std.proofs.Common.{◌≡◌, ◌≢◌, ◌+◌, ⊎_elim, List, [], ◌∷◌, ◌++◌, length, true, false, Option, Some, None, IsSome, refl, sym, ap, ◌∙◌, subst, arith, rules}
 use Rattle.std.specs.Prelude.{Contains}
-use Rattle.std.specs.Option.{option_map}
-use Rattle.std.specs.FinMap.{get}
-use Rattle.std.proofs.lemmas.List.{length-append, map-append}
+use Rattle.std.specs.Option.{option_map, unwrap_or}
+use Rattle.std.specs.FinMap.{FinMap, get, insert}
+use Rattle.std.proofs.lemmas.List.{length-append, append_assoc}
 use Rattle.pss_base.specs.declared.session.SessionNo.{SessionNo}
 use Rattle.pss_machine.specs.declared.session.View.{View}
 use Rattle.type_layout.specs.Schemas.{given}
-use Rattle.link_pool.specs.Rings.{list_in}
-use Rattle.link_pool.specs.Meaning.{Meaning as Pool, AreRings, row_in, col_in, item_in, inserted, unlinked, in_row}
+use Rattle.link_pool.specs.Names.{col_cmp}
+use Rattle.link_pool.specs.Rings.{list_in, without}
+use Rattle.link_pool.specs.Meaning.{Meaning as Pool, AreRings, row_in, item_in, unlinked, in_row}
 use Rattle.link_pool.specs.declared.names.Row.{Row}
 use Rattle.link_pool.specs.declared.names.Col.{Col}
 use Rattle.link_pool.specs.declared.names.Node.{Node}
 use Rattle.link_pool.specs.declared.names.Seat.{Seat}
-use Rattle.link_pool.proofs.NodeLists.{AreDistinct, without-absent, not_in_rest}
-use Rattle.link_pool.proofs.RingChanges.{nobody_home, without_first, row_stays-unlinked, row_stays-inserted, col_stays-unlinked, col_stays-inserted, col_list-inserted, col_list-inserted_other, col_list-unlinked, col_length-unlinked, seat-inserted, seat-inserted_other, seat-unlinked_other}
+use Rattle.link_pool.proofs.NodeLists.{AreDistinct, without-absent, without-split, contains_split, length-without}
+use Rattle.link_pool.proofs.RingChanges.{nobody_home, row_stays-unlinked, row_stays-inserted, col_stays-unlinked, col_list-unlinked, seat-inserted, seat-inserted_other, seat-unlinked_other}
 use Rattle.incarnations.specs.declared.names.Slot.{Slot}
 use Rattle.incarnations.specs.declared.names.BodyName.{BodyName}
 use Rattle.incarnations.specs.declared.names.Entry.{Entry}
 use Rattle.incarnations.specs.Meaning.{body, stands_on, same_body}
-use Rattle.incarnations.specs.Stock.{Place, Loose, On, place_of, Spot, AreSeated, IsMoved, IsTurned, items_of}
-use Rattle.incarnations.proofs.Maps.{no_value, one_value, same_or_apart}
+use Rattle.incarnations.specs.Stock.{Place, Loose, On, place_of, Spot, AreSeated, End, First, Last, put, IsMoved, IsPassed}
+use Rattle.incarnations.proofs.Maps.{no_value, one_value, same_or_apart, insert_here, insert_apart}
 use Rattle.incarnations.proofs.Keys.{body_self, body_told}
 use Rattle.incarnations.proofs.Seats.{col_key}
-
-pub Contains-cons : {X : Type 0} (head x : X) (rest : List X) → Contains rest x → Contains (head ∷ rest) x
-Contains-cons head x rest p = (suc p.0, omega (arith, p.1), p.2)
 
 false_true : {A : Type 0} → false ≡ true → A
 false_true e = absurd (cc)
@@ -92,11 +90,27 @@ module _ (p : Pool Slot) (spots : Slot → Option Spot) (rows : Place → Option
 
 -- ---- a node that moved
 
-map_alike : {A B : Type 0} (f g : A → B) (xs : List A) → ((x : A) → Contains xs x → f x ≡ g x) → map f xs ≡ map g xs
-map_alike f g [] same = refl
-map_alike f g (x ∷ xs) same = ap (λ y. y ∷ map f xs) (same x (0, omega arith, refl)) ∙ ap (λ l. g x ∷ l) (map_alike f g xs (λ y m. same y (Contains-cons x y xs m)))
+some : {A : Type 0} {v : A} (o : Option A) → o ≡ Some v → IsSome o
+some None e = no_value _ e
+some (Some v) e = search rules
 
-module _ (p q : Pool Slot) (node : Node) (row : Row) (again : Node) (rings : AreRings p) (m : IsMoved p q node row again) where
+length_put : (end : End) (node : Node) (nodes : List Node) → length (put end node nodes) ≡ length nodes + 1
+length_put First node nodes = omega arith
+length_put Last node nodes = length-append nodes (node ∷ [])
+
+module _ (cols : FinMap col_cmp (List Node)) (col : Col) (nodes : List Node) where
+  list_here : list_in (insert cols col nodes) col ≡ nodes
+  list_here = ap (λ o. unwrap_or o []) (insert_here col_key cols col nodes)
+
+  list_there : (c : Col) → c ≢ col → list_in (insert cols col nodes) c ≡ list_in cols c
+  list_there c ne = ap (λ o. unwrap_or o []) (insert_apart col_key cols col nodes c ne)
+
+  stays : (c : Col) → IsSome (get cols c) → IsSome (get (insert cols col nodes) c)
+  stays c h =
+      ⊎_elim (λ e. some (get (insert cols col nodes) c) (ap (get (insert cols col nodes)) e ∙ insert_here col_key cols col nodes)) (λ ne. subst IsSome (sym (insert_apart col_key cols col nodes c ne)) h)
+      (same_or_apart col_key c col)
+
+module _ (end : End) (p q : Pool Slot) (node : Node) (row : Row) (again : Node) (rings : AreRings p) (m : IsMoved end p q node row again) where
   abbrev mid : Pool Slot
   mid = unlinked p node m.seat
 
@@ -107,37 +121,61 @@ module _ (p q : Pool Slot) (node : Node) (row : Row) (again : Node) (rings : Are
   rows_stay r h = subst (λ (n : Pool Slot). IsSome (get n.rows r)) (sym m.is) (row_stays-inserted mid again here r (row_stays-unlinked p node m.seat r h))
 
   pub cols_stay : (c : Col) → IsSome (get p.cols c) → IsSome (get q.cols c)
-  cols_stay c h = subst (λ (n : Pool Slot). IsSome (get n.cols c)) (sym m.is) (col_stays-inserted mid again here c (col_stays-unlinked p node m.seat c h))
+  cols_stay c h = subst (λ (n : Pool Slot). IsSome (get n.cols c)) (sym m.is) (stays mid.cols here.col (put end again (list_in mid.cols here.col)) c (col_stays-unlinked p node m.seat c h))
 
   absent : (c : Col) → c ≢ m.seat.col → Contains (list_in p.cols c) node → ⊥
   absent c ne h = ne (one_value (sym (rings.cols.only c node h) ∙ ap (option_map (λ z. z.col)) m.at))
 
+  pub list_own : list_in q.cols m.seat.col ≡ put end again (without node (list_in p.cols m.seat.col))
+  list_own = ap (λ (n : Pool Slot). list_in n.cols m.seat.col) m.is ∙ list_here mid.cols here.col (put end again (list_in mid.cols here.col)) ∙ ap (put end again) (col_list-unlinked p node m.seat rings m.at m.seat.col)
+
+  pub list_other : (c : Col) → c ≢ m.seat.col → list_in q.cols c ≡ list_in p.cols c
+  list_other c ne =
+      ap (λ (n : Pool Slot). list_in n.cols c) m.is ∙ list_there mid.cols here.col (put end again (list_in mid.cols here.col)) c ne ∙ col_list-unlinked p node m.seat rings m.at c ∙ without-absent node (list_in p.cols c) (absent c ne)
+
+  pub in_own : Contains (list_in p.cols m.seat.col) node
+  in_own = rings.cols.found m.seat.col node (ap (option_map (λ z. z.col)) m.at)
+
   pub length_moved : (c : Col) → length (list_in q.cols c) ≡ length (list_in p.cols c)
   length_moved c =
-      ap (λ (n : Pool Slot). length (list_in n.cols c)) m.is
-      ∙ ⊎_elim
-      (λ e. ap (λ z. length (list_in (inserted mid again here).cols z)) e ∙ ap length (col_list-inserted mid again here) ∙ length-append (list_in mid.cols m.seat.col) (again ∷ [])
-      ∙ col_length-unlinked p node m.seat rings m.at ∙ ap (λ z. length (list_in p.cols z)) (sym e))
-      (λ ne. ap length (col_list-inserted_other mid again here c ne ∙ col_list-unlinked p node m.seat rings m.at c ∙ without-absent node (list_in p.cols c) (absent c ne)))
-      (same_or_apart col_key c m.seat.col)
+      ⊎_elim
+      (λ e. ap (λ z. length (list_in q.cols z)) e ∙ ap length list_own ∙ length_put end again (without node (list_in p.cols m.seat.col)) ∙ length-without node (list_in p.cols m.seat.col) (rings.cols.once m.seat.col) in_own ∙ ap (λ z. length (list_in p.cols z)) (sym e))
+      (λ ne. ap length (list_other c ne)) (same_or_apart col_key c m.seat.col)
 
-  pub turned : IsTurned p q node
-  turned = record {
-    turned = λ c rest list.
-        let own : m.seat.col ≡ c = one_value (sym (ap (option_map (λ z. z.col)) m.at) ∙ rings.cols.only c node (subst (λ l. Contains l node) (sym list) (0, omega arith, refl))) in
-        let left : list_in mid.cols c ≡ rest = col_list-unlinked p node m.seat rings m.at c ∙ without_first p.cols c (col_in p) rings.cols node rest list in
-        let lists : list_in (inserted mid again here).cols c ≡ rest ++ again ∷ [] = ap (λ z. list_in (inserted mid again here).cols z) (sym own) ∙ col_list-inserted mid again here ∙ ap (λ z. list_in mid.cols z ++ again ∷ []) own ∙ ap (λ l. l ++ again ∷ []) left in
-        ap (λ (n : Pool Slot). items_of n c) m.is ∙ ap (map (item_in (inserted mid again here))) lists ∙ map-append (item_in (inserted mid again here)) rest (again ∷ [])
-        ∙ (λ i. map_alike (item_in (inserted mid again here)) (item_in p) rest (kept c rest list) i ++ (ap (option_map (λ z. z.item)) (seat-inserted mid again here) ∙ sym (ap (option_map (λ z. z.item)) m.at)) i ∷ []);
-  }
+  pub seat_again : get q.nodes again ≡ Some here
+  seat_again = ap (λ (n : Pool Slot). get n.nodes again) m.is ∙ seat-inserted mid again here
+
+  pub seat_stays : (y : Node) → y ≢ node → IsSome (get p.nodes y) → get q.nodes y ≡ get p.nodes y
+  seat_stays y ne h =
+      let same : get mid.nodes y ≡ get p.nodes y = seat-unlinked_other p node m.seat y ne in
+      ap (λ (n : Pool Slot). get n.nodes y) m.is ∙ seat-inserted_other mid again here y (λ e. missing (get p.nodes y) h (sym same ∙ ap (get mid.nodes) e ∙ m.free)) ∙ same
     where
-      seated : (c : Col) (o : Option (Seat Slot)) → option_map (λ z. z.col) o ≡ Some c → o ≡ None → ⊥
-      seated c None h e = no_value c h
-      seated c (Some z) h e = no_value z (sym e)
+      missing : {A : Type 0} (o : Option A) → IsSome o → o ≡ None → ⊥
+      missing None h e = absurd (cc)
+      missing (Some v) h e = no_value v (sym e)
 
-      kept : (c : Col) (rest : List Node) → list_in p.cols c ≡ node ∷ rest → (y : Node) → Contains rest y → item_in (inserted mid again here) y ≡ item_in p y
-      kept c rest list y h =
-          let other : y ≢ node = λ e. not_in_rest node rest (subst AreDistinct list (rings.cols.once c)) (subst (Contains rest) e h) in
-          let same : get mid.nodes y ≡ get p.nodes y = seat-unlinked_other p node m.seat y other in
-          let new : y ≢ again = λ e. seated c (get p.nodes y) (rings.cols.only c y (subst (λ l. Contains l y) (sym list) (Contains-cons node y rest h))) (sym same ∙ ap (get mid.nodes) e ∙ m.free) in
-          ap (option_map (λ z. z.item)) (seat-inserted_other mid again here y new ∙ same)
+-- a node that goes last in its column is passed
+pub moved_passed : (p q : Pool Slot) (node : Node) (row : Row) (again : Node) → AreRings p → IsMoved Last p q node row again → IsPassed p q node
+moved_passed p q node row again rings m = record {
+  items = λ y ne h. ap (option_map (λ z. z.item)) (seat_stays Last p q node row again rings m y ne h);
+  runs = λ c front run list.
+      let own : m.seat.col ≡ c = one_value (sym (ap (option_map (λ z. z.col)) m.at) ∙ rings.cols.only c node (subst (λ l. Contains l node) (sym list) (contains_split node front run))) in
+      record {
+        front = front;
+        back = again ∷ [];
+        is =
+            ap (list_in q.cols) (sym own) ∙ list_own Last p q node row again rings m ∙ ap (λ z. without node (list_in p.cols z) ++ again ∷ []) own ∙ ap (λ l. without node l ++ again ∷ []) list
+            ∙ ap (λ l. l ++ again ∷ []) (without-split node front run (subst AreDistinct list (rings.cols.once c))) ∙ append_assoc front run (again ∷ []);
+      };
+}
+
+-- so is one that stays
+pub passed_still : (p : Pool Slot) (node : Node) → IsPassed p p node
+passed_still p node = record {
+  items = λ y ne h. refl;
+  runs = λ c front run list. record { front = front ++ node ∷ []; back = []; is = list ∙ ap (λ l. front ++ node ∷ l) (sym (append_nil run)) ∙ sym (append_assoc front (node ∷ []) (run ++ [])) };
+}
+  where
+    append_nil : (l : List Node) → l ++ [] ≡ l
+    append_nil [] = refl
+    append_nil (x ∷ xs) = ap (λ l. x ∷ l) (append_nil xs)

@@ -4,14 +4,14 @@ use Rattle.std.specs.Option.{option_map}
 use Rattle.std.specs.FinMap.{get, nat_cmp-IsAntisymmetric}
 use Rattle.pss_base.specs.declared.session.SessionNo.{SessionNo}
 use Rattle.link_pool.specs.Names.{row_cmp, col_cmp, node_cmp, row_named, col_named, node_named, row_cmp_total, col_cmp_total, node_cmp_total}
-use Rattle.link_pool.specs.Meaning.{Meaning as Pool, AreRings, inserted, unlinked}
+use Rattle.link_pool.specs.Meaning.{Meaning as Pool, AreRings, unlinked}
 use Rattle.link_pool.specs.declared.names.Row.{Row}
 use Rattle.link_pool.specs.declared.names.Col.{Col}
 use Rattle.link_pool.specs.declared.names.Node.{Node}
 use Rattle.link_pool.specs.declared.names.Seat.{Seat}
 use Rattle.link_pool.proofs.RingChanges.{seat-inserted, seat-inserted_other, seat-unlinked, seat-unlinked_other}
 use Rattle.incarnations.specs.declared.names.Slot.{Slot}
-use Rattle.incarnations.specs.Stock.{Place, Spot, AreSeated}
+use Rattle.incarnations.specs.Stock.{Place, Spot, AreSeated, End, placed}
 use Rattle.incarnations.proofs.Maps.{IsKey, no_value, one_value, same_or_apart}
 use Rattle.incarnations.proofs.Keys.{slot_key}
 
@@ -79,12 +79,12 @@ module _ (p : Pool Slot) (spots spots' : Slot → Option Spot) (rows : Place →
     }
 
   -- an entry comes, with a node
-  module _ (node : Node) (seat : Seat Slot) (place : Place) (none : spots x ≡ None) (free : get p.nodes node ≡ None) (came : spots' x ≡ Some (record { node = node; place = place })) (item : seat.item ≡ x)
-      (row : rows place ≡ Some seat.row) (col : cols x.session ≡ Some seat.col) (rings : AreRings (inserted p node seat)) where
+  module _ (end : End) (node : Node) (seat : Seat Slot) (place : Place) (none : spots x ≡ None) (free : get p.nodes node ≡ None) (came : spots' x ≡ Some (record { node = node; place = place })) (item : seat.item ≡ x)
+      (row : rows place ≡ Some seat.row) (col : cols x.session ≡ Some seat.col) (rings : AreRings (placed end p node seat)) where
     fresh : (other : Node) (found : Seat Slot) → get p.nodes other ≡ Some found → other ≢ node
     fresh other found is e = no_value found (sym free ∙ ap (get p.nodes) (sym e) ∙ is)
 
-    pub seats_in : AreSeated (inserted p node seat) spots' rows cols
+    pub seats_in : AreSeated (placed end p node seat) spots' rows cols
     seats_in = record {
       rings = rings;
       seated = λ y spot is.
@@ -94,7 +94,7 @@ module _ (p : Pool Slot) (spots spots' : Slot → Option Spot) (rows : Place →
           record {
             row = seat.row;
             col = seat.col;
-            at = ap (λ (t : Spot). get (inserted p node seat).nodes t.node) (sym same) ∙ seat-inserted p node seat ∙ (λ i. Some (record { row = seat.row; col = seat.col; item = (item ∙ sym e) i }));
+            at = ap (λ (t : Spot). get (placed end p node seat).nodes t.node) (sym same) ∙ seat-inserted p node seat ∙ (λ i. Some (record { row = seat.row; col = seat.col; item = (item ∙ sym e) i }));
             in_row = ap (λ (t : Spot). rows t.place) (sym same) ∙ row;
             in_col = ap (λ (z : Slot). cols z.session) e ∙ col;
           })
@@ -105,7 +105,7 @@ module _ (p : Pool Slot) (spots spots' : Slot → Option Spot) (rows : Place →
       known = λ other found is.
           ⊎_elim
           (λ e.
-          let same : seat ≡ found = one_value (sym (seat-inserted p node seat) ∙ ap (get (inserted p node seat).nodes) (sym e) ∙ is) in
+          let same : seat ≡ found = one_value (sym (seat-inserted p node seat) ∙ ap (get (placed end p node seat).nodes) (sym e) ∙ is) in
           ap (λ (z : Slot). option_map (λ t. t.node) (spots' z)) (ap (λ z. z.item) (sym same) ∙ item) ∙ ap (option_map (λ t. t.node)) came ∙ ap Some (sym e))
           (λ ne.
           let was = s.known other found (sym (seat-inserted_other p node seat other ne) ∙ is) in

@@ -374,6 +374,7 @@ module _ (k : Stock) (sound : IsSound k) (b : BodyName) (value : List PlainValue
     numbers = sound.numbers;
     counts = record { sessions = sound.counts.sessions; bodies = λ c l h. sound.counts.bodies c l (sym (loads_same c) ∙ h); some = λ c l h. sound.counts.some c l (sym (loads_same c) ∙ h); all = sound.counts.all };
     lengths = sound.lengths;
+    fronts = sound.fronts;
   }
 
   pub revalued_is : meaning_of n ≡ rewritten (meaning_of k) b value

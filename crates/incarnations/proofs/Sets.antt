@@ -1,5 +1,5 @@
 -- What is stored after an entry moved.
-use Rattle.std.proofs.Common.{◌≡◌, ⊎_elim, ◌<◌, length, Bool, true, false, cond, nat_lt, Option, Some, None, IsSome, refl, sym, ap, ◌∙◌, subst, arith, rules}
+use Rattle.std.proofs.Common.{ℕ, ◌≡◌, ⊎_elim, ◌<◌, length, Bool, true, false, cond, nat_lt, Option, Some, None, IsSome, refl, sym, ap, ◌∙◌, subst, arith, rules}
 use Rattle.std.specs.Prelude.{List}
 use Rattle.std.specs.Option.{option_map}
 use Rattle.std.proofs.lemmas.Bool.{lt-ltb}
@@ -7,20 +7,24 @@ use Rattle.std.specs.FinMap.{FinMap, get, insert, remove}
 use Rattle.type_layout.specs.Types.{PlainValue}
 use Rattle.link_pool.specs.Rings.{list_in}
 use Rattle.link_pool.specs.Meaning.{Meaning as Pool, AreRings, unlinked, in_row}
+use Rattle.pss_base.specs.declared.session.SessionNo.{SessionNo}
 use Rattle.link_pool.specs.declared.names.Row.{Row}
+use Rattle.link_pool.specs.declared.names.Col.{Col}
 use Rattle.link_pool.specs.declared.names.Node.{Node}
 use Rattle.incarnations.specs.declared.names.Slot.{Slot}
 use Rattle.incarnations.specs.declared.names.BodyName.{BodyName}
 use Rattle.incarnations.specs.declared.names.BodyRecord.{BodyRecord}
 use Rattle.incarnations.specs.declared.names.Entry.{Entry}
 use Rattle.incarnations.specs.declared.names.EntryRecord.{EntryRecord}
+use Rattle.incarnations.specs.declared.names.SessionRecord.{SessionRecord}
 use Rattle.incarnations.specs.declared.stock.Stock.{Stock}
 use Rattle.incarnations.specs.Keys.{slot_cmp, body_cmp}
 use Rattle.incarnations.specs.Maps.{each, count}
+use Rattle.incarnations.specs.Records.{with_attached}
 use Rattle.incarnations.specs.Meaning.{stands_on}
-use Rattle.incarnations.specs.Stock.{Place, On, place_of, Spot, spot_of, spots_in, spot_at, row_at, col_at, pid_at, number_at, meaning_of, IsSeated, AreSeated, AreApart, AreNamed, AreNumbered, AreLong, IsSound, IsMoved}
-use Rattle.incarnations.proofs.Maps.{no_value, one_value, same_or_apart, insert_here, insert_apart, remove_here, remove_apart, get_each, each_insert, count_none}
-use Rattle.incarnations.proofs.Keys.{slot_key}
+use Rattle.incarnations.specs.Stock.{Place, On, place_of, Spot, spot_of, spots_in, spot_at, row_at, col_at, pid_at, number_at, meaning_of, IsSeated, AreSeated, AreApart, AreNamed, AreNumbered, AreLong, IsSound, End, IsMoved}
+use Rattle.incarnations.proofs.Maps.{no_value, one_value, same_or_apart, insert_here, insert_apart, remove_here, remove_apart, get_each, each_insert, each_same, at_same, count_none}
+use Rattle.incarnations.proofs.Keys.{slot_key, session_key}
 use Rattle.incarnations.proofs.Seats.{seats_alike, seats_out, seats_in}
 use Rattle.incarnations.proofs.Places.{on_found, length_moved, cols_stay}
 use Rattle.incarnations.proofs.Named.{apart_less, names_alike, numbered_set}
@@ -67,7 +71,7 @@ module _ (k : Stock) (sound : IsSound k) (x : Slot) (was : EntryRecord) (at : ge
   pub body_there : (b : BodyName) → place_of x was.entry ≡ On b → Has (get k.bodies b)
   body_there b e = has_map (λ r. r.place.row) (get k.bodies b) seat_is.row (ap (row_at k) (sym e) ∙ seat_is.in_row)
 
-  module _ (p : Pool Slot) (row : Row) (again : Node) (m : IsMoved k.pool p was.node row again) (rings : AreRings p) (e : Entry) (same : e.pid ≡ was.entry.pid) where
+  module _ (end : End) (p : Pool Slot) (row : Row) (again : Node) (m : IsMoved end k.pool p was.node row again) (rings : AreRings p) (e : Entry) (same : e.pid ≡ was.entry.pid) where
     abbrev pub set : FinMap slot_cmp EntryRecord
     set = insert k.entries x (record { entry = e; node = again })
 
@@ -85,10 +89,14 @@ module _ (k : Stock) (sound : IsSound k) (x : Slot) (was : EntryRecord) (at : ge
         subst (λ (q : Pool Slot). AreSeated q (spots_in set) rows (col_at k)) (sym m.is)
         (seats_in (unlinked k.pool was.node m.seat) (spots_in gone) (spots_in set) rows (col_at k) out x
         (λ y ne. ap (option_map (spot_of y)) (insert_apart slot_key k.entries x (record { entry = e; node = again }) y ne ∙ sym (remove_apart slot_key k.entries x y ne)))
-        again (in_row row m.seat) (place_of x e) (ap (option_map (spot_of x)) (remove_here slot_key k.entries x)) m.free (ap (option_map (spot_of x)) (insert_here slot_key k.entries x (record { entry = e; node = again })))
+        end again (in_row row m.seat) (place_of x e) (ap (option_map (spot_of x)) (remove_here slot_key k.entries x)) m.free (ap (option_map (spot_of x)) (insert_here slot_key k.entries x (record { entry = e; node = again })))
         (ap (λ z. z.item) seat_same) is (seat_is.in_col ∙ ap (λ z. Some z.col) (sym seat_same)) (subst AreRings m.is rings))
 
-    module _ (n : Stock) (entries : n.entries ≡ set) (sessions : n.sessions ≡ k.sessions) where
+    module _ (n : Stock) (entries : n.entries ≡ set) (home : SessionRecord) (home_is : get k.sessions x.session ≡ Some home) (c : ℕ) (sessions : n.sessions ≡ insert k.sessions x.session (with_attached c home)) where
+      -- what a session's record has beside its count of attached entries
+      pub same_of : {X : Type 0} (f : SessionRecord → X) → f (with_attached c home) ≡ f home → (s : SessionNo) → option_map f (get n.sessions s) ≡ option_map f (get k.sessions s)
+      same_of f same' s = ap (λ t. option_map f (get t s)) sessions ∙ at_same session_key f k.sessions x.session home (with_attached c home) home_is same' s
+
       pub plain_after : plain n.entries ≡ insert (plain k.entries) x e
       plain_after = ap plain entries ∙ plain_set
 
@@ -105,14 +113,20 @@ module _ (k : Stock) (sound : IsSound k) (x : Slot) (was : EntryRecord) (at : ge
 
       pub cols_set : n.pool.cols ≡ p.cols → AreApart (col_at n) n.pool.cols
       cols_set cols =
-          apart_less (col_at k) (col_at n) k.pool.cols n.pool.cols sound.cols (λ s c h. ap (λ t. option_map (λ r. r.col) (get t s)) (sym sessions) ∙ h)
-          (λ s c h there. subst (λ t. IsSome (get t c)) (sym cols) (cols_stay k.pool p was.node row again sound.seats.rings m c there))
+          apart_less (col_at k) (col_at n) k.pool.cols n.pool.cols sound.cols (λ s c' h. sym (same_of (λ r. r.col) refl s) ∙ h)
+          (λ s c' h there. subst (λ t. IsSome (get t c')) (sym cols) (cols_stay end k.pool p was.node row again sound.seats.rings m c' there))
 
       pub lengths_set : n.pool.cols ≡ p.cols → AreLong n
-      lengths_set cols = λ s r is. sound.lengths s r (ap (λ t. get t s) (sym sessions) ∙ is) ∙ sym (length_moved k.pool p was.node row again sound.seats.rings m r.col) ∙ ap (λ t. length (list_in t r.col)) (sym cols)
+      lengths_set cols = λ s r is.
+          let o = has_map size_col (get k.sessions s) (size_col r) (sym (same_of size_col refl s) ∙ ap (option_map size_col) is) in
+          let same' : size_col o.value ≡ size_col r = one_value (sym (ap (option_map size_col) o.is) ∙ sym (same_of size_col refl s) ∙ ap (option_map size_col) is) in
+          sym (ap (λ z. z.0) same') ∙ sound.lengths s o.value o.is ∙ ap (λ z. length (list_in k.pool.cols z.1)) same' ∙ sym (length_moved end k.pool p was.node row again sound.seats.rings m r.col) ∙ ap (λ t. length (list_in t r.col)) (sym cols)
+        where
+          size_col : SessionRecord → ℕ × Col
+          size_col r = (r.entries, r.col)
 
       pub lasts_same : (meaning_of n).lasts ≡ (meaning_of k).lasts
-      lasts_same = ap (each (λ r. r.last)) sessions
+      lasts_same = ap (each (λ r. r.last)) sessions ∙ each_same (λ r. r.last) session_key k.sessions x.session home (with_attached c home) home_is refl
 
       pub numbers_set : 0 < e.count → AreNumbered (meaning_of n).entries (meaning_of n).lasts
       numbers_set positive =

@@ -1,6 +1,6 @@
 -- What is stored after an entry came to share a body, or to stand on a new one; and after a body got another value.
-use Rattle.std.proofs.Common.{◌≡◌, ◌≢◌, ◌≤◌, ◌+◌, List, [], Some, None, IsSome, refl, sym, ap, ◌∙◌, subst, arith}
-use Rattle.std.specs.Prelude.{IsSomeAnd}
+use Rattle.std.proofs.Common.{◌≡◌, ◌≢◌, ◌<◌, ◌≤◌, ◌+◌, List, [], Some, None, IsSome, refl, sym, ap, ◌∙◌, subst, arith}
+use Rattle.std.specs.Prelude.{IsSomeAnd, is_some}
 use Rattle.std.specs.Option.{option_map}
 use Rattle.std.specs.FinMap.{FinMap, get, insert, remove}
 use Rattle.pss_machine.specs.declared.session.View.{View}
@@ -12,23 +12,39 @@ use Rattle.incarnations.specs.declared.names.Slot.{Slot}
 use Rattle.incarnations.specs.declared.names.BodyName.{BodyName}
 use Rattle.incarnations.specs.declared.names.BodyRecord.{BodyRecord}
 use Rattle.incarnations.specs.declared.names.EntryRecord.{EntryRecord}
+use Rattle.incarnations.specs.declared.names.SessionRecord.{SessionRecord}
 use Rattle.incarnations.specs.declared.stock.Stock.{Stock}
-use Rattle.incarnations.specs.Keys.{slot_cmp}
+use Rattle.incarnations.specs.Keys.{slot_cmp, session_cmp}
 use Rattle.incarnations.specs.Maps.{each, count}
-use Rattle.incarnations.specs.Records.{with_entries}
+use Rattle.incarnations.specs.Records.{with_entries, with_attached}
 use Rattle.incarnations.specs.Meaning.{stands_on, body, with_view, with_entry, attached}
-use Rattle.incarnations.specs.Stock.{Place, Loose, On, row_at, meaning_of, IsSound, IsMoved}
+use Rattle.incarnations.specs.Stock.{Place, Loose, On, row_at, meaning_of, IsSound, First, IsMoved}
 use Rattle.incarnations.proofs.Maps.{no_value, one_value, insert_here, insert_apart, remove_apart, each_insert, each_same}
-use Rattle.incarnations.proofs.Keys.{body_key}
+use Rattle.incarnations.proofs.Keys.{body_key, session_key}
+use Rattle.incarnations.proofs.Fronts.{attached_fewer}
 use Rattle.std.specs.FinMap as finite
 use Rattle.incarnations.specs.Keys.{body_cmp}
 use Rattle.incarnations.proofs.Seats.{row_key}
 use Rattle.incarnations.proofs.Stood.{pool_sound, unused, stay_inserted, standing_sound, plain_is, room_on}
 use Rattle.incarnations.specs.Maps.{IsWith}
 use Rattle.incarnations.specs.declared.names.BodyPlace.{BodyPlace}
-use Rattle.incarnations.proofs.Sets.{some, Has, has_map, plain, node_there, load_on, nobody_on}
+use Rattle.incarnations.proofs.Sets.{some, Has, has_map, plain, node_there, home_there, load_on, nobody_on}
 
 module _ (k : Stock) (sound : IsSound k) (x : Slot) (was : EntryRecord) (at : get k.entries x ≡ Some was) (loose : was.entry.view ≡ None) (v : View) where
+  -- the session's record, which counts one more
+  home : Has (get k.sessions x.session)
+  home = home_there k sound x was at
+
+  pub home_room : IsSomeAnd (get k.sessions x.session) (λ r. r.attached < r.entries)
+  home_room = subst (λ o. IsSomeAnd o (λ r. r.attached < r.entries)) (sym home.is) (attached_fewer k sound x was at home.value home.is (ap is_some loose))
+
+  module _ (sessions : FinMap session_cmp SessionRecord) (one : IsWith k.sessions sessions x.session (λ r. with_attached (r.attached + 1) r)) where
+    counted : sessions ≡ insert k.sessions x.session (with_attached (home.value.attached + 1) home.value)
+    counted = subst (λ o. IsSomeAnd o (λ r. sessions ≡ insert k.sessions x.session (with_attached (r.attached + 1) r))) home.is one
+
+    pub lasts_counted : each (λ r. r.last) sessions ≡ each (λ r. r.last) k.sessions
+    lasts_counted = ap (each (λ r. r.last)) counted ∙ each_same (λ r. r.last) session_key k.sessions x.session home.value (with_attached (home.value.attached + 1) home.value) home.is refl
+
   abbrev b : BodyName
   b = body was.entry.pid v
 
@@ -50,13 +66,13 @@ module _ (k : Stock) (sound : IsSound k) (x : Slot) (was : EntryRecord) (at : ge
     pub shared_room : place.entries + 1 ≤ finite.len k.entries
     shared_room = omega (arith, room_on k sound x was at loose v r.value r.is, ap (λ z. z.entries) same)
 
-    module _ (p : Pool Slot) (again : Node) (m : IsMoved k.pool p was.node place.row again) (rings : AreRings p) (after : FinMap slot_cmp EntryRecord) (is : after ≡ insert k.entries x (record { entry = with_view (Some v) was.entry; node = again }))
+    module _ (p : Pool Slot) (again : Node) (m : IsMoved First k.pool p was.node place.row again) (rings : AreRings p) (sessions : FinMap session_cmp SessionRecord) (one : IsWith k.sessions sessions x.session (λ r. with_attached (r.attached + 1) r)) (after : FinMap slot_cmp EntryRecord) (is : after ≡ insert k.entries x (record { entry = with_view (Some v) was.entry; node = again }))
         (bodies : FinMap body_cmp BodyRecord) (more : IsWith k.bodies bodies b (with_entries (place.entries + 1))) where
       abbrev new : BodyRecord
       new = with_entries (place.entries + 1) r.value
 
       abbrev shared : Stock
-      shared = record { pool = p; sessions = k.sessions; entries = after; objects = k.objects; bodies = bodies; attached = k.attached + 1 }
+      shared = record { pool = p; sessions = sessions; entries = after; objects = k.objects; bodies = bodies; attached = k.attached + 1 }
 
       bodies_is : bodies ≡ insert k.bodies b new
       bodies_is = subst (λ o. IsSomeAnd o (λ z. bodies ≡ insert k.bodies b (with_entries (place.entries + 1) z))) r.is more
@@ -77,13 +93,13 @@ module _ (k : Stock) (sound : IsSound k) (x : Slot) (was : EntryRecord) (at : ge
       before z h = ap (λ y. y.place.row) (one_value (sym h ∙ r.is)) ∙ ap (λ y. y.row) same
 
       pub shared_sound : IsSound shared
-      shared_sound = standing_sound k sound x was at loose v place.row p again m rings after is bodies new here (ap (λ z. z.row) same) count_is others mine before shared_row
+      shared_sound = standing_sound k sound x was at loose home.value home.is v place.row p again m rings sessions (counted sessions one) after is bodies new here (ap (λ z. z.row) same) count_is others mine before shared_row
 
       entries_is : plain after ≡ insert (plain k.entries) x (with_view (Some v) was.entry)
-      entries_is = plain_is k sound x was at loose v place.row p again m rings after is bodies new here (ap (λ z. z.row) same) count_is others mine before shared_row
+      entries_is = plain_is k sound x was at loose home.value home.is v place.row p again m rings sessions (counted sessions one) after is bodies new here (ap (λ z. z.row) same) count_is others mine before shared_row
 
       pub shared_is : meaning_of shared ≡ with_entry (meaning_of k) x (with_view (Some v) was.entry)
-      shared_is = λ i. record { lasts = (meaning_of k).lasts; entries = entries_is i; bodies = (ap (each (λ z. z.value)) bodies_is ∙ each_same (λ z. z.value) body_key k.bodies b r.value new r.is refl) i }
+      shared_is = λ i. record { lasts = lasts_counted sessions one i; entries = entries_is i; bodies = (ap (each (λ z. z.value)) bodies_is ∙ each_same (λ z. z.value) body_key k.bodies b r.value new r.is refl) i }
 
   -- ---- a new body
 
@@ -119,12 +135,12 @@ module _ (k : Stock) (sound : IsSound k) (x : Slot) (was : EntryRecord) (at : ge
       undone_is = λ i. record { lasts = (meaning_of k).lasts; entries = (meaning_of k).entries; bodies = each (λ z. z.value) (bodies_is i) }
 
     module _ (value : List PlainValue) (bodies : FinMap body_cmp BodyRecord) (bodies_is : bodies ≡ insert k.bodies b (record { place = record { row = row; entries = 1 }; value = value }))
-        (p : Pool Slot) (again : Node) (m : IsMoved q p was.node row again) (rings : AreRings p) (after : FinMap slot_cmp EntryRecord) (is : after ≡ insert k.entries x (record { entry = with_view (Some v) was.entry; node = again })) where
+        (p : Pool Slot) (again : Node) (m : IsMoved First q p was.node row again) (rings : AreRings p) (sessions : FinMap session_cmp SessionRecord) (one : IsWith k.sessions sessions x.session (λ r. with_attached (r.attached + 1) r)) (after : FinMap slot_cmp EntryRecord) (is : after ≡ insert k.entries x (record { entry = with_view (Some v) was.entry; node = again })) where
       abbrev came : BodyRecord
       came = record { place = record { row = row; entries = 1 }; value = value }
 
       abbrev made : Stock
-      made = record { pool = p; sessions = k.sessions; entries = after; objects = k.objects; bodies = bodies; attached = k.attached + 1 }
+      made = record { pool = p; sessions = sessions; entries = after; objects = k.objects; bodies = bodies; attached = k.attached + 1 }
 
       here' : get bodies b ≡ Some came
       here' = ap (λ t. get t b) bodies_is ∙ insert_here body_key k.bodies b came
@@ -149,10 +165,10 @@ module _ (k : Stock) (sound : IsSound k) (x : Slot) (was : EntryRecord) (at : ge
       there' = some (get q.rows row) row_q
 
       pub made_sound : IsSound made
-      made_sound = standing_sound k0 sound0 x was at loose v row p again m rings after is bodies came here' refl count_is' others' mine' before' there'
+      made_sound = standing_sound k0 sound0 x was at loose home.value home.is v row p again m rings sessions (counted sessions one) after is bodies came here' refl count_is' others' mine' before' there'
 
       entries_is' : plain after ≡ insert (plain k.entries) x (with_view (Some v) was.entry)
-      entries_is' = plain_is k0 sound0 x was at loose v row p again m rings after is bodies came here' refl count_is' others' mine' before' there'
+      entries_is' = plain_is k0 sound0 x was at loose home.value home.is v row p again m rings sessions (counted sessions one) after is bodies came here' refl count_is' others' mine' before' there'
 
       pub made_is : meaning_of made ≡ attached (meaning_of k) x v value was.entry
-      made_is = λ i. record { lasts = (meaning_of k).lasts; entries = entries_is' i; bodies = (ap (each (λ z. z.value)) bodies_is ∙ each_insert (λ z. z.value) body_key k.bodies b came) i }
+      made_is = λ i. record { lasts = lasts_counted sessions one i; entries = entries_is' i; bodies = (ap (each (λ z. z.value)) bodies_is ∙ each_insert (λ z. z.value) body_key k.bodies b came) i }

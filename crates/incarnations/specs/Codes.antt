@@ -61,7 +61,8 @@ entry_record_code = code_by (Entry × Node) (coded× entry_code node_code) (λ r
 
 abbrev pub session_record_code : Coded SessionRecord
 session_record_code =
-    code_by (Col × (Row × (ℕ × ℕ))) (coded× col_code (coded× row_code (coded× coded_ℕ coded_ℕ))) (λ r. (r.col, (r.row, (r.last, r.entries)))) (λ q. record { col = q.0; row = q.1.0; last = q.1.1.0; entries = q.1.1.1 }) (λ _. refl)
+    code_by (Col × (Row × (ℕ × (ℕ × ℕ)))) (coded× col_code (coded× row_code (coded× coded_ℕ (coded× coded_ℕ coded_ℕ)))) (λ r. (r.col, (r.row, (r.last, (r.entries, r.attached)))))
+    (λ q. record { col = q.0; row = q.1.0; last = q.1.1.0; entries = q.1.1.1.0; attached = q.1.1.1.1 }) (λ _. refl)
 
 abbrev pub object_code : Coded ObjectName
 object_code = code_by (SessionNo × Pid) (coded× session_code pid_code) (λ x. (x.session, x.pid)) (λ q. record { session = q.0; pid = q.1 }) (λ _. refl)

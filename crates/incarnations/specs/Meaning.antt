@@ -70,6 +70,13 @@ entries_of m s = filter (is_of s) (map.entries m.entries)
 abbrev pub length_of : Meaning → SessionNo → ℕ
 length_of m s = length (entries_of m s)
 
+abbrev pub is_attached : Slot × Entry → Bool
+is_attached e = is_some e.1.view
+
+-- how many of them stand on a body
+abbrev pub attached_of : Meaning → SessionNo → ℕ
+attached_of m s = count (λ e. is_of s e && is_attached e) m.entries
+
 abbrev pub with_count : ℕ → Entry → Entry
 with_count n e = record { pid = e.pid; count = n; view = e.view }
 
@@ -96,9 +103,6 @@ HasNoEntry m s pid = (n : ℕ) (e : Entry) → entry_at m s n ≡ Some e → e.p
 -- the body that an entry stands on
 abbrev pub body_of : Entry → Option BodyName
 body_of e = option_map (body e.pid) e.view
-
-abbrev pub is_attached : Slot × Entry → Bool
-is_attached e = is_some e.1.view
 
 abbrev pub stands_on : BodyName → Slot × Entry → Bool
 stands_on b e = given (body_of e.1) false (same_body b)

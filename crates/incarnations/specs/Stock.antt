@@ -1,6 +1,6 @@
 -- What is stored, and how its parts belong together.
-use Rattle.std.specs.Prelude.{ℕ, ◌≡◌, ◌⊎◌, ◌<◌, ◌≤◌, ◌-◌, List, [], ◌∷◌, ◌++◌, map, length, Option, Some, None, IsSome, IsSomeAnd, Bool, true, false, cond}
-use Rattle.std.specs.Option.{option_map}
+use Rattle.std.specs.Prelude.{ℕ, zero, suc, ◌≡◌, ◌≢◌, ◌⊎◌, ◌<◌, ◌≤◌, ◌-◌, List, [], ◌∷◌, ◌++◌, length, Option, Some, None, IsSome, IsSomeAnd, Bool, true, false, is_some, ◌&&◌, cond}
+use Rattle.std.specs.Option.{option_map, option_and_then}
 use Rattle.std.specs.declared.cmp.Ordering.{Ordering}
 use Rattle.std.specs.FinMap.{FinMap, get, insert, remove}
 use Rattle.pss_base.specs.declared.pid.Pid.{Pid}
@@ -10,7 +10,8 @@ use Rattle.type_layout.specs.Schemas.{given}
 use Rattle.pss_machine.specs.declared.session.View.{View}
 use Rattle.pss_machine.specs.Copies.{same_view}
 use Rattle.link_pool.specs.Rings.{list_in}
-use Rattle.link_pool.specs.Meaning.{Meaning as Pool, AreRings, item_in, inserted, unlinked, in_row}
+use Rattle.link_pool.specs.Meaning.{Meaning as Pool, AreRings, item_in, unlinked, in_row}
+use Rattle.link_pool.specs.Names.{col_cmp, node_cmp}
 use Rattle.link_pool.specs.declared.names.Row.{Row}
 use Rattle.link_pool.specs.declared.names.Col.{Col}
 use Rattle.link_pool.specs.declared.names.Node.{Node}
@@ -114,6 +115,25 @@ pub record AreCounted (entries : FinMap slot_cmp Entry) (sizes : SessionNo → O
 abbrev pub AreLong : Stock → Type 0
 AreLong k = (s : SessionNo) (r : SessionRecord) → get k.sessions s ≡ Some r → r.entries ≡ length (list_in k.pool.cols r.col)
 
+-- the first so many pass a test, and no others do
+abbrev pub AreFirst : {X : Type 0} → (X → Bool) → ℕ → List X → Type 0
+AreFirst test zero [] = Unit {0}
+AreFirst test (suc n) [] = ⊥
+AreFirst test zero (x ∷ xs) = (test x ≡ false) × AreFirst test zero xs
+AreFirst test (suc n) (x ∷ xs) = (test x ≡ true) × AreFirst test n xs
+
+-- the entry of a node stands on a body
+abbrev pub is_standing : FinMap node_cmp (Seat Slot) → FinMap slot_cmp EntryRecord → Node → Bool
+is_standing nodes entries node = given (option_and_then (λ seat. get entries seat.item) (get nodes node)) false (λ r. is_some r.entry.view)
+
+-- those of a session's entries that stand on a body are counted, and their nodes stand first in its column
+pub record IsInFront (nodes : FinMap node_cmp (Seat Slot)) (cols : FinMap col_cmp (List Node)) (entries : FinMap slot_cmp EntryRecord) (s : SessionNo) (r : SessionRecord) : Type 0 where
+  pub first : AreFirst (is_standing nodes entries) r.attached (list_in cols r.col)
+  pub counted : r.attached ≡ count (λ e. is_of s e && is_attached e) (each (λ z. z.entry) entries)
+
+abbrev pub AreInFront : FinMap node_cmp (Seat Slot) → FinMap col_cmp (List Node) → FinMap slot_cmp EntryRecord → FinMap session_cmp SessionRecord → Type 0
+AreInFront nodes cols entries sessions = (s : SessionNo) (r : SessionRecord) → get sessions s ≡ Some r → IsInFront nodes cols entries s r
+
 pub record IsSound (k : Stock) : Type 0 where
   pub seats : AreSeated k.pool (spot_at k) (row_at k) (col_at k)
   pub rows : AreApart (row_at k) k.pool.rows
@@ -122,16 +142,35 @@ pub record IsSound (k : Stock) : Type 0 where
   pub numbers : AreNumbered (meaning_of k).entries (meaning_of k).lasts
   pub counts : AreCounted (meaning_of k).entries (size_at k) (load_at k) k.attached
   pub lengths : AreLong k
+  pub fronts : AreInFront k.pool.nodes k.pool.cols k.entries k.sessions
 
 -- ---- a node in another row
 
--- a node went out of its rings and came last in a row and in its column again, under another name
-pub record IsMoved (old new : Pool Slot) (node : Node) (row : Row) (again : Node) : Type 0 where
+-- an end of a list
+pub data End : Type 0 where
+  First : End
+  Last : End
+
+abbrev pub put : End → Node → List Node → List Node
+put First node nodes = node ∷ nodes
+put Last node nodes = nodes ++ node ∷ []
+
+-- the pool after a node came in, last in its row and at an end of its column
+abbrev pub placed : End → Pool Slot → Node → Seat Slot → Pool Slot
+placed end p node seat = record {
+  rows = insert p.rows seat.row (list_in p.rows seat.row ++ node ∷ []);
+  cols = insert p.cols seat.col (put end node (list_in p.cols seat.col));
+  nodes = insert p.nodes node seat;
+  room = p.room - 1;
+}
+
+-- a node went out of its rings, and came last in a row and at an end of its column again, under another name
+pub record IsMoved (end : End) (old new : Pool Slot) (node : Node) (row : Row) (again : Node) : Type 0 where
   pub seat : Seat Slot
   pub at : get old.nodes node ≡ Some seat
   pub between : AreRings (unlinked old node seat)
   pub free : get (unlinked old node seat).nodes again ≡ None
-  pub is : new ≡ inserted (unlinked old node seat) again (in_row row seat)
+  pub is : new ≡ placed end (unlinked old node seat) again (in_row row seat)
 
 -- ---- one entry
 
@@ -159,13 +198,16 @@ KeepsRows old new = (b : BodyName) (r : Row) → row_at new (On b) ≡ Some r �
 abbrev pub KeepsCols : Stock → Stock → Type 0
 KeepsCols old new = (s : SessionNo) → col_at new s ≡ col_at old s
 
--- the items of a column, in its order
-abbrev pub items_of : Pool Slot → Col → List (Option Slot)
-items_of p col = map (item_in p) (list_in p.cols col)
+-- somewhere in a list these nodes follow each other
+pub record HasRun (run nodes : List Node) : Type 0 where
+  pub front : List Node
+  pub back : List Node
+  pub is : nodes ≡ front ++ (run ++ back)
 
--- where a node was first in its column, its item is last there
-pub record IsTurned (old new : Pool Slot) (node : Node) : Type 0 where
-  pub turned : (col : Col) (rest : List Node) → list_in old.cols col ≡ node ∷ rest → items_of new col ≡ map (item_in old) rest ++ item_in old node ∷ []
+-- a node stays, or goes elsewhere under another name: the others stay, and those behind it follow each other as before
+pub record IsPassed (old new : Pool Slot) (node : Node) : Type 0 where
+  pub items : (y : Node) → y ≢ node → IsSome (get old.nodes y) → item_in new y ≡ item_in old y
+  pub runs : (col : Col) (front run : List Node) → list_in old.cols col ≡ front ++ node ∷ run → HasRun run (list_in new.cols col)
 
 -- one entry fewer stands on a body, which goes where none is left
 pub record IsFewer (old new : Stock) (name : BodyName) (b : BodyRecord) : Type 0 where

@@ -1,11 +1,32 @@
 // Entries go.
-ghost use Rattle.std.specs.Prelude.{◌≡◌, Some};
+ghost use Rattle.std.specs.Prelude.{◌≡◌, ◌<◌, Some, is_some, true};
 ghost use Rattle.std.specs.FinMap.{get};
+ghost use Rattle.incarnations.specs.Records.{without_one};
 ghost use Rattle.incarnations.specs.Stock.{IsSound, IsErased, KeepsCols, meaning_of};
 
 use crate::loads::lower;
 use crate::names::{BodyName, EntryRecord, ObjectName, SessionRecord, Slot};
 use crate::stock::Stock;
+use pss_machine::View;
+
+// A session has one entry fewer, which stood on a body or on none.
+fn less_one(home: SessionRecord, view: Option<View>) -> SessionRecord
+    requires entries { 0 < home.entries }
+    requires attached { is_some view ≡ true → 0 < home.attached }
+    ensures { result ≡ without_one (is_some view) home }
+{
+    let stood = match view {
+        Some(_) => 1,
+        None => 0,
+    };
+    SessionRecord {
+        col: home.col,
+        row: home.row,
+        last: home.last,
+        entries: home.entries - 1,
+        attached: home.attached - stood,
+    }
+}
 
 /// An entry goes, and leaves the body that it stands on.
 pub fn erase(stock: &mut Stock, slot: Slot, was: EntryRecord)
@@ -25,15 +46,9 @@ pub fn erase(stock: &mut Stock, slot: Slot, was: EntryRecord)
         session: slot.session,
         pid,
     });
-    stock.sessions.set(
-        slot.session,
-        SessionRecord {
-            col: home.col,
-            row: home.row,
-            last: home.last,
-            entries: home.entries - 1,
-        },
-    );
+    stock
+        .sessions
+        .set(slot.session, less_one(home, was.entry.view));
     match was.entry.view {
         Some(view) => {
             stock.attached -= 1;

@@ -7,7 +7,7 @@ ghost use Rattle.link_pool.specs.Meaning.{AreRings};
 ghost use Rattle.pss_machine.specs.declared.session.View.TheVariants.{Own};
 ghost use Rattle.incarnations.specs.declared.names.Entry.{Entry};
 ghost use Rattle.incarnations.specs.Maps.{count};
-ghost use Rattle.incarnations.specs.Meaning.{no_copies, opened, closed, entry_at, length_of, entries_on, slot, body, with_count, with_view, with_entry, attached as attached_to, rewritten, body_under, is_attached, both, of_session, on_body, in_view, loosened, freed, Leaves, HasNoEntry, IsObtained, IsReleased, AreCopies};
+ghost use Rattle.incarnations.specs.Meaning.{no_copies, opened, closed, entry_at, length_of, attached_of, entries_on, slot, body, with_count, with_view, with_entry, attached as attached_to, rewritten, body_under, is_attached, both, of_session, on_body, in_view, loosened, freed, Leaves, HasNoEntry, IsObtained, IsReleased, AreCopies};
 ghost use Rattle.incarnations.specs.Rings.{AreCopyRings};
 
 use crate::erasing::erase;
@@ -326,21 +326,22 @@ impl Incarnations {
         clear(&mut self.stock, BodyName { pid, view }, steps);
     }
 
-    /// The entries of a session stand on no body. It takes no memory, and at most two steps for each of them, and one.
+    /// The entries of a session stand on no body. It takes no memory, and at most two steps for each of them that stands on
+    /// a body, and one.
     pub fn detach_session<L: Ledger>(&mut self, session: SessionNo, steps: &mut Steps<L>)
         ensures lasts { self.new.lasts ≡ self.old.lasts }
         ensures left { Leaves (loosened (of_session session)) self.old self.new }
-        ensures steps { steps.new ≤ steps.old + (2 * length_of self.old session + 1) }
+        ensures steps { steps.new ≤ steps.old + (2 * attached_of self.old session + 1) }
     {
         sweep(&mut self.stock, session, None, steps);
     }
 
     /// The entries of a session on bodies of the view stand on none. It takes no memory, and at most two steps for each
-    /// entry of the session, and one.
+    /// entry of the session that stands on a body, and one.
     pub fn detach_view<L: Ledger>(&mut self, session: SessionNo, view: View, steps: &mut Steps<L>)
         ensures lasts { self.new.lasts ≡ self.old.lasts }
         ensures left { Leaves (loosened (both (of_session session) (in_view view))) self.old self.new }
-        ensures steps { steps.new ≤ steps.old + (2 * length_of self.old session + 1) }
+        ensures steps { steps.new ≤ steps.old + (2 * attached_of self.old session + 1) }
     {
         sweep(&mut self.stock, session, Some(view), steps);
     }

@@ -79,14 +79,15 @@ pub struct EntryRecord {
     pub node: Node,
 }
 
-/// A session: its column, the row of its entries that stand on no body, the last number that an entry was given, and
-/// how many entries it has.
+/// A session: its column, the row of its entries that stand on no body, the last number that an entry was given, how many
+/// entries it has, and how many of them stand on a body.
 #[derive(Clone, Copy, Drop)]
 pub struct SessionRecord {
     pub col: Col,
     pub row: Row,
     pub last: u32,
     pub entries: u32,
+    pub attached: u32,
 }
 
 /// Where a body stands: the row of its entries, and how many they are.

@@ -93,6 +93,7 @@ pub fn enter(
                     row: home.row,
                     last: number,
                     entries: home.entries + 1,
+                    attached: home.attached,
                 },
             );
             Ok(number)

@@ -25,6 +25,7 @@ pub fn open(stock: &mut Stock, session: SessionNo) -> Result<(), NoMemory>
                 row,
                 last: 0,
                 entries: 0,
+                attached: 0,
             };
             match stock.sessions.add(session, home) {
                 Ok(()) => Ok(()),

@@ -1,17 +1,40 @@
 // Entries come to stand on bodies.
-ghost use Rattle.std.specs.Prelude.{◌≡◌, Some, None, IsSome, OnOk, OnErr};
+ghost use Rattle.std.specs.Prelude.{◌≡◌, ◌<◌, ◌+◌, Some, None, IsSome, IsSomeAnd, OnOk, OnErr};
 ghost use Rattle.std.specs.FinMap.{get, insert};
 ghost use Rattle.incarnations.specs.Meaning.{body, with_entry, with_view, attached};
+ghost use Rattle.incarnations.specs.Maps.{IsWith};
+ghost use Rattle.incarnations.specs.Records.{with_attached};
 ghost use Rattle.incarnations.specs.Stock.{IsSound, meaning_of};
 
-use crate::moves::move_node;
-use crate::names::{BodyName, BodyPlace, BodyRecord, Entry, EntryRecord, Slot};
+use crate::moves::move_ahead;
+use crate::names::{BodyName, BodyPlace, BodyRecord, Entry, EntryRecord, SessionRecord, Slot};
 use crate::stock::Stock;
-use pss_base::NoMemory;
+use crate::tables::sessions::SessionTable;
+use pss_base::{NoMemory, SessionNo};
 use pss_machine::View;
 use type_layout::Record;
 
-/// An entry that stands on no body comes to stand on one that is there.
+// One more of a session's entries stands on a body.
+fn count_one(sessions: &mut SessionTable, session: SessionNo)
+    requires { IsSomeAnd (get sessions.old session) (λ r. r.attached < r.entries) }
+    ensures { IsWith sessions.old sessions.new session (λ r. with_attached (r.attached + 1) r) }
+{
+    let Some(home) = sessions.get(session) else {
+        unreachable!()
+    };
+    sessions.set(
+        session,
+        SessionRecord {
+            col: home.col,
+            row: home.row,
+            last: home.last,
+            entries: home.entries,
+            attached: home.attached + 1,
+        },
+    );
+}
+
+/// An entry that stands on no body comes to stand on one that is there, and comes first in its session.
 pub fn share(stock: &mut Stock, slot: Slot, was: EntryRecord, view: View)
     requires sound { IsSound stock.old }
     requires entry { get stock.old.entries slot ≡ Some was }
@@ -27,18 +50,20 @@ pub fn share(stock: &mut Stock, slot: Slot, was: EntryRecord, view: View)
     let Some(place) = stock.bodies.place(name) else {
         unreachable!()
     };
-    let node = move_node(&mut stock.pool, was.node, place.row);
+    let node = move_ahead(&mut stock.pool, was.node, place.row);
     let entry = Entry {
         pid,
         count: was.entry.count,
         view: Some(view),
     };
     stock.entries.set(slot, EntryRecord { entry, node });
+    count_one(&mut stock.sessions, slot.session);
     stock.bodies.set_entries(name, place.entries + 1);
     stock.attached += 1;
 }
 
-/// An entry that stands on no body comes to stand on a new one. `NoMemory`: the entries and bodies are as before.
+/// An entry that stands on no body comes to stand on a new one, and comes first in its session. `NoMemory`: the entries
+/// and bodies are as before.
 pub fn attach(
     stock: &mut Stock,
     slot: Slot,
@@ -63,13 +88,14 @@ pub fn attach(
         .add(BodyName { pid, view }, BodyRecord { place, value })
     {
         Ok(()) => {
-            let node = move_node(&mut stock.pool, was.node, row);
+            let node = move_ahead(&mut stock.pool, was.node, row);
             let entry = Entry {
                 pid,
                 count: was.entry.count,
                 view: Some(view),
             };
             stock.entries.set(slot, EntryRecord { entry, node });
+            count_one(&mut stock.sessions, slot.session);
             stock.attached += 1;
             Ok(())
         }

@@ -1,6 +1,6 @@
 // Entries of a session or of a body, one after the other.
 ghost use Rattle.std.specs.Prelude.{◌≡◌, ◌+◌, ◌*◌, ◌≤◌};
-ghost use Rattle.incarnations.specs.Meaning.{Leaves, loosened, freed, of_session, on_body, both, entries_of, entries_on, length_of};
+ghost use Rattle.incarnations.specs.Meaning.{Leaves, loosened, freed, of_session, on_body, both, entries_on, length_of, attached_of};
 ghost use Rattle.incarnations.specs.Stock.{IsSound, meaning_of, chosen_by};
 
 use crate::erasing::erase;
@@ -11,8 +11,9 @@ use pss_base::{SessionNo, Steps};
 use pss_machine::View;
 use std::sync::ledger::Ledger;
 
-/// The entries of a session on bodies of the chosen view leave them, or all where no view is chosen. Each entry of the
-/// session is taken from the front of its column and put last again.
+/// The entries of a session on bodies of the chosen view leave them, or all where no view is chosen. Those that stand on a
+/// body are first in the session's column, and no others are looked at. One that leaves its body comes last there: the
+/// node behind it is read before.
 pub fn sweep<L: Ledger>(
     stock: &mut Stock,
     session: SessionNo,
@@ -23,15 +24,15 @@ pub fn sweep<L: Ledger>(
     ensures sound { IsSound stock.new }
     ensures lasts { (meaning_of stock.new).lasts ≡ (meaning_of stock.old).lasts }
     ensures left { Leaves (loosened (both (of_session session) (chosen_by chosen))) (meaning_of stock.old) (meaning_of stock.new) }
-    ensures steps { steps.new ≤ steps.old + (2 * length_of (meaning_of stock.old) session + 1) }
+    ensures steps { steps.new ≤ steps.old + (2 * attached_of (meaning_of stock.old) session + 1) }
 {
     let Some(home) = stock.sessions.get(session) else {
         return;
     };
-    for _ in 0..home.entries {
-        let Some(node) = stock.pool.first_of_col(home.col, steps) else {
-            unreachable!()
-        };
+    let mut next = stock.pool.first_of_col(home.col, steps);
+    for _ in 0..home.attached {
+        let Some(node) = next else { unreachable!() };
+        next = stock.pool.next_in_col(node, steps);
         let slot = *stock.pool.item(node);
         let Some(was) = stock.entries.get(slot) else {
             unreachable!()

@@ -2,19 +2,21 @@
 use Rattle.std.proofs.Common.{ℕ, zero, suc, ◌≡◌, ◌≤◌, ◌<◌, ◌⊎◌, inl, inr, ⊎_elim, List, [], ◌∷◌, ◌++◌, length, Bool, true, false, cond, not, filter, Option, Some, None, nat_eq, refl, sym, ap, ◌∙◌, subst, arith}
 use Rattle.std.proofs.lemmas.Bool.{eq-eqb, cases_eq}
 use Rattle.link_pool.specs.Linked.{In, Distinct, Path, walk, Linked}
-use Rattle.link_pool.proofs.Paths.{in_front, in_back, in_either, apart, distinct_back, Split, split, not_equal, walked, last_in, split_path, frame, unlinked_path, inserted_path}
+use Rattle.link_pool.proofs.Paths.{in_front, in_back, in_either, apart, distinct_back, Split, split, not_equal, walked, last_in, split_path, frame, unlinked_path, IsGap, gap_prev, gap_next, first_in, inserted_path}
 
 -- the places but this one
 abbrev pub lacking : ℕ → List ℕ → List ℕ
 lacking x xs = filter (λ y. not (nat_eq y x)) xs
 
--- the list of this head has x behind all others
-abbrev pub added : ℕ → ℕ → (ℕ → List ℕ) → ℕ → List ℕ
-added r x lists q = cond (nat_eq q r) (lists q ++ x ∷ []) (lists q)
+-- the list of this head is this one
+abbrev pub put_at : ℕ → List ℕ → (ℕ → List ℕ) → ℕ → List ℕ
+put_at r xs lists q = cond (nat_eq q r) xs (lists q)
 
--- the list of this head has no place
-abbrev pub opened_at : ℕ → (ℕ → List ℕ) → ℕ → List ℕ
-opened_at r lists q = cond (nat_eq q r) [] (lists q)
+pub put_here : (r : ℕ) (xs : List ℕ) (lists : ℕ → List ℕ) (q : ℕ) → q ≡ r → put_at r xs lists q ≡ xs
+put_here r xs lists q e = ap (λ b. cond b xs (lists q)) (eq-eqb q r e)
+
+pub put_there : (r : ℕ) (xs : List ℕ) (lists : ℕ → List ℕ) (q : ℕ) → (q ≡ r → ⊥) → put_at r xs lists q ≡ lists q
+put_there r xs lists q ne = ap (λ b. cond b xs (lists q)) (not_equal q r ne)
 
 keep : (x y : ℕ) (ys : List ℕ) → (y ≡ x → ⊥) → lacking x (y ∷ ys) ≡ y ∷ lacking x ys
 keep x y ys ne = ap (λ b. cond (not b) (y ∷ lacking x ys) (lacking x ys)) (not_equal y x ne)
@@ -54,10 +56,16 @@ distinct_lacking x (z ∷ zs) d =
     (λ no. subst Distinct (sym (keep x z zs no)) (λ m. d.0 (in_lacking x z zs m).0, distinct_lacking x zs d.1))
     (cases_eq z x)
 
-pub distinct_push : (x : ℕ) (xs : List ℕ) → Distinct xs → (In x xs → ⊥) → Distinct (xs ++ x ∷ [])
-distinct_push x [] d new = (λ m. m, tt)
-distinct_push x (z ∷ zs) d new =
-    (λ m. ⊎_elim (λ a. d.0 a) (λ b. ⊎_elim (λ e. new (inl (sym e))) (λ n. n) b) (in_either z zs (x ∷ []) m), distinct_push x zs d.1 (λ m. new (inr m)))
+-- what stands in a list after x came in is x or stood there
+in_put : (y x : ℕ) (us vs : List ℕ) → In y (us ++ x ∷ vs) → (y ≡ x) ⊎ In y (us ++ vs)
+in_put y x us vs m = ⊎_elim (λ a. inr (in_front y us vs a)) (λ b. ⊎_elim (λ e. inl e) (λ n. inr (in_back y us vs n)) b) (in_either y us (x ∷ vs) m)
+
+still_put : (y x : ℕ) (us vs : List ℕ) → In y (us ++ vs) → In y (us ++ x ∷ vs)
+still_put y x us vs m = ⊎_elim (λ a. in_front y us (x ∷ vs) a) (λ b. in_back y us (x ∷ vs) (inr b)) (in_either y us vs m)
+
+distinct_put : (x : ℕ) (us vs : List ℕ) → Distinct (us ++ vs) → (In x (us ++ vs) → ⊥) → Distinct (us ++ x ∷ vs)
+distinct_put x [] vs d new = (new, d)
+distinct_put x (u ∷ us) vs d new = (λ m. ⊎_elim (λ e. new (inl (sym e))) (λ k. d.0 k) (in_put u x us vs m), distinct_put x us vs d.1 (λ m. new (inr m)))
 
 pub length-lacking : (x : ℕ) (xs : List ℕ) → Distinct xs → length xs ≤ suc (length (lacking x xs))
 length-lacking x [] d = omega arith
@@ -74,12 +82,6 @@ few_below zero (x ∷ xs) d below = absurd (omega (arith, below x (inl refl)))
 few_below (suc n) (x ∷ xs) d below =
     omega (arith, length-lacking n (x ∷ xs) d, few_below n (lacking n (x ∷ xs)) (distinct_lacking n (x ∷ xs) d) (λ y m. let k = in_lacking n y (x ∷ xs) m in let b = below y k.0 in let ne = k.1 in omega (arith, b, ne)))
 
-pub added_here : (r x : ℕ) (lists : ℕ → List ℕ) (q : ℕ) → q ≡ r → added r x lists q ≡ lists q ++ x ∷ []
-added_here r x lists q e = ap (λ b. cond b (lists q ++ x ∷ []) (lists q)) (eq-eqb q r e)
-
-pub added_there : (r x : ℕ) (lists : ℕ → List ℕ) (q : ℕ) → (q ≡ r → ⊥) → added r x lists q ≡ lists q
-added_there r x lists q ne = ap (λ b. cond b (lists q ++ x ∷ []) (lists q)) (not_equal q r ne)
-
 pub record IsUnlinked (x : ℕ) (home home' : ℕ → Option ℕ) (next next' prev prev' : ℕ → ℕ) : Type 0 where
   pub homes : (y : ℕ) → (y ≡ x → ⊥) → home' y ≡ home y
   pub gone : home' x ≡ None
@@ -88,21 +90,15 @@ pub record IsUnlinked (x : ℕ) (home home' : ℕ → Option ℕ) (next next' pr
   pub back : (y : ℕ) → (y ≡ x → ⊥) → (y ≡ next x → ⊥) → prev' y ≡ prev y
   pub under : prev' (next x) ≡ prev x
 
-pub record IsInserted (r x : ℕ) (home home' : ℕ → Option ℕ) (next next' prev prev' : ℕ → ℕ) : Type 0 where
+pub record IsInserted (r x a b : ℕ) (home home' : ℕ → Option ℕ) (next next' prev prev' : ℕ → ℕ) : Type 0 where
   pub homes : (y : ℕ) → (y ≡ x → ⊥) → home' y ≡ home y
   pub stands : home' x ≡ Some r
-  pub forth : (y : ℕ) → (y ≡ x → ⊥) → (y ≡ prev r → ⊥) → next' y ≡ next y
-  pub across : next' (prev r) ≡ x
-  pub here : next' x ≡ r
-  pub back : (y : ℕ) → (y ≡ x → ⊥) → (y ≡ r → ⊥) → prev' y ≡ prev y
-  pub under : prev' x ≡ prev r
-  pub end : prev' r ≡ x
-
-pub opened_here : (r : ℕ) (lists : ℕ → List ℕ) (q : ℕ) → q ≡ r → opened_at r lists q ≡ []
-opened_here r lists q e = ap (λ b. cond b [] (lists q)) (eq-eqb q r e)
-
-pub opened_there : (r : ℕ) (lists : ℕ → List ℕ) (q : ℕ) → (q ≡ r → ⊥) → opened_at r lists q ≡ lists q
-opened_there r lists q ne = ap (λ b. cond b [] (lists q)) (not_equal q r ne)
+  pub forth : (y : ℕ) → (y ≡ x → ⊥) → (y ≡ a → ⊥) → next' y ≡ next y
+  pub across : next' a ≡ x
+  pub here : next' x ≡ b
+  pub back : (y : ℕ) → (y ≡ x → ⊥) → (y ≡ b → ⊥) → prev' y ≡ prev y
+  pub under : prev' x ≡ a
+  pub end : prev' b ≡ x
 
 true_false : (b : Bool) → b ≡ true → b ≡ false → ⊥
 true_false b s t = cc
@@ -125,14 +121,10 @@ module _ (lists : ℕ → List ℕ) (is_head : ℕ → Bool) (home : ℕ → Opt
   pub next_in : (r x : ℕ) → is_head r ≡ true → In x (lists r) → In (next x) (r ∷ lists r)
   next_in r x h m = by (split x (lists r) m)
     where
-      first : (a : ℕ) (vs : List ℕ) → Path next prev a vs r → In (next a) (r ∷ vs)
-      first a [] p = inl p.0
-      first a (v ∷ vs) p = inr (inl p.0)
-
       by : Split x (lists r) → In (next x) (r ∷ lists r)
       by s =
           let p = split_path next prev r x r s.front s.back (subst (λ l. Path next prev r l r) s.is (linked.path r h)) in
-          ⊎_elim (λ e. inl e) (λ k. inr (subst (In (next x)) (sym s.is) (in_back (next x) s.front (x ∷ s.back) (inr k)))) (let f : (next x ≡ r) ⊎ In (next x) s.back = first x s.back p.1 in f)
+          ⊎_elim (λ e. inl e) (λ k. inr (subst (In (next x)) (sym s.is) (in_back (next x) s.front (x ∷ s.back) (inr k)))) (first_in next prev x r s.back p.1)
 
   pub prev_in : (r x : ℕ) → is_head r ≡ true → In x (lists r) → In (prev x) (r ∷ lists r)
   prev_in r x h m = by (split x (lists r) m)
@@ -210,26 +202,26 @@ module _ (lists : ℕ → List ℕ) (is_head : ℕ → Bool) (home : ℕ → Opt
         out q h m = ⊎_elim (λ e. other_head is_head' q free' h (sym e)) (λ k. none_some (home r) q (linked.no_home r led) (linked.members q r (was free' q h) k)) m
 
     -- r was in no ring, and is the head of a ring with no other place
-    pub opened : is_head r ≡ false → home r ≡ None → home' r ≡ None → is_head' r ≡ true → next' r ≡ r → prev' r ≡ r → Linked (opened_at r lists) is_head' home' next' prev'
+    pub opened : is_head r ≡ false → home r ≡ None → home' r ≡ None → is_head' r ≡ true → next' r ≡ r → prev' r ≡ r → Linked (put_at r [] lists) is_head' home' next' prev'
     opened free none none' led' forth' back' = record {
       path = λ q h. path_at q h (cases_eq q r);
       distinct = λ q h. distinct_at q h (cases_eq q r);
       members = λ q y h m. member_at q y h m (cases_eq q r);
-      homes = λ y q e. let k = kept_home y q none' e in let ne = other_head is_head q free k.0 in (heads q ne ∙ k.0, subst (In y) (sym (opened_there r lists q ne)) k.1);
+      homes = λ y q e. let k = kept_home y q none' e in let ne = other_head is_head q free k.0 in (heads q ne ∙ k.0, subst (In y) (sym (put_there r [] lists q ne)) k.1);
       no_home = λ q h. no_home_at q h (cases_eq q r);
     }
       where
-        path_at : (q : ℕ) → is_head' q ≡ true → (q ≡ r) ⊎ (q ≡ r → ⊥) → Path next' prev' q (opened_at r lists q) q
-        path_at q h (inl e) = subst (λ l. Path next' prev' q l q) (sym (opened_here r lists q e)) (ap next' e ∙ forth' ∙ sym e, ap prev' e ∙ back' ∙ sym e)
-        path_at q h (inr ne) = let g = sym (heads q ne) ∙ h in subst (λ l. Path next' prev' q l q) (sym (opened_there r lists q ne)) (kept_path q g (nowhere free none q g))
+        path_at : (q : ℕ) → is_head' q ≡ true → (q ≡ r) ⊎ (q ≡ r → ⊥) → Path next' prev' q (put_at r [] lists q) q
+        path_at q h (inl e) = subst (λ l. Path next' prev' q l q) (sym (put_here r [] lists q e)) (ap next' e ∙ forth' ∙ sym e, ap prev' e ∙ back' ∙ sym e)
+        path_at q h (inr ne) = let g = sym (heads q ne) ∙ h in subst (λ l. Path next' prev' q l q) (sym (put_there r [] lists q ne)) (kept_path q g (nowhere free none q g))
 
-        distinct_at : (q : ℕ) → is_head' q ≡ true → (q ≡ r) ⊎ (q ≡ r → ⊥) → Distinct (q ∷ opened_at r lists q)
-        distinct_at q h (inl e) = subst (λ l. Distinct (q ∷ l)) (sym (opened_here r lists q e)) (λ m. m, tt)
-        distinct_at q h (inr ne) = subst (λ l. Distinct (q ∷ l)) (sym (opened_there r lists q ne)) (linked.distinct q (sym (heads q ne) ∙ h))
+        distinct_at : (q : ℕ) → is_head' q ≡ true → (q ≡ r) ⊎ (q ≡ r → ⊥) → Distinct (q ∷ put_at r [] lists q)
+        distinct_at q h (inl e) = subst (λ l. Distinct (q ∷ l)) (sym (put_here r [] lists q e)) (λ m. m, tt)
+        distinct_at q h (inr ne) = subst (λ l. Distinct (q ∷ l)) (sym (put_there r [] lists q ne)) (linked.distinct q (sym (heads q ne) ∙ h))
 
-        member_at : (q y : ℕ) → is_head' q ≡ true → In y (opened_at r lists q) → (q ≡ r) ⊎ (q ≡ r → ⊥) → home' y ≡ Some q
-        member_at q y h m (inl e) = absurd (subst (In y) (opened_here r lists q e) m)
-        member_at q y h m (inr ne) = let g = sym (heads q ne) ∙ h in kept_member q y g (nowhere free none q g) (subst (In y) (opened_there r lists q ne) m)
+        member_at : (q y : ℕ) → is_head' q ≡ true → In y (put_at r [] lists q) → (q ≡ r) ⊎ (q ≡ r → ⊥) → home' y ≡ Some q
+        member_at q y h m (inl e) = absurd (subst (In y) (put_here r [] lists q e) m)
+        member_at q y h m (inr ne) = let g = sym (heads q ne) ∙ h in kept_member q y g (nowhere free none q g) (subst (In y) (put_there r [] lists q ne) m)
 
         no_home_at : (q : ℕ) → is_head' q ≡ true → (q ≡ r) ⊎ (q ≡ r → ⊥) → home' q ≡ None
         no_home_at q h (inl e) = ap home' e ∙ none'
@@ -268,56 +260,68 @@ module _ (lists : ℕ → List ℕ) (is_head : ℕ → Bool) (home : ℕ → Opt
             (frame next prev next' prev' q q (lists q) (linked.path q h) (λ y m. u.forth y (out y m) (away q h ne (prev x) (prev_in r x own.0 own.1) y m))
             (λ y m. u.back y (out y (inr m)) (away q h ne (next x) (next_in r x own.0 own.1) y (inr m))) (u.back q (out q (inl refl)) (away q h ne (next x) (next_in r x own.0 own.1) q (inl refl))))
 
-    pub inserted : (r x : ℕ) → is_head r ≡ true → is_head x ≡ false → home x ≡ None → IsInserted r x home home' next next' prev prev' → Linked (added r x lists) is_head' home' next' prev'
-    inserted r x hr free none u = record {
-      path = λ q hq. path_at q (sym (heads q) ∙ hq) (cases_eq q r);
-      distinct = λ q hq. distinct_at q (sym (heads q) ∙ hq) (cases_eq q r);
-      members = λ q y hq m. member_at q y (sym (heads q) ∙ hq) m (cases_eq q r);
-      homes = λ y q e. home_at y q e (cases_eq y x);
-      no_home = λ q hq. let h = sym (heads q) ∙ hq in u.homes q (λ e. head_not h (ap is_head e ∙ free)) ∙ linked.no_home q h;
-    }
-      where
-        head_not : {b : Bool} → b ≡ true → b ≡ false → ⊥
-        head_not s t = cc
+    module _ (r x a b : ℕ) (us vs : List ℕ) (hr : is_head r ≡ true) (is : lists r ≡ us ++ vs) (gap : IsGap next prev r us vs a b) (free : is_head x ≡ false) (none : home x ≡ None) (u : IsInserted r x a b home home' next next' prev prev') where
+      head_not : {b : Bool} → b ≡ true → b ≡ false → ⊥
+      head_not s t = cc
 
-        fresh : (q : ℕ) → is_head q ≡ true → In x (q ∷ lists q) → ⊥
-        fresh q h m = ⊎_elim (λ e. head_not h (ap is_head (sym e) ∙ free)) (λ k. none_some (home x) q none (linked.members q x h k)) m
+      fresh : (q : ℕ) → is_head q ≡ true → In x (q ∷ lists q) → ⊥
+      fresh q h m = ⊎_elim (λ e. head_not h (ap is_head (sym e) ∙ free)) (λ k. none_some (home x) q none (linked.members q x h k)) m
 
-        last : In (prev r) (r ∷ lists r)
-        last = last_in next prev r r (lists r) (linked.path r hr)
+      -- the list of r after x came in
+      abbrev grown : ℕ → List ℕ
+      grown = put_at r (us ++ x ∷ vs) lists
 
-        path_at : (q : ℕ) → is_head q ≡ true → (q ≡ r) ⊎ (q ≡ r → ⊥) → Path next' prev' q (added r x lists q) q
-        path_at q h (inl e) =
-            subst (λ l. Path next' prev' q l q) (sym (added_here r x lists q e))
-            (subst (λ w. Path next' prev' w (lists w ++ x ∷ []) w) (sym e) (inserted_path next prev next' prev' r x (lists r) (linked.path r hr) (linked.distinct r hr) (fresh r hr) u.forth u.across u.here u.back u.under u.end))
-        path_at q h (inr ne) =
-            let out = λ (y : ℕ) (m : In y (q ∷ lists q)). λ (e : y ≡ x). fresh q h (subst (λ z. In z (q ∷ lists q)) e m) in
-            subst (λ l. Path next' prev' q l q) (sym (added_there r x lists q ne))
-            (frame next prev next' prev' q q (lists q) (linked.path q h)
-            (λ y m. u.forth y (out y m) (λ e. rings_apart q r y h hr ne m (subst (λ w. In w (r ∷ lists r)) (sym e) last)))
-            (λ y m. u.back y (out y (inr m)) (λ e. rings_apart q r y h hr ne (inr m) (inl e))) (u.back q (out q (inl refl)) ne))
+      was_list : (q : ℕ) → q ≡ r → lists q ≡ us ++ vs
+      was_list q e = ap lists e ∙ is
 
-        distinct_at : (q : ℕ) → is_head q ≡ true → (q ≡ r) ⊎ (q ≡ r → ⊥) → Distinct (q ∷ added r x lists q)
-        distinct_at q h (inl e) = subst (λ l. Distinct (q ∷ l)) (sym (added_here r x lists q e)) (distinct_push x (q ∷ lists q) (linked.distinct q h) (fresh q h))
-        distinct_at q h (inr ne) = subst (λ l. Distinct (q ∷ l)) (sym (added_there r x lists q ne)) (linked.distinct q h)
+      was_in : (y : ℕ) → In y (r ∷ us ++ vs) → In y (r ∷ lists r)
+      was_in y m = subst (λ l. In y (r ∷ l)) (sym is) m
 
-        old_member : (q y : ℕ) → is_head q ≡ true → In y (lists q) → home' y ≡ Some q
-        old_member q y h m = u.homes y (λ e. fresh q h (inr (subst (λ z. In z (lists q)) e m))) ∙ linked.members q y h m
+      path_at : (q : ℕ) → is_head q ≡ true → (q ≡ r) ⊎ (q ≡ r → ⊥) → Path next' prev' q (grown q) q
+      path_at q h (inl e) =
+          subst (λ l. Path next' prev' q l q) (sym (put_here r (us ++ x ∷ vs) lists q e))
+          (subst (λ w. Path next' prev' w (us ++ x ∷ vs) w) (sym e)
+          (inserted_path next prev next' prev' r x a b us vs gap (subst (λ l. Distinct (r ∷ l)) is (linked.distinct r hr)) (λ m. fresh r hr (was_in x m)) u.forth u.across u.here u.back u.under u.end))
+      path_at q h (inr ne) =
+          let out = λ (y : ℕ) (m : In y (q ∷ lists q)). λ (e : y ≡ x). fresh q h (subst (λ z. In z (q ∷ lists q)) e m) in
+          let near = was_in a (in_front a (r ∷ us) vs (gap_prev next prev r us vs a b gap)) in
+          let far = was_in b (⊎_elim (λ e. inl e) (λ k. in_back b (r ∷ us) vs k) (gap_next next prev r us vs a b gap)) in
+          let away = λ (y z : ℕ) (k : In z (r ∷ lists r)) (m : In y (q ∷ lists q)). λ (e : y ≡ z). rings_apart q r y h hr ne m (subst (λ w. In w (r ∷ lists r)) (sym e) k) in
+          subst (λ l. Path next' prev' q l q) (sym (put_there r (us ++ x ∷ vs) lists q ne))
+          (frame next prev next' prev' q q (lists q) (linked.path q h) (λ y m. u.forth y (out y m) (away y a near m)) (λ y m. u.back y (out y (inr m)) (away y b far (inr m))) (u.back q (out q (inl refl)) (away q b far (inl refl))))
 
-        member_at : (q y : ℕ) → is_head q ≡ true → In y (added r x lists q) → (q ≡ r) ⊎ (q ≡ r → ⊥) → home' y ≡ Some q
-        member_at q y h m (inl e) =
-            ⊎_elim (λ a. old_member q y h a) (λ b. ⊎_elim (λ f. ap home' f ∙ u.stands ∙ ap Some (sym e)) (λ n. absurd n) b) (in_either y (lists q) (x ∷ []) (subst (In y) (added_here r x lists q e) m))
-        member_at q y h m (inr ne) = old_member q y h (subst (In y) (added_there r x lists q ne) m)
+      distinct_at : (q : ℕ) → is_head q ≡ true → (q ≡ r) ⊎ (q ≡ r → ⊥) → Distinct (q ∷ grown q)
+      distinct_at q h (inl e) =
+          let l = was_list q e in
+          subst (λ l. Distinct (q ∷ l)) (sym (put_here r (us ++ x ∷ vs) lists q e)) (distinct_put x (q ∷ us) vs (subst (λ l. Distinct (q ∷ l)) l (linked.distinct q h)) (λ m. fresh q h (subst (λ l. In x (q ∷ l)) (sym l) m)))
+      distinct_at q h (inr ne) = subst (λ l. Distinct (q ∷ l)) (sym (put_there r (us ++ x ∷ vs) lists q ne)) (linked.distinct q h)
 
-        home_at : (y q : ℕ) → home' y ≡ Some q → (y ≡ x) ⊎ (y ≡ x → ⊥) → (is_head' q ≡ true) × In y (added r x lists q)
-        home_at y q e (inl same) =
-            let is : q ≡ r = two_homes (home' x) q r (ap home' (sym same) ∙ e) u.stands in
-            (heads q ∙ ap is_head is ∙ hr, subst (In y) (sym (added_here r x lists q is)) (in_back y (lists q) (x ∷ []) (inl same)))
-        home_at y q e (inr ne) = let k = linked.homes y q (sym (u.homes y ne) ∙ e) in (heads q ∙ k.0, grown y q k.1 (cases_eq q r))
-          where
-            grown : (y q : ℕ) → In y (lists q) → (q ≡ r) ⊎ (q ≡ r → ⊥) → In y (added r x lists q)
-            grown y q m (inl i) = subst (In y) (sym (added_here r x lists q i)) (in_front y (lists q) (x ∷ []) m)
-            grown y q m (inr i) = subst (In y) (sym (added_there r x lists q i)) m
+      old_member : (q y : ℕ) → is_head q ≡ true → In y (lists q) → home' y ≡ Some q
+      old_member q y h m = u.homes y (λ e. fresh q h (inr (subst (λ z. In z (lists q)) e m))) ∙ linked.members q y h m
+
+      member_at : (q y : ℕ) → is_head q ≡ true → In y (grown q) → (q ≡ r) ⊎ (q ≡ r → ⊥) → home' y ≡ Some q
+      member_at q y h m (inl e) =
+          ⊎_elim (λ f. ap home' f ∙ u.stands ∙ ap Some (sym e)) (λ k. old_member q y h (subst (In y) (sym (was_list q e)) k)) (in_put y x us vs (subst (In y) (put_here r (us ++ x ∷ vs) lists q e) m))
+      member_at q y h m (inr ne) = old_member q y h (subst (In y) (put_there r (us ++ x ∷ vs) lists q ne) m)
+
+      stays : (y q : ℕ) → In y (lists q) → (q ≡ r) ⊎ (q ≡ r → ⊥) → In y (grown q)
+      stays y q m (inl e) = subst (In y) (sym (put_here r (us ++ x ∷ vs) lists q e)) (still_put y x us vs (subst (In y) (was_list q e) m))
+      stays y q m (inr ne) = subst (In y) (sym (put_there r (us ++ x ∷ vs) lists q ne)) m
+
+      home_at : (y q : ℕ) → home' y ≡ Some q → (y ≡ x) ⊎ (y ≡ x → ⊥) → (is_head' q ≡ true) × In y (grown q)
+      home_at y q e (inl same) =
+          let i : q ≡ r = two_homes (home' x) q r (ap home' (sym same) ∙ e) u.stands in
+          (heads q ∙ ap is_head i ∙ hr, subst (In y) (sym (put_here r (us ++ x ∷ vs) lists q i)) (in_back y us (x ∷ vs) (inl same)))
+      home_at y q e (inr ne) = let k = linked.homes y q (sym (u.homes y ne) ∙ e) in (heads q ∙ k.0, stays y q k.1 (cases_eq q r))
+
+      pub inserted : Linked (put_at r (us ++ x ∷ vs) lists) is_head' home' next' prev'
+      inserted = record {
+        path = λ q hq. path_at q (sym (heads q) ∙ hq) (cases_eq q r);
+        distinct = λ q hq. distinct_at q (sym (heads q) ∙ hq) (cases_eq q r);
+        members = λ q y hq m. member_at q y (sym (heads q) ∙ hq) m (cases_eq q r);
+        homes = λ y q e. home_at y q e (cases_eq y x);
+        no_home = λ q hq. let h = sym (heads q) ∙ hq in u.homes q (λ e. head_not h (ap is_head e ∙ free)) ∙ linked.no_home q h;
+      }
 
   -- the walk gives the lists
   pub walks : (n : ℕ) → ((r : ℕ) → is_head r ≡ true → length (lists r) ≤ n) → (r : ℕ) → is_head r ≡ true → walk n next r (next r) ≡ lists r

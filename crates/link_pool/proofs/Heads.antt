@@ -11,7 +11,7 @@ use Rattle.link_pool.specs.declared.cells.Kind.{Kind}
 use Rattle.link_pool.specs.declared.cells.Kind.TheVariants.{RowHead, ColHead, Member}
 use Rattle.link_pool.specs.declared.cells.Side.{Side}
 use Rattle.link_pool.specs.declared.cells.Side.TheVariants.{Rows, Cols}
-use Rattle.link_pool.proofs.Changes.{elsewhere, closed, opened, opened_at, opened_here, opened_there}
+use Rattle.link_pool.proofs.Changes.{elsewhere, closed, opened, put_at, put_here, put_there}
 use Rattle.link_pool.proofs.Lists.{nodes}
 use Rattle.link_pool.proofs.Sound.{ring_forth, nothing, no_value, no_head, no_home, get-rings, sound_at}
 use Rattle.link_pool.proofs.Settled.{settled, rings_changed, rings_same, nodes_same}
@@ -70,7 +70,7 @@ module _ {T : Type 0} where
       kinds : (y : ℕ) → y ≢ r → kind_at new y ≡ kind_at old y
       kinds y ne = ap kind_of (came.others y ne)
 
-      own : Linked (opened_at r (list_at side old)) (is_head_at side new) (home_at side new) (next_at side new) (prev_at side new)
+      own : Linked (put_at r [] (list_at side old)) (is_head_at side new) (home_at side new) (next_at side new) (prev_at side new)
       own =
           opened _ _ _ _ _ (sound_at side old sound) r (is_head_at side new) (home_at side new) (next_at side new) (prev_at side new) (λ q ne. ap (is_head_of side) (kinds q ne)) (λ y ne. ap (home_of side) (kinds y ne))
           (λ y ne. ap (next_of side) (came.others y ne)) (λ y ne. ap (prev_of side) (came.others y ne))
@@ -90,8 +90,8 @@ module _ {T : Type 0} where
       rings_opened =
           let e = ring_forth side r in
           rings_changed side new _ own old (ring_named side r) (Some [])
-          (ap (λ q. ring_if (is_head_at side new q) (opened_at r (list_at side old) q)) e ∙ ap (λ b. ring_if b (opened_at r (list_at side old) r)) (ap (is_head_of side) stands ∙ head_there T side) ∙ ap (λ l. Some (nodes l)) (opened_here r (list_at side old) r refl))
-          (λ q ne. ap (is_head_of side) (kinds q (λ i. ne (i ∙ sym e)))) (λ q ne h. opened_there r (list_at side old) q (λ i. ne (i ∙ sym e)))
+          (ap (λ q. ring_if (is_head_at side new q) (put_at r [] (list_at side old) q)) e ∙ ap (λ b. ring_if b (put_at r [] (list_at side old) r)) (ap (is_head_of side) stands ∙ head_there T side) ∙ ap (λ l. Some (nodes l)) (put_here r [] (list_at side old) r refl))
+          (λ q ne. ap (is_head_of side) (kinds q (λ i. ne (i ∙ sym e)))) (λ q ne h. put_there r [] (list_at side old) q (λ i. ne (i ∙ sym e)))
 
       pub others_opened : rings_of (flip side) new ≡ rings_of (flip side) old
       others_opened = rings_same (flip side) new _ others old heads (λ q h. refl)

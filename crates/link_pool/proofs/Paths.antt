@@ -82,6 +82,42 @@ pub join_path : (next prev : ℕ → ℕ) (a x b : ℕ) (us vs : List ℕ) → P
 join_path next prev a x b [] vs p q = (p.0, p.1, q)
 join_path next prev a x b (u ∷ us) vs p q = (p.0, p.1, join_path next prev u x b us vs p.2 q)
 
+-- the link back from the end of a path is linked forth to it
+pub last_next : (next prev : ℕ → ℕ) (a b : ℕ) (xs : List ℕ) → Path next prev a xs b → next (prev b) ≡ b
+last_next next prev a b [] p = ap next p.1 ∙ p.0
+last_next next prev a b (x ∷ xs) p = last_next next prev x b xs p.2
+
+-- the link forth from the start of a path is linked back to it
+pub first_prev : (next prev : ℕ → ℕ) (a b : ℕ) (xs : List ℕ) → Path next prev a xs b → prev (next a) ≡ a
+first_prev next prev a b [] p = ap prev p.0 ∙ p.1
+first_prev next prev a b (x ∷ xs) p = ap prev p.0 ∙ p.1
+
+pub first_in : (next prev : ℕ → ℕ) (a b : ℕ) (xs : List ℕ) → Path next prev a xs b → (next a ≡ b) ⊎ In (next a) xs
+first_in next prev a b [] p = inl p.0
+first_in next prev a b (x ∷ xs) p = inr (inl p.0)
+
+-- in the ring of r, between these places, a and b are neighbours
+pub record IsGap (next prev : ℕ → ℕ) (r : ℕ) (us vs : List ℕ) (a b : ℕ) : Type 0 where
+  pub before : Path next prev r us b
+  pub behind : Path next prev a vs r
+  pub forth : next a ≡ b
+  pub back : prev b ≡ a
+
+pub end_gap : (next prev : ℕ → ℕ) (r : ℕ) (xs : List ℕ) → Path next prev r xs r → IsGap next prev r xs [] (prev r) r
+end_gap next prev r xs p = let e = last_next next prev r r xs p in record { before = p; behind = (e, refl); forth = e; back = refl }
+
+pub front_gap : (next prev : ℕ → ℕ) (r : ℕ) (xs : List ℕ) → Path next prev r xs r → IsGap next prev r [] xs r (next r)
+front_gap next prev r xs p = let e = first_prev next prev r r xs p in record { before = (refl, e); behind = p; forth = refl; back = e }
+
+module _ (next prev : ℕ → ℕ) (r : ℕ) (us vs : List ℕ) (a b : ℕ) (gap : IsGap next prev r us vs a b) where
+  -- the neighbour before is the head, or stands in front
+  pub gap_prev : In a (r ∷ us)
+  gap_prev = subst (λ z. In z (r ∷ us)) gap.back (last_in next prev r b us gap.before)
+
+  -- the neighbour behind is the head, or stands at the back
+  pub gap_next : (b ≡ r) ⊎ In b vs
+  gap_next = subst (λ z. (z ≡ r) ⊎ In z vs) gap.forth (first_in next prev a r vs gap.behind)
+
 module _ (next prev next' prev' : ℕ → ℕ) where
   -- links elsewhere change nothing
   pub frame : (a b : ℕ) (xs : List ℕ) → Path next prev a xs b → ((y : ℕ) → In y (a ∷ xs) → next' y ≡ next y) → ((y : ℕ) → In y xs → prev' y ≡ prev y) → prev' b ≡ prev b → Path next' prev' a xs b
@@ -121,12 +157,27 @@ module _ (next prev next' prev' : ℕ → ℕ) where
       (λ y m. back y (λ e. behind.0 (subst (λ z. In z (c ∷ cs)) e (inr m))) (λ e. behind.1.0 (subst (λ z. In z cs) (e ∙ s.1.0) m)))
       (back r (out r (inl refl)) (λ e. apart r (r ∷ us) (x ∷ c ∷ cs) d (inl refl) (inr (inl (e ∙ s.1.0))))))
 
-  -- x comes last
-  pub inserted_path : (r x : ℕ) (xs : List ℕ) → Path next prev r xs r → Distinct (r ∷ xs) → (In x (r ∷ xs) → ⊥)
-      → ((y : ℕ) → (y ≡ x → ⊥) → (y ≡ prev r → ⊥) → next' y ≡ next y) → next' (prev r) ≡ x → next' x ≡ r
-      → ((y : ℕ) → (y ≡ x → ⊥) → (y ≡ r → ⊥) → prev' y ≡ prev y) → prev' x ≡ prev r → prev' r ≡ x → Path next' prev' r (xs ++ x ∷ []) r
-  inserted_path r x xs p d new forth across here back under end =
-      let out = λ (y : ℕ) (m : In y (r ∷ xs)). λ (e : y ≡ x). new (subst (λ z. In z (r ∷ xs)) e m) in
-      join_path next' prev' r x r xs []
-      (retarget r r x xs p d (λ y m ne. forth y (out y m) ne) across (λ y m. back y (out y (inr m)) (λ e. d.0 (subst (λ z. In z xs) e m))) under)
-      (here, end)
+  -- a path from a leads from x
+  resource : (a x r : ℕ) (vs : List ℕ) → Path next prev a vs r → next' x ≡ next a → prev' (next a) ≡ x → ((y : ℕ) → In y vs → next' y ≡ next y)
+      → ((y : ℕ) → (y ≡ r) ⊎ In y vs → (y ≡ next a → ⊥) → prev' y ≡ prev y) → Distinct (r ∷ vs) → Path next' prev' x vs r
+  resource a x r [] p here end forth back d = (here ∙ p.0, ap prev' (sym p.0) ∙ end)
+  resource a x r (v ∷ vs) p here end forth back d = (
+    here ∙ p.0,
+    ap prev' (sym p.0) ∙ end,
+    frame v r vs p.2 forth (λ y m. back y (inr (inr m)) (λ e. d.1.0 (subst (λ z. In z vs) (e ∙ p.0) m))) (back r (inl refl) (λ e. d.0 (inl (e ∙ p.0)))),
+  )
+
+  -- x comes in between two neighbours
+  pub inserted_path : (r x a b : ℕ) (us vs : List ℕ) → IsGap next prev r us vs a b → Distinct (r ∷ us ++ vs) → (In x (r ∷ us ++ vs) → ⊥)
+      → ((y : ℕ) → (y ≡ x → ⊥) → (y ≡ a → ⊥) → next' y ≡ next y) → next' a ≡ x → next' x ≡ b
+      → ((y : ℕ) → (y ≡ x → ⊥) → (y ≡ b → ⊥) → prev' y ≡ prev y) → prev' x ≡ a → prev' b ≡ x → Path next' prev' r (us ++ x ∷ vs) r
+  inserted_path r x a b us vs gap d new forth across here back under end =
+      let front = λ (y : ℕ) (m : In y (r ∷ us)). λ (e : y ≡ x). new (subst (λ z. In z (r ∷ us ++ vs)) e (in_front y (r ∷ us) vs m)) in
+      let rear = λ (y : ℕ) (m : (y ≡ r) ⊎ In y vs). λ (e : y ≡ x). new (subst (λ z. In z (r ∷ us ++ vs)) e (⊎_elim (λ h. inl h) (λ k. in_back y (r ∷ us) vs k) m)) in
+      join_path next' prev' r x r us vs
+      (retarget r b x us gap.before (distinct_front (r ∷ us) vs d) (λ y m ne. forth y (front y m) (λ e. ne (e ∙ sym gap.back))) (ap next' gap.back ∙ across)
+      (λ y m. back y (front y (inr m)) (λ e. ⊎_elim (λ h. d.0 (in_front r us vs (subst (λ z. In z us) (e ∙ h) m))) (λ k. apart y (r ∷ us) vs d (inr m) (subst (λ z. In z vs) (sym e) k)) (gap_next next prev r us vs a b gap)))
+      (under ∙ sym gap.back))
+      (resource a x r vs gap.behind (here ∙ sym gap.forth) (ap prev' gap.forth ∙ end)
+      (λ y m. forth y (rear y (inr m)) (λ e. apart a (r ∷ us) vs d (gap_prev next prev r us vs a b gap) (subst (λ z. In z vs) e m)))
+      (λ y m ne. back y (rear y m) (λ e. ne (e ∙ sym gap.forth))) (λ m. d.0 (in_back r us vs m), distinct_back (r ∷ us) vs d))

@@ -7,7 +7,7 @@ use Rattle.std.specs.FinMap as map
 use Rattle.std.proofs.lemmas.Bool.{cases_eq}
 use Rattle.link_pool.specs.Names.{row_named, col_named, node_named}
 use Rattle.link_pool.specs.Rings.{without, list_in, first_in, AreHomes}
-use Rattle.link_pool.specs.Meaning.{Meaning, row_in, col_in, first_seat, inserted, unlinked, AreRings}
+use Rattle.link_pool.specs.Meaning.{Meaning, row_in, col_in, first_seat, inserted, put_ahead, unlinked, AreRings}
 use Rattle.link_pool.specs.declared.names.Row.{Row}
 use Rattle.link_pool.specs.declared.names.Col.{Col}
 use Rattle.link_pool.specs.declared.names.Node.{Node}
@@ -112,6 +112,36 @@ module _ {T : Type 0} (p : Meaning T) (node : Node) (seat : Seat T) where
 
   pub seat-inserted_other : (q : Node) → q ≢ node → map.get (inserted p node seat).nodes q ≡ map.get p.nodes q
   seat-inserted_other q ne = get-there (λ n. n.number) node_named (λ k. refl) (λ n. refl) (Some seat) node q p.nodes (λ e. ne (ap node_named e))
+
+  -- after a node came in, last in its row and first in its column
+
+  pub row_list-ahead : list_in (put_ahead p node seat).rows seat.row ≡ list_in p.rows seat.row ++ node ∷ []
+  row_list-ahead = row_list-inserted
+
+  pub col_list-ahead : list_in (put_ahead p node seat).cols seat.col ≡ node ∷ list_in p.cols seat.col
+  col_list-ahead = list-here (λ r. r.number) col_named (λ k. refl) (λ n. refl) p.cols seat.col (node ∷ list_in p.cols seat.col)
+
+  pub row_list-ahead_other : (q : Row) → q ≢ seat.row → list_in (put_ahead p node seat).rows q ≡ list_in p.rows q
+  row_list-ahead_other = row_list-inserted_other
+
+  pub col_list-ahead_other : (q : Col) → q ≢ seat.col → list_in (put_ahead p node seat).cols q ≡ list_in p.cols q
+  col_list-ahead_other = list-there (λ r. r.number) col_named (λ k. refl) (λ n. refl) p.cols seat.col (node ∷ list_in p.cols seat.col)
+
+  pub row_stays-ahead : (q : Row) → IsSome (map.get p.rows q) → IsSome (map.get (put_ahead p node seat).rows q)
+  row_stays-ahead = row_stays-inserted
+
+  pub col_stays-ahead : (q : Col) → IsSome (map.get p.cols q) → IsSome (map.get (put_ahead p node seat).cols q)
+  col_stays-ahead q = stays (λ r. r.number) col_named (λ k. refl) (λ n. refl) p.cols seat.col q (node ∷ list_in p.cols seat.col)
+
+  pub seat-ahead : map.get (put_ahead p node seat).nodes node ≡ Some seat
+  seat-ahead = seat-inserted
+
+  pub seat-ahead_other : (q : Node) → q ≢ node → map.get (put_ahead p node seat).nodes q ≡ map.get p.nodes q
+  seat-ahead_other = seat-inserted_other
+
+  -- it is the first of its column
+  pub first-ahead : first_in (put_ahead p node seat).cols seat.col ≡ Some node
+  first-ahead = ap (λ (l : List Node). slice_get l 0) col_list-ahead
 
   -- after a node went out
 

@@ -8,7 +8,7 @@ use Rattle.slab.specs.Slab.{Slab, get}
 use Rattle.link_pool.specs.Names.{node_named}
 use Rattle.link_pool.specs.Linked.{In}
 use Rattle.link_pool.specs.Rings.{list_in}
-use Rattle.link_pool.specs.Cells.{Ring, number, ring_named, ring_of, head_of, kind_of, is_head_of, seat_of, home_of, next_at, prev_at, kind_at, home_at, seat_at, is_head_at, list_at, ring_if, ring_at, rings_of, nodes_of, IsLinked, IsSound}
+use Rattle.link_pool.specs.Cells.{Ring, number, ring_named, ring_of, head_of, kind_of, is_head_of, seat_of, home_of, next_at, prev_at, kind_at, home_at, seat_at, is_head_at, list_at, ring_if, ring_at, rings_of, nodes_of, end_of, front_of, LeadsToCells, IsLinked, IsSound}
 use Rattle.link_pool.specs.declared.cells.Cell.{Cell}
 use Rattle.link_pool.specs.declared.cells.Kind.{Kind}
 use Rattle.link_pool.specs.declared.cells.Kind.TheVariants.{RowHead, ColHead, Member}
@@ -16,7 +16,7 @@ use Rattle.link_pool.specs.declared.cells.Side.{Side}
 use Rattle.link_pool.specs.declared.cells.Side.TheVariants.{Rows, Cols}
 use Rattle.link_pool.specs.declared.names.Node.{Node}
 use Rattle.link_pool.specs.declared.names.Seat.{Seat}
-use Rattle.link_pool.proofs.Paths.{last_in}
+use Rattle.link_pool.proofs.Paths.{last_in, first_in}
 use Rattle.link_pool.proofs.Changes.{next_in, prev_in, next_other, prev_other}
 use Rattle.link_pool.proofs.Maps.{get-table}
 use Rattle.link_pool.proofs.Lists.{nodes}
@@ -133,6 +133,15 @@ module _ {T : Type 0} where
 
     pub last_live : (r : ℕ) → is_head_at side s r ≡ true → IsSome (kind_at s (prev_at side s r))
     last_live r h = live r (prev_at side s r) h (last_in _ _ r r (list_at side s r) (linked.path r h))
+
+    pub first_live : (r : ℕ) → is_head_at side s r ≡ true → IsSome (kind_at s (next_at side s r))
+    first_live r h = live r (next_at side s r) h (first_in _ _ r r (list_at side s r) (linked.path r h))
+
+    pub end_leads : (r : ℕ) → is_head_at side s r ≡ true → LeadsToCells s (end_of side s r)
+    end_leads r h = record { next = head_is_live r h; prev = last_live r h }
+
+    pub front_leads : (r : ℕ) → is_head_at side s r ≡ true → LeadsToCells s (front_of side s r)
+    front_leads r h = record { next = first_live r h; prev = head_is_live r h }
 
     -- the ring of a node
     pub ring_there : (x : ℕ) (seat : Seat T) → seat_at s x ≡ Some seat → (is_head_at side s (head_of side seat) ≡ true) × In x (list_at side s (head_of side seat))

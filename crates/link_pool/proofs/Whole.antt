@@ -1,20 +1,21 @@
 -- What a pool has after each change of its cells.
-use Rattle.std.proofs.Common.{ℕ, ◌≡◌, ◌+◌, ◌-◌, ◌≤◌, ◌<◌, List, [], true, Some, None, refl, sym, ap, ◌∙◌, subst, arith}
+use Rattle.std.proofs.Common.{ℕ, ◌≡◌, ◌+◌, ◌-◌, ◌≤◌, ◌<◌, List, [], ◌∷◌, ◌++◌, Some, None, IsSome, refl, sym, ap, ◌∙◌, subst, arith}
 use Rattle.std.specs.Prelude.{IsSomeAnd}
 use Rattle.std.specs.FinMap as map
 use Rattle.slab.specs.Slab.{Slab, get, slab_len, Updates}
 use Rattle.link_pool.specs.Names.{row_cmp, col_cmp, node_cmp, row_named, col_named}
-use Rattle.link_pool.specs.Meaning.{Meaning, inserted, unlinked}
-use Rattle.link_pool.specs.Cells.{kind_at, is_head_at, head_cell, seat_at, rings_of, meaning_of, IsSound, IsWhole, IsTaken, IsAdded}
+use Rattle.link_pool.specs.Rings.{list_in}
+use Rattle.link_pool.specs.Meaning.{Meaning, inserted, put_ahead, unlinked}
+use Rattle.link_pool.specs.Cells.{kind_at, head_cell, seat_at, rings_of, meaning_of, end_of, front_of, IsSound, IsWhole, IsTaken, IsAdded}
 use Rattle.link_pool.specs.declared.cells.Cell.{Cell}
 use Rattle.link_pool.specs.declared.cells.Side.TheVariants.{Rows, Cols}
 use Rattle.link_pool.specs.declared.names.Row.{Row}
 use Rattle.link_pool.specs.declared.names.Col.{Col}
 use Rattle.link_pool.specs.declared.names.Node.{Node}
 use Rattle.link_pool.specs.declared.names.Seat.{Seat}
-use Rattle.link_pool.proofs.Told.{seat_told}
+use Rattle.link_pool.proofs.Told.{seat_told, row_found, col_found}
 use Rattle.link_pool.proofs.Taken.{taken_linked, rings_taken, nodes_taken}
-use Rattle.link_pool.proofs.Added.{added_linked, rings_added, nodes_added}
+use Rattle.link_pool.proofs.Added.{HasCome, came_last, came_first}
 use Rattle.link_pool.proofs.Heads.{opened_sound, rings_opened, others_opened, nodes_opened, closed_sound, rings_closed, others_closed, nodes_closed}
 
 module _ {T : Type 0} where
@@ -38,18 +39,6 @@ module _ {T : Type 0} where
       unlinked_told m is =
           subst (λ o. IsSomeAnd o (λ found. meaning_of t promised ≡ unlinked m x found)) (sym (seat_told s promised m is x seat at))
           (unlinked_meaning ∙ ap (λ p. unlinked p x seat) is)
-
-    module _ (x : Node) (seat : Seat T) (row : is_head_at Rows s seat.row.number ≡ true) (col : is_head_at Cols s seat.col.number ≡ true) (vacant : kind_at s x.number ≡ None) (rows : IsAdded Rows s t x.number seat) (cols : IsAdded Cols s t x.number seat) (len : slab_len t ≡ slab_len s + 1)
-        (room : 0 < promised - slab_len s) where
-      pub inserted_whole : IsWhole t promised
-      inserted_whole = record {
-        sound = record { rows = added_linked Rows s t whole.sound.rows x seat row vacant rows; cols = added_linked Cols s t whole.sound.cols x seat col vacant cols };
-        within = omega (arith, len, room);
-        backed = omega (arith, capacity, whole.backed);
-      }
-
-      pub inserted_meaning : meaning_of t promised ≡ inserted (meaning_of s promised) x seat
-      inserted_meaning = same_meaning (rings_added Rows s t whole.sound.rows x seat row vacant rows) (rings_added Cols s t whole.sound.cols x seat col vacant cols) (nodes_added Rows s t whole.sound.rows x seat row vacant rows) (omega (arith, len))
 
     module _ (r : ℕ) (vacant : get s r ≡ None) (len : slab_len t ≡ slab_len s + 1) (room : 0 < promised - slab_len s) where
       pub row_added_whole : Updates s t r (Some (head_cell Rows r)) → IsWhole t promised
@@ -96,6 +85,27 @@ module _ {T : Type 0} where
 
       pub col_removed_told : (k : Col) → map.get (rings_of Cols s) k ≡ Some [] → Updates s t k.number None → (m : Meaning T) → meaning_of s promised ≡ m → let n : Meaning T = record m { cols = map.remove m.cols k } in meaning_of t (promised - 1) ≡ n
       col_removed_told k empty went m is = col_removed_meaning k empty went ∙ (λ i. record (is i) { cols = map.remove (is i).cols k })
+
+  -- the pool after a node came in, with these lists of its row and of its column
+  abbrev come : Meaning T → Node → Seat T → List Node → List Node → Meaning T
+  come m x seat row col = record { rows = map.insert m.rows seat.row row; cols = map.insert m.cols seat.col col; nodes = map.insert m.nodes x seat; room = m.room - 1 }
+
+  module _ (s t : Slab (Cell T)) (promised : ℕ) (whole : IsWhole s promised) (m : Meaning T) (is : meaning_of s promised ≡ m) (x : Node) (seat : Seat T)
+      (row : IsSome (map.get m.rows seat.row)) (col : IsSome (map.get m.cols seat.col)) (room : 0 < m.room) (vacant : kind_at s x.number ≡ None) (len : slab_len t ≡ slab_len s + 1) (capacity : t.capacity ≡ s.capacity) where
+    came : (rs cs : List Node) → HasCome Rows s t x seat rs → HasCome Cols s t x seat cs → IsWhole t promised × (meaning_of t promised ≡ come (meaning_of s promised) x seat rs cs)
+    came rs cs rows cols = (
+      record { sound = record { rows = rows.linked; cols = cols.linked }; within = omega (arith, len, room, ap (λ p. p.room) is); backed = omega (arith, capacity, whole.backed) },
+      same_meaning rows.rings cols.rings rows.nodes (omega (arith, len)),
+    )
+
+    rows_last : IsAdded Rows s t x.number seat (end_of Rows s seat.row.number) → HasCome Rows s t x seat (list_in (rings_of Rows s) seat.row ++ x ∷ [])
+    rows_last = came_last Rows s t whole.sound.rows x seat (row_found s promised m is seat.row row) vacant
+
+    pub came_behind : IsAdded Rows s t x.number seat (end_of Rows s seat.row.number) → IsAdded Cols s t x.number seat (end_of Cols s seat.col.number) → IsWhole t promised × (meaning_of t promised ≡ inserted m x seat)
+    came_behind rows cols = let c = came _ _ (rows_last rows) (came_last Cols s t whole.sound.cols x seat (col_found s promised m is seat.col col) vacant cols) in (c.0, c.1 ∙ ap (λ p. inserted p x seat) is)
+
+    pub came_ahead : IsAdded Rows s t x.number seat (end_of Rows s seat.row.number) → IsAdded Cols s t x.number seat (front_of Cols s seat.col.number) → IsWhole t promised × (meaning_of t promised ≡ put_ahead m x seat)
+    came_ahead rows cols = let c = came _ _ (rows_last rows) (came_first Cols s t whole.sound.cols x seat (col_found s promised m is seat.col col) vacant cols) in (c.0, c.1 ∙ ap (λ p. put_ahead p x seat) is)
 
   -- memory for more cells changes nothing but what may be promised
   pub room_whole : (s t : Slab (Cell T)) (promised wanted : ℕ) → IsWhole s promised → let u : Slab (Cell T) = record s { capacity = t.capacity } in t ≡ u → promised ≤ wanted → wanted ≤ t.capacity → IsWhole t wanted

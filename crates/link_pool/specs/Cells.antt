@@ -1,5 +1,5 @@
 -- What the cells of a pool stand for.
-use Rattle.std.specs.Prelude.{ℕ, zero, suc, ◌≡◌, ◌≢◌, ◌-◌, ◌≤◌, List, map, length, Option, Some, None, Bool, true, false, if◌then◌else◌}
+use Rattle.std.specs.Prelude.{ℕ, zero, suc, ◌≡◌, ◌≢◌, ◌-◌, ◌≤◌, List, map, length, Option, Some, None, IsSome, Bool, true, false, if◌then◌else◌}
 use Rattle.std.specs.declared.cmp.Ordering.{Ordering}
 use Rattle.std.specs.Ordering.{nat_cmp}
 use Rattle.std.specs.Option.{option_map}
@@ -187,13 +187,26 @@ module _ {T : Type 0} where
     pub back : (y : ℕ) → y ≢ x → y ≢ next_at side old x → prev_at side new y ≡ prev_at side old y
     pub under : prev_at side new (next_at side old x) ≡ prev_at side old x
 
-  -- a node came into a ring, behind what was last there
-  pub record IsAdded (side : Side) (old new : Slab (Cell T)) (x : ℕ) (seat : Seat T) : Type 0 where
+  -- the place behind the last of a ring
+  abbrev pub end_of : Side → Slab (Cell T) → ℕ → Link
+  end_of side s r = record { next = r; prev = prev_at side s r }
+
+  -- the place before the first of a ring
+  abbrev pub front_of : Side → Slab (Cell T) → ℕ → Link
+  front_of side s r = record { next = next_at side s r; prev = r }
+
+  -- a link leads to cells, both ways
+  pub record LeadsToCells (s : Slab (Cell T)) (link : Link) : Type 0 where
+    pub next : IsSome (kind_at s link.next)
+    pub prev : IsSome (kind_at s link.prev)
+
+  -- a node came into a ring, between these neighbours
+  pub record IsAdded (side : Side) (old new : Slab (Cell T)) (x : ℕ) (seat : Seat T) (link : Link) : Type 0 where
     pub kinds : (y : ℕ) → y ≢ x → kind_at new y ≡ kind_at old y
     pub stands : kind_at new x ≡ Some (Member seat)
-    pub forth : (y : ℕ) → y ≢ x → y ≢ prev_at side old (head_of side seat) → next_at side new y ≡ next_at side old y
-    pub across : next_at side new (prev_at side old (head_of side seat)) ≡ x
-    pub here : next_at side new x ≡ head_of side seat
-    pub back : (y : ℕ) → y ≢ x → y ≢ head_of side seat → prev_at side new y ≡ prev_at side old y
-    pub under : prev_at side new x ≡ prev_at side old (head_of side seat)
-    pub end : prev_at side new (head_of side seat) ≡ x
+    pub forth : (y : ℕ) → y ≢ x → y ≢ link.prev → next_at side new y ≡ next_at side old y
+    pub across : next_at side new link.prev ≡ x
+    pub here : next_at side new x ≡ link.next
+    pub back : (y : ℕ) → y ≢ x → y ≢ link.next → prev_at side new y ≡ prev_at side old y
+    pub under : prev_at side new x ≡ link.prev
+    pub end : prev_at side new link.next ≡ x

@@ -90,6 +90,15 @@ module _ {T : Type 0} where
     room = p.room - 1;
   }
 
+  -- the pool after a node came in, last in its row and first in its column
+  abbrev pub put_ahead : Meaning T → Node → Seat T → Meaning T
+  put_ahead p node seat = record {
+    rows = map.insert p.rows seat.row (list_in p.rows seat.row ++ node ∷ []);
+    cols = map.insert p.cols seat.col (node ∷ list_in p.cols seat.col);
+    nodes = map.insert p.nodes node seat;
+    room = p.room - 1;
+  }
+
   -- the pool after a node went out of both its rings
   abbrev pub unlinked : Meaning T → Node → Seat T → Meaning T
   unlinked p node seat = record {

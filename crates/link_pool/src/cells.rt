@@ -4,7 +4,7 @@ ghost use Rattle.std.specs.Option.{option_map};
 ghost use Rattle.slab.specs.Slab.{HasRoomFor, Updates, get, slab_len};
 ghost use Rattle.link_pool.specs.Names.{node_named};
 ghost use Rattle.link_pool.specs.Linked.{behind, link_to};
-ghost use Rattle.link_pool.specs.Cells.{kind_at, next_at, prev_at, home_at, seat_at, list_at, link_of, head_cell, SetsNext, SetsPrev, IsTaken, IsAdded, IsSound, is_head_at};
+ghost use Rattle.link_pool.specs.Cells.{kind_at, next_at, prev_at, home_at, seat_at, list_at, link_of, head_cell, SetsNext, SetsPrev, end_of, front_of, LeadsToCells, IsTaken, IsAdded, IsSound, is_head_at};
 
 use crate::names::{Node, Seat};
 use slab::Slab;
@@ -182,6 +182,28 @@ pub fn take_out<T>(cells: &mut Slab<Cell<T>>, node: usize) -> Seat<T>
     }
 }
 
+// The place behind the last of a ring.
+fn end_of<T>(cells: &Slab<Cell<T>>, side: Side, head: usize) -> Link
+    requires { IsSome (kind_at cells.now head) }
+    ensures { result ≡ end_of side cells.now head }
+{
+    Link {
+        next: head,
+        prev: link_at(cells, side, head).prev,
+    }
+}
+
+// The place before the first of a ring.
+fn front_of<T>(cells: &Slab<Cell<T>>, side: Side, head: usize) -> Link
+    requires { IsSome (kind_at cells.now head) }
+    ensures { result ≡ front_of side cells.now head }
+{
+    Link {
+        next: link_at(cells, side, head).next,
+        prev: head,
+    }
+}
+
 /// Puts a node last in the rings of its seat.
 pub fn add_last<T>(cells: &mut Slab<Cell<T>>, seat: Seat<T>) -> usize
     requires room { HasRoomFor cells.old 1 }
@@ -189,30 +211,53 @@ pub fn add_last<T>(cells: &mut Slab<Cell<T>>, seat: Seat<T>) -> usize
     requires col { is_head_at Side.Cols cells.old seat.col.number ≡ true }
     requires sound { IsSound cells.old }
     ensures vacant { kind_at cells.old result ≡ None }
-    ensures rows { IsAdded Side.Rows cells.old cells.new result seat }
-    ensures cols { IsAdded Side.Cols cells.old cells.new result seat }
+    ensures rows { IsAdded Side.Rows cells.old cells.new result seat (end_of Side.Rows cells.old seat.row.number) }
+    ensures cols { IsAdded Side.Cols cells.old cells.new result seat (end_of Side.Cols cells.old seat.col.number) }
     ensures len { slab_len cells.new ≡ slab_len cells.old + 1 }
     ensures capacity { cells.new.capacity ≡ cells.old.capacity }
 {
-    let row = seat.row.number;
-    let col = seat.col.number;
-    let last_of_row = link_at(cells, Side::Rows, row).prev;
-    let last_of_col = link_at(cells, Side::Cols, col).prev;
+    let row = end_of(cells, Side::Rows, seat.row.number);
+    let col = end_of(cells, Side::Cols, seat.col.number);
+    add_between(cells, seat, row, col)
+}
+
+/// Puts a node last in the row of its seat, and first in the column.
+pub fn add_ahead<T>(cells: &mut Slab<Cell<T>>, seat: Seat<T>) -> usize
+    requires room { HasRoomFor cells.old 1 }
+    requires row { is_head_at Side.Rows cells.old seat.row.number ≡ true }
+    requires col { is_head_at Side.Cols cells.old seat.col.number ≡ true }
+    requires sound { IsSound cells.old }
+    ensures vacant { kind_at cells.old result ≡ None }
+    ensures rows { IsAdded Side.Rows cells.old cells.new result seat (end_of Side.Rows cells.old seat.row.number) }
+    ensures cols { IsAdded Side.Cols cells.old cells.new result seat (front_of Side.Cols cells.old seat.col.number) }
+    ensures len { slab_len cells.new ≡ slab_len cells.old + 1 }
+    ensures capacity { cells.new.capacity ≡ cells.old.capacity }
+{
+    let row = end_of(cells, Side::Rows, seat.row.number);
+    let col = front_of(cells, Side::Cols, seat.col.number);
+    add_between(cells, seat, row, col)
+}
+
+// Puts a node between these neighbours in each of its rings.
+fn add_between<T>(cells: &mut Slab<Cell<T>>, seat: Seat<T>, row: Link, col: Link) -> usize
+    requires room { HasRoomFor cells.old 1 }
+    requires row { LeadsToCells cells.old row }
+    requires col { LeadsToCells cells.old col }
+    ensures vacant { kind_at cells.old result ≡ None }
+    ensures rows { IsAdded Side.Rows cells.old cells.new result seat row }
+    ensures cols { IsAdded Side.Cols cells.old cells.new result seat col }
+    ensures len { slab_len cells.new ≡ slab_len cells.old + 1 }
+    ensures capacity { cells.new.capacity ≡ cells.old.capacity }
+{
     let node = cells.insert_reserved(Cell {
-        row: Link {
-            next: row,
-            prev: last_of_row,
-        },
-        col: Link {
-            next: col,
-            prev: last_of_col,
-        },
+        row,
+        col,
         kind: Kind::Member(seat),
     });
-    set_next(cells, Side::Rows, last_of_row, node);
-    set_prev(cells, Side::Rows, row, node);
-    set_next(cells, Side::Cols, last_of_col, node);
-    set_prev(cells, Side::Cols, col, node);
+    set_next(cells, Side::Rows, row.prev, node);
+    set_prev(cells, Side::Rows, row.next, node);
+    set_next(cells, Side::Cols, col.prev, node);
+    set_prev(cells, Side::Cols, col.next, node);
     node
 }
 

@@ -3,10 +3,10 @@ ghost use Rattle.std.specs.Prelude.{◌≡◌, ◌<◌, ◌+◌, [], Some, None,
 ghost use Rattle.std.specs.FinMap as map;
 ghost use Rattle.std.specs.Option.{option_map};
 ghost use Rattle.link_pool.specs.Rings.{following, first_in, list_in};
-ghost use Rattle.link_pool.specs.Meaning.{empty_pool, row_in, col_in, item_in, first_seat, row_and_item, col_and_item, inserted, unlinked, AreRings, IsCountable};
+ghost use Rattle.link_pool.specs.Meaning.{empty_pool, row_in, col_in, item_in, first_seat, row_and_item, col_and_item, inserted, put_ahead, unlinked, AreRings, IsCountable};
 
 use crate::cells::{
-    Cell, Side, add_head, add_last, first_of, next_of, remove_head, seat_of, take_out,
+    Cell, Side, add_ahead, add_head, add_last, first_of, next_of, remove_head, seat_of, take_out,
 };
 use crate::names::{Col, Node, Row, Seat};
 use pss_base::NoMemory;
@@ -16,8 +16,9 @@ use std::marker::Model;
 
 /// Nodes, each with an item, that stand in the ring of a row and in the ring of a column.
 ///
-/// A ring lists its nodes in the order in which they came in. The room is the number of nodes that may come in
-/// without memory; `reserve` makes it. Rows and columns take none of it, and give none back.
+/// A ring lists its nodes in the order in which they came in; `insert_ahead_reserved` alone puts a node first in its
+/// column. The room is the number of nodes that may come in without memory; `reserve` makes it. Rows and columns take
+/// none of it, and give none back.
 ///
 /// A row, a column or a node is named by what the call that added it answered. Each call has the condition that the
 /// names it is given are in this pool. A name that was removed may be given again, and then names what came last.
@@ -146,6 +147,19 @@ impl<T> Pool<T> {
         ensures rings { AreRings self.new }
     {
         let number = add_last(&mut self.cells, Seat { row, col, item });
+        Node { number }
+    }
+
+    /// Puts a new node last in its row and first in its column, and takes one of the room.
+    pub fn insert_ahead_reserved(&mut self, row: Row, col: Col, item: T) -> Node
+        requires room { 0 < self.old.room }
+        requires row { IsSome (map.get self.old.rows row) }
+        requires col { IsSome (map.get self.old.cols col) }
+        ensures new { map.get self.old.nodes result ≡ None }
+        ensures inserted { self.new ≡ put_ahead self.old result (record { row = row; col = col; item = item }) }
+        ensures rings { AreRings self.new }
+    {
+        let number = add_ahead(&mut self.cells, Seat { row, col, item });
         Node { number }
     }
 

@@ -1,11 +1,11 @@
 -- How many entries there are, how many of them stand on bodies, and how many bodies.
-use Rattle.std.proofs.Common.{arith, ◌≡◌, ℕ, ◌+◌, ◌<◌, ◌==◌, ◌&&◌, Bool, true, false, cond, not, List, [], ◌∷◌, map, length, Option, Some, None, IsSome, refl, sym, ap, ◌∙◌, subst, inl, inr}
-use Rattle.std.specs.Prelude.{◌⊎◌, ◌||◌, is_some, filter, nat_lt, unwrap_or}
+use Rattle.std.proofs.Common.{arith, ◌≡◌, ℕ, ◌+◌, ◌==◌, ◌&&◌, Bool, true, false, cond, not, List, [], ◌∷◌, map, length, Option, Some, None, IsSome, refl, sym, ap, ◌∙◌}
+use Rattle.std.specs.Prelude.{◌||◌, is_some, filter, nat_lt, unwrap_or}
 use Rattle.std.specs.Option.{option_map, option_and_then}
 use Rattle.std.specs.List.{list_any, flat_map, sum}
 use Rattle.std.specs.Ordering.{nat_cmp}
 use Rattle.std.specs.Cmp.{nat_cmp_total}
-use Rattle.std.specs.FinMap.{FinMap, get, insert, remove, empty, entries, len, len-entries, len-insert, len-empty, get-empty, nat_cmp-IsAntisymmetric}
+use Rattle.std.specs.FinMap.{FinMap, get, remove, empty, entries, len, len-entries, len-insert, len-empty, get-empty, nat_cmp-IsAntisymmetric}
 use Rattle.std.proofs.lemmas.List.{length-map}
 use Rattle.std.proofs.lemmas.Bool.{eqb-true, lt-ltb, ltb-true}
 use Rattle.pss_base.specs.declared.pid.Pid.{Pid}
@@ -19,16 +19,16 @@ use Rattle.pss_machine.specs.Sessions.{Session}
 use Rattle.pss_machine.specs.Copies.{Copies, Body, same_body as same_name, body_in, view_in, names_in, bodies, is_attached as is_told_attached}
 use Rattle.pss_machine.specs.Kept.{Kept, copies_of}
 use Rattle.pss_machine.specs.Deciding.{entry_count, all_names}
-use Rattle.pss_machine.specs.Entries.{AreOrderly, BodiesAreRight}
+use Rattle.pss_machine.specs.Entries.{AreOrderly}
 use Rattle.pss_machine.proofs.Distinct.{bodies_right}
 use Rattle.pss_machine.proofs.Logic.{none_some, same_some, true_false}
-use Rattle.pss_session.specs.Meaning.{Meaning as Standing, HaveSessions}
+use Rattle.pss_session.specs.Meaning.{HaveSessions}
 use Rattle.incarnations.specs.declared.names.Slot.{Slot}
 use Rattle.incarnations.specs.declared.names.BodyName.{BodyName}
 use Rattle.incarnations.specs.declared.names.Entry.{Entry}
 use Rattle.incarnations.specs.Keys.{body_cmp}
 use Rattle.incarnations.specs.Maps.{count}
-use Rattle.incarnations.specs.Meaning.{Meaning, AreCopies, body, body_of, same_body, stands_on, entries_on, is_of, is_attached, entries_of, length_of}
+use Rattle.incarnations.specs.Meaning.{AreCopies, body, body_of, same_body, stands_on, entries_on, is_of, is_attached, entries_of, length_of}
 use Rattle.incarnations.proofs.Keys.{slot_key, body_key, body_told, body_self}
 use Rattle.incarnations.proofs.Maps as maps
 use Rattle.pss_copies.specs.declared.parts.Parts.{Parts}
@@ -37,7 +37,7 @@ use Rattle.pss_copies.specs.Seats.{Attends}
 use Rattle.pss_copies.proofs.Holders.{Holder, holder}
 use Rattle.pss_copies.proofs.Held.{copies_there}
 use Rattle.pss_copies.proofs.Left.{stands_attached}
-use Rattle.pss_copies.proofs.Listed.{EachOf, each_filtered, map_each, flat_each, each_entry, filter_twice, filter_all, any_filter, any_map, any_flat, flat_length, any_counted, parts_with, part_sum, part_any, one_key}
+use Rattle.pss_copies.proofs.Listed.{EachOf, map_each, flat_each, each_entry, filter_twice, filter_all, any_filter, any_map, any_flat, flat_length, any_counted, parts_with, part_sum, part_any, one_key}
 use Rattle.pss_copies.proofs.Rising.{told_of, entries_are}
 
 and_true : (b : Bool) → (b && true) ≡ b

@@ -1,11 +1,10 @@
 -- A new object, for which no entry is attached yet.
-use Rattle.std.proofs.Common.{◌≡◌, ℕ, ◌<◌, ◌≤◌, Bool, true, false, List, [], ◌∷◌, Option, Some, None, IsSome, refl, sym, ap, ◌∙◌, subst, inl, inr, arith}
+use Rattle.std.proofs.Common.{◌≡◌, ℕ, false, List, [], ◌∷◌, Option, Some, None, IsSome, refl, sym, ap, ◌∙◌, inl, inr, arith}
 use Rattle.std.specs.Prelude.{◌⊎◌, is_some, ◌==◌, if◌then◌else◌}
 use Rattle.std.specs.Option.{option_map, option_and_then}
-use Rattle.std.specs.FinMap.{get, insert}
+use Rattle.std.specs.FinMap.{get}
 use Rattle.pss_base.specs.declared.pid.Pid.{Pid}
 use Rattle.pss_base.specs.declared.owner.OwnerNo.{OwnerNo}
-use Rattle.pss_base.specs.declared.session.SessionNo.{SessionNo}
 use Rattle.type_layout.specs.declared.schema.Schema.{Schema}
 use Rattle.type_layout.specs.Types.{PlainValue}
 use Rattle.type_layout.specs.Schemas.{given}
@@ -14,24 +13,22 @@ use Rattle.pss_catalog.specs.Changes.{with_state, over}
 use Rattle.pss_machine.specs.declared.session.View.{View}
 use Rattle.pss_machine.specs.declared.session.View.TheVariants.{Committed, Own, Kept as InCopy}
 use Rattle.pss_machine.specs.Changes.{with_changes}
-use Rattle.pss_machine.specs.Alone.{object_of}
 use Rattle.pss_machine.specs.Owners.{Owner, Step, view, has_changed, stepped}
-use Rattle.pss_machine.specs.Sessions.{Session, owner_of}
-use Rattle.pss_machine.specs.Copies.{Copied, Loose, Body, values_at, is_changed_by}
+use Rattle.pss_machine.specs.Copies.{Copied, Loose, values_at, is_changed_by}
 use Rattle.pss_machine.specs.Kept.{Kept, copies_of}
 use Rattle.pss_machine.specs.Moving.{owners_after, is_outdated}
 use Rattle.pss_machine.proofs.Maps.{same_or_apart, insert_apart, remove_apart, with_here, with_apart}
-use Rattle.pss_machine.proofs.Logic.{none_some, same_some}
+use Rattle.pss_machine.proofs.Logic.{none_some}
 use Rattle.pss_laws.specs.Sound.{NoneFrom, IsSound}
 use Rattle.pss_laws.proofs.Footprint.{object_there}
 use Rattle.pss_laws.proofs.Nets.{view_stepped}
 use Rattle.pss_session.proofs.Leaving.{leaves_none}
 use Rattle.incarnations.specs.declared.names.Slot.{Slot}
 use Rattle.incarnations.specs.declared.names.Entry.{Entry}
-use Rattle.incarnations.specs.Meaning.{AreCopies, loosened, body, body_of}
+use Rattle.incarnations.specs.Meaning.{AreCopies, body, body_of}
 use Rattle.pss_copies.specs.declared.parts.Parts.{Parts}
 use Rattle.pss_copies.specs.Told.{stand_told, entry_told}
-use Rattle.pss_copies.specs.Seats.{IsSeat, OwnerSees, Attends}
+use Rattle.pss_copies.specs.Seats.{OwnerSees, Attends}
 use Rattle.pss_copies.specs.Ruled.{HomesAgree}
 use Rattle.pss_copies.specs.Stepped.{left_by, OutdatesNone}
 use Rattle.pss_copies.proofs.Left.{told_left}

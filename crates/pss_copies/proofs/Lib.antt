@@ -19,6 +19,7 @@ pub mod Quiet
 pub mod Fresh
 pub mod Staying
 pub mod Settled
+pub mod Changed
 pub mod Commits
 pub mod Listed
 pub mod Rising

@@ -1,40 +1,37 @@
 -- What a step that changes an object leaves of entries and bodies.
-use Rattle.std.proofs.Common.{◌≡◌, ℕ, ◌<◌, ◌==◌, ◌&&◌, Bool, true, false, not, cond, List, [], ◌∷◌, Option, Some, None, IsSome, refl, sym, ap, ◌∙◌, subst, inl, inr}
-use Rattle.std.specs.Prelude.{◌⊎◌, ◌||◌, is_some, if◌then◌else◌}
+use Rattle.std.proofs.Common.{◌≡◌, ℕ, ◌==◌, true, false, cond, List, Option, Some, None, IsSome, refl, sym, ap, ◌∙◌, inl, inr}
+use Rattle.std.specs.Prelude.{◌⊎◌, is_some, if◌then◌else◌}
 use Rattle.std.specs.Option.{option_map, option_and_then}
-use Rattle.std.specs.FinMap.{get, insert, remove}
-use Rattle.std.proofs.lemmas.Bool.{eqb-true, eq-eqb}
+use Rattle.std.specs.FinMap.{get, insert}
+use Rattle.std.proofs.lemmas.Bool.{eq-eqb}
 use Rattle.pss_base.specs.declared.pid.Pid.{Pid}
 use Rattle.pss_base.specs.declared.owner.OwnerNo.{OwnerNo}
-use Rattle.pss_base.specs.declared.session.SessionNo.{SessionNo}
 use Rattle.type_layout.specs.Types.{PlainValue}
 use Rattle.type_layout.specs.Schemas.{given}
 use Rattle.pss_catalog.specs.Catalog.{Object, Catalog}
 use Rattle.pss_catalog.specs.Changes.{with_state, over}
 use Rattle.pss_machine.specs.declared.session.View.{View}
 use Rattle.pss_machine.specs.declared.session.View.TheVariants.{Committed, Own, Kept as InCopy}
-use Rattle.pss_machine.specs.Maps.{with_at}
 use Rattle.pss_machine.specs.Changes.{with_changes}
-use Rattle.pss_machine.specs.Owners.{Owner, Owners, Step, view, has_changed, stepped}
-use Rattle.pss_machine.specs.Sessions.{Session, Sessions, owner_of}
+use Rattle.pss_machine.specs.Owners.{Owner, Step, view, has_changed, stepped}
+use Rattle.pss_machine.specs.Sessions.{Session, owner_of}
 use Rattle.pss_machine.specs.Alone.{object_of}
-use Rattle.pss_machine.specs.Copies.{Copied, Loose, Copies, values_at, is_changed_by, view_in}
+use Rattle.pss_machine.specs.Copies.{Copied, Loose, values_at, is_changed_by}
 use Rattle.pss_machine.specs.Kept.{Kept, copies_of}
 use Rattle.pss_machine.specs.Moving.{owners_after}
-use Rattle.pss_machine.proofs.Maps.{same_or_apart, insert_here, insert_apart, remove_here, remove_apart, with_here, with_apart}
-use Rattle.pss_machine.proofs.Logic.{none_some, same_some, true_false}
+use Rattle.pss_machine.proofs.Maps.{same_or_apart, insert_here, insert_apart, remove_apart, with_here, with_apart}
+use Rattle.pss_machine.proofs.Logic.{none_some, same_some}
 use Rattle.pss_laws.proofs.Footprint.{object_there}
 use Rattle.pss_laws.proofs.Living.{home_of_it}
 use Rattle.pss_laws.proofs.Nets.{view_stepped}
 use Rattle.incarnations.specs.declared.names.Slot.{Slot}
 use Rattle.incarnations.specs.declared.names.Entry.{Entry}
-use Rattle.incarnations.specs.Meaning.{Meaning, AreCopies, slot, body, body_of, entry_at}
+use Rattle.incarnations.specs.Meaning.{AreCopies, body, body_of}
 use Rattle.pss_copies.specs.declared.parts.Parts.{Parts}
-use Rattle.pss_copies.specs.Told.{stand_told, entry_told, AreTold}
-use Rattle.pss_copies.specs.Seats.{IsSeat, AreSeated, OwnerSees, AreValued, Attends}
+use Rattle.pss_copies.specs.Told.{stand_told, entry_told}
+use Rattle.pss_copies.specs.Seats.{IsSeat, OwnerSees, Attends}
 use Rattle.pss_copies.specs.Ruled.{HomesAgree}
 use Rattle.pss_copies.specs.Stepped.{ChangesAt}
-use Rattle.pss_copies.proofs.Entered.{apart_test}
 use Rattle.pss_copies.proofs.Seated.{seat_owned}
 use Rattle.pss_copies.proofs.Held.{told_at, copies_there}
 

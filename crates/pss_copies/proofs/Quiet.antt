@@ -1,5 +1,5 @@
 -- Steps that change no object leave all entries where they stand.
-use Rattle.std.proofs.Common.{◌≡◌, ℕ, Bool, true, false, List, [], Option, Some, None, refl, sym, ap, ◌∙◌, subst, inl, inr}
+use Rattle.std.proofs.Common.{◌≡◌, false, List, [], Option, Some, None, refl, sym, ap, ◌∙◌, subst, inl, inr}
 use Rattle.std.specs.Prelude.{◌⊎◌, is_some}
 use Rattle.std.specs.Option.{option_map}
 use Rattle.std.specs.FinMap.{get}
@@ -10,16 +10,16 @@ use Rattle.type_layout.specs.Types.{PlainValue}
 use Rattle.type_layout.specs.Schemas.{given}
 use Rattle.pss_catalog.specs.Changes.{over}
 use Rattle.pss_machine.specs.Changes.{listed, with_changes}
-use Rattle.pss_machine.specs.Owners.{Owner, Step, view, has_changed, stepped}
-use Rattle.pss_machine.specs.Sessions.{Session, owner_of}
+use Rattle.pss_machine.specs.Owners.{Owner, Step, has_changed, stepped}
+use Rattle.pss_machine.specs.Sessions.{Session}
 use Rattle.pss_machine.specs.Copies.{Body, values_at, is_changed_by}
 use Rattle.pss_machine.specs.Kept.{Kept}
 use Rattle.pss_machine.specs.Moving.{owners_after, is_outdated}
 use Rattle.pss_machine.proofs.Maps.{same_or_apart, with_here, with_apart}
 use Rattle.pss_session.proofs.Leaving.{leaves_none}
-use Rattle.incarnations.specs.Meaning.{AreCopies, loosened}
+use Rattle.incarnations.specs.Meaning.{AreCopies}
 use Rattle.pss_copies.specs.declared.parts.Parts.{Parts}
-use Rattle.pss_copies.specs.Seats.{IsSeat, OwnerSees, Seats, Attends}
+use Rattle.pss_copies.specs.Seats.{OwnerSees, Seats, Attends}
 use Rattle.pss_copies.specs.Stepped.{left_by}
 use Rattle.pss_copies.proofs.Left.{told_left}
 use Rattle.pss_copies.proofs.Seated.{seat_owned}

@@ -1,5 +1,5 @@
 -- What a destroy leaves of entries and bodies.
-use Rattle.std.proofs.Common.{◌≡◌, ℕ, ◌==◌, ◌&&◌, Bool, true, false, not, Option, Some, None, refl, sym, ap, ◌∙◌, subst}
+use Rattle.std.proofs.Common.{◌≡◌, ◌&&◌, Bool, true, false, not, Option, Some, None, refl, sym, ap, ◌∙◌}
 use Rattle.std.specs.Prelude.{◌||◌, is_some}
 use Rattle.std.specs.Option.{option_map}
 use Rattle.std.specs.FinMap.{get}
@@ -12,25 +12,24 @@ use Rattle.type_layout.specs.Schemas.{given}
 use Rattle.std.proofs.Common.{List}
 use Rattle.pss_machine.specs.declared.session.View.{View}
 use Rattle.pss_machine.specs.declared.session.View.TheVariants.{Committed, Own}
-use Rattle.pss_machine.specs.Operations.{Destroy, Done}
+use Rattle.pss_machine.specs.Operations.{Done}
 use Rattle.pss_machine.specs.Same.{same_pid}
 use Rattle.pss_machine.specs.Owners.{Step, view}
 use Rattle.pss_machine.specs.Sessions.{Session, owner_of, is_owner}
-use Rattle.pss_machine.specs.Copies.{values_at, is_changed_by, view_in, body_in, same_view}
+use Rattle.pss_machine.specs.Copies.{is_changed_by, view_in, body_in, same_view}
 use Rattle.pss_machine.specs.Kept.{Kept}
-use Rattle.pss_machine.specs.Moving.{owners_after, is_outdated}
-use Rattle.pss_machine.proofs.Logic.{none_some, same_some, true_false}
+use Rattle.pss_machine.specs.Moving.{is_outdated}
+use Rattle.pss_machine.proofs.Logic.{same_some, true_false}
 use Rattle.pss_laws.proofs.Footprint.{object_there}
 use Rattle.pss_laws.proofs.Living.{home_of_it}
 use Rattle.pss_session.specs.Meaning.{Meaning as Standing, belongs_to, of_sessions, is_unchanged, on_unchanged}
 use Rattle.pss_session.proofs.Leaving.{leaves_then}
 use Rattle.incarnations.specs.declared.names.Slot.{Slot}
-use Rattle.incarnations.specs.declared.names.BodyName.{BodyName}
 use Rattle.incarnations.specs.declared.names.Entry.{Entry}
 use Rattle.incarnations.specs.Meaning.{Meaning, AreCopies, Leaves, loosened, both, body, same_body, stands_on, on_body}
 use Rattle.incarnations.proofs.Keys.{slot_key, view_told, pid_self}
 use Rattle.pss_copies.specs.declared.parts.Parts.{Parts}
-use Rattle.pss_copies.specs.Seats.{IsSeat, OwnerSees, Attends}
+use Rattle.pss_copies.specs.Seats.{OwnerSees, Attends}
 use Rattle.pss_copies.specs.Ruled.{HomesAgree}
 use Rattle.pss_copies.specs.Stepped.{left_by, DestroysAt}
 use Rattle.pss_copies.proofs.Holders.{Holder, holder}

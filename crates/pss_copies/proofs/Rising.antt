@@ -1,24 +1,24 @@
 -- The entries of a session, in the order of their numbers.
-use Rattle.std.proofs.Common.{arith, ◌≡◌, ℕ, ◌<◌, ◌==◌, ◌&&◌, Bool, true, false, cond, List, [], ◌∷◌, map, Option, Some, None, refl, sym, ap, ◌∙◌, subst, inl, inr}
+use Rattle.std.proofs.Common.{arith, ◌≡◌, ℕ, ◌<◌, ◌==◌, ◌&&◌, Bool, true, false, cond, List, [], ◌∷◌, map, Option, Some, None, refl, sym, ap, ◌∙◌, inl, inr}
 use Rattle.std.specs.Prelude.{◌⊎◌, filter, nat_lt}
 use Rattle.std.specs.Option.{option_map}
 use Rattle.std.proofs.Math.Dec.{T}
 use Rattle.std.specs.declared.cmp.Ordering.{Ordering}
 use Rattle.std.specs.declared.cmp.Ordering.TheVariants.{Less, Equal, Greater}
-use Rattle.std.specs.Ordering.{nat_cmp, eq_by_cmp, is_lt, ordering_then}
+use Rattle.std.specs.Ordering.{nat_cmp, is_lt, ordering_then}
 use Rattle.std.specs.FinMap as finite
-use Rattle.std.specs.FinMap.{get, entries, entries_sorted, is_sorted, get-entries}
+use Rattle.std.specs.FinMap.{entries, entries_sorted, is_sorted, get-entries}
 use Rattle.std.specs.FinMap.Entries.{below_all}
 use Rattle.std.proofs.lemmas.Bool.{eqb-true, eq-eqb, ltb-true}
 use Rattle.pss_base.specs.declared.session.SessionNo.{SessionNo}
-use Rattle.pss_machine.specs.Copies.{Entry as PlainEntry, Copies, entry_numbered}
+use Rattle.pss_machine.specs.Copies.{Entry as PlainEntry, Copies}
 use Rattle.pss_machine.specs.Entries.{NumbersRise, AreOrderly}
 use Rattle.pss_machine.proofs.Maps.{same_or_apart}
 use Rattle.pss_machine.proofs.Logic.{none_some, same_some, true_false}
 use Rattle.incarnations.specs.declared.names.Slot.{Slot}
 use Rattle.incarnations.specs.declared.names.Entry.{Entry}
 use Rattle.incarnations.specs.Keys.{slot_cmp}
-use Rattle.incarnations.specs.Meaning.{Meaning, is_of, entries_of, entry_at, slot, same_slot}
+use Rattle.incarnations.specs.Meaning.{Meaning, is_of, entries_of, slot}
 use Rattle.incarnations.proofs.Keys.{slot_ties}
 use Rattle.pss_copies.specs.Told.{entry_told, IsTold}
 use Rattle.pss_copies.proofs.Numbered.{numbered}

@@ -1,6 +1,6 @@
 -- What a commit leaves of entries and bodies.
-use Rattle.std.proofs.Common.{◌≡◌, ℕ, zero, suc, ◌<◌, ◌≤◌, ◌==◌, ◌&&◌, Bool, true, false, cond, List, [], ◌∷◌, length, take, Option, Some, None, IsSome, refl, sym, ap, ◌∙◌, subst, inl, inr, arith}
-use Rattle.std.specs.Prelude.{◌⊎◌, ◌||◌, is_some, unwrap_or, if◌then◌else◌, find, T}
+use Rattle.std.proofs.Common.{◌≡◌, ℕ, zero, suc, ◌<◌, ◌≤◌, ◌==◌, ◌&&◌, Bool, true, false, cond, List, [], ◌∷◌, length, take, Option, Some, None, IsSome, refl, sym, ap, ◌∙◌, subst, arith}
+use Rattle.std.specs.Prelude.{◌||◌, is_some, unwrap_or, if◌then◌else◌, find}
 use Rattle.std.specs.List.{list_any}
 use Rattle.std.specs.Option.{option_map, option_and_then}
 use Rattle.std.specs.Ordering.{nat_cmp, eq_by_cmp}
@@ -14,36 +14,35 @@ use Rattle.pss_base.specs.declared.session.SessionNo.{SessionNo}
 use Rattle.type_layout.specs.Types.{PlainValue}
 use Rattle.type_layout.specs.Schemas.{given}
 use Rattle.pss_catalog.specs.Catalog.{Object, Catalog}
-use Rattle.pss_catalog.specs.Changes.{Change, over, last_state}
+use Rattle.pss_catalog.specs.Changes.{Change, over}
 use Rattle.pss_catalog.proofs.Uniqueness.{found_over}
 use Rattle.pss_machine.specs.declared.session.View.{View}
 use Rattle.pss_machine.specs.declared.session.View.TheVariants.{Committed, Own, Kept as InCopy}
 use Rattle.pss_machine.specs.Changes.{listed}
 use Rattle.pss_machine.specs.Same.{same_pid}
 use Rattle.pss_machine.specs.Alone.{object_of}
-use Rattle.pss_machine.specs.Owners.{Owner, Owners, view, net, has_changed}
+use Rattle.pss_machine.specs.Owners.{Owner, view, net, has_changed}
 use Rattle.pss_machine.specs.Sessions.{Session}
 use Rattle.pss_machine.specs.Copies.{values_at, view_in, body_in, same_view}
 use Rattle.pss_machine.specs.Kept.{Kept}
 use Rattle.pss_machine.specs.Moving.{is_among, is_settled, with_commit, title_of, settled}
 use Rattle.pss_machine.proofs.Maps.{tied}
-use Rattle.pss_machine.proofs.Logic.{none_some, same_some, true_false}
+use Rattle.pss_machine.proofs.Logic.{none_some, same_some}
 use Rattle.pss_laws.proofs.Footprint.{object_there}
 use Rattle.pss_laws.proofs.Living.{home_of_it}
 use Rattle.pss_laws.proofs.Nets.{last_listed}
 use Rattle.pss_laws.proofs.Overs.{unchanged_there}
 use Rattle.pss_session.specs.Meaning.{Meaning as Standing}
-use Rattle.pss_session.proofs.Fronts.{any_more}
 use Rattle.pss_session.proofs.Leaving.{leaves_then, leaves_none}
 use Rattle.incarnations.specs.declared.names.Slot.{Slot}
 use Rattle.incarnations.specs.declared.names.BodyName.{BodyName}
 use Rattle.incarnations.specs.declared.names.Entry.{Entry}
 use Rattle.incarnations.specs.Meaning.{Meaning, AreCopies, Leaves, loosened, with_view, body, body_of, same_body, stands_on, on_body}
 use Rattle.incarnations.proofs.Seen.{leaves_alike}
-use Rattle.incarnations.proofs.Keys.{slot_key, body_told, pid_self}
+use Rattle.incarnations.proofs.Keys.{slot_key, body_told}
 use Rattle.pss_copies.specs.declared.parts.Parts.{Parts}
 use Rattle.pss_copies.specs.Seats.{OwnerSees, Attends}
-use Rattle.pss_copies.specs.Settling.{AreOf, Settles, on_committed}
+use Rattle.pss_copies.specs.Settling.{AreOf, Settles, on_bodies, on_committed}
 use Rattle.pss_copies.proofs.Holders.{Holder, holder}
 use Rattle.pss_copies.proofs.Associated.{on_own}
 use Rattle.pss_copies.proofs.Left.{kept_entry, old_body, seated_less, told_left}
@@ -52,12 +51,12 @@ use Rattle.pss_copies.proofs.Outdated.{values_there}
 -- ---- the bodies of so many objects
 
 -- of none
-pub committed_none : (m : Meaning) → AreCopies m → Leaves (loosened (on_committed [])) m m
-committed_none m are = leaves_none (on_committed []) m are (λ x e. refl)
+pub bodies_none : (v : View) (m : Meaning) → AreCopies m → Leaves (loosened (on_bodies v [])) m m
+bodies_none v m are = leaves_none (on_bodies v []) m are (λ x e. refl)
 
 -- of as many as there are
-pub committed_all : (pids : List Pid) (i : ℕ) (a b : Meaning) → length pids ≤ i → Leaves (loosened (on_committed (take i pids))) a b → Leaves (loosened (on_committed pids)) a b
-committed_all pids i a b all left = subst (λ (l : List Pid). Leaves (loosened (on_committed l)) a b) (whole pids i all) left
+pub bodies_all : (v : View) (pids : List Pid) (i : ℕ) (a b : Meaning) → length pids ≤ i → Leaves (loosened (on_bodies v (take i pids))) a b → Leaves (loosened (on_bodies v pids)) a b
+bodies_all v pids i a b all left = subst (λ (l : List Pid). Leaves (loosened (on_bodies v l)) a b) (whole pids i all) left
   where
     whole : (ps : List Pid) (i : ℕ) → length ps ≤ i → take i ps ≡ ps
     whole [] zero all = refl
@@ -66,12 +65,12 @@ committed_all pids i a b all left = subst (λ (l : List Pid). Leaves (loosened (
     whole (p ∷ ps) (suc i) all = ap (λ l. p ∷ l) (whole ps i (omega (arith, all)))
 
 -- those of one object more
-pub committed_more : (pids : List Pid) (i k : ℕ) (pid d : Pid) (a b c : Meaning) → k ≡ suc i → i < length pids → pid ≡ get_or pids i d → Leaves (loosened (on_committed (take i pids))) a b → Leaves (loosened (on_body (body pid Committed))) b c
-    → Leaves (loosened (on_committed (take k pids))) a c
-committed_more pids i k pid d a b c next less is first second =
+pub bodies_more : (v : View) (pids : List Pid) (i k : ℕ) (pid d : Pid) (a b c : Meaning) → k ≡ suc i → i < length pids → pid ≡ get_or pids i d → Leaves (loosened (on_bodies v (take i pids))) a b → Leaves (loosened (on_body (body pid v))) b c
+    → Leaves (loosened (on_bodies v (take k pids))) a c
+bodies_more v pids i k pid d a b c next less is first second =
     leaves_alike _ _ a c
-    (λ x e. ap (λ z. Some (cond z (with_view None e) e)) (sym (ap (λ m. on_committed (take m pids) x e) next ∙ more pids i pid less is x e)))
-    (leaves_then (on_committed (take i pids)) (on_body (body pid Committed)) a b c first second)
+    (λ x e. ap (λ z. Some (cond z (with_view None e) e)) (sym (ap (λ m. on_bodies v (take m pids) x e) next ∙ more pids i pid less is x e)))
+    (leaves_then (on_bodies v (take i pids)) (on_body (body pid v)) a b c first second)
   where
     last : (b : Bool) → (b || false) ≡ b
     last true = refl
@@ -81,10 +80,10 @@ committed_more pids i k pid d a b c next less is first second =
     or_more true b c d e = refl
     or_more false b c d e = e
 
-    more : (ps : List Pid) (i : ℕ) (p : Pid) → i < length ps → p ≡ get_or ps i d → (x : Slot) (e : Entry) → on_committed (take (suc i) ps) x e ≡ (on_committed (take i ps) x e || on_body (body p Committed) x e)
+    more : (ps : List Pid) (i : ℕ) (p : Pid) → i < length ps → p ≡ get_or ps i d → (x : Slot) (e : Entry) → on_bodies v (take (suc i) ps) x e ≡ (on_bodies v (take i ps) x e || on_body (body p v) x e)
     more [] i p less is x e = absurd (omega (arith, less))
-    more (q ∷ ps) zero p less is x e = last (on_body (body q Committed) x e) ∙ ap (λ (r : Pid). on_body (body r Committed) x e) (sym is)
-    more (q ∷ ps) (suc i) p less is x e = or_more (on_body (body q Committed) x e) (on_committed (take (suc i) ps) x e) (on_committed (take i ps) x e) (on_body (body p Committed) x e) (more ps i p (omega (arith, less)) is x e)
+    more (q ∷ ps) zero p less is x e = last (on_body (body q v) x e) ∙ ap (λ (r : Pid). on_body (body r v) x e) (sym is)
+    more (q ∷ ps) (suc i) p less is x e = or_more (on_body (body q v) x e) (on_bodies v (take (suc i) ps) x e) (on_bodies v (take i ps) x e) (on_body (body p v) x e) (more ps i p (omega (arith, less)) is x e)
 
 -- ---- what is found
 
@@ -107,7 +106,7 @@ none_passes {A} test m none k x there = all (entries m) none (sym (get-entries m
 
 -- ---- objects and their serials
 
-and_false : (b : Bool) → (b && false) ≡ false
+pub and_false : (b : Bool) → (b && false) ≡ false
 and_false true = refl
 and_false false = refl
 
@@ -125,7 +124,7 @@ among_is M [] [] are pid x there of = refl
 among_is M [] (p ∷ ps) are pid x there of = absurd are
 among_is M (c ∷ cs) [] are pid x there of = absurd are
 among_is M (c ∷ cs) (p ∷ ps) are pid x there of =
-    ap (λ b. b || list_any (λ p. same_pid p pid) ps) (one_of M c p pid x are.0 are.1 there of) ∙ ap (λ b. (c.serial == pid.serial) || b) (among_is M cs ps are.2 pid x there of)
+    ap (λ b. b || list_any (λ p. same_pid p pid) ps) (one_of M c p pid x are.0 are.1 there of) ∙ ap (λ b. (c.serial == pid.serial) || b) (among_is M cs ps are.3 pid x there of)
 
 -- what an owner changed it sees alike, whatever is committed
 pub seen_alike : (M N : Catalog) (owner : Owner) (s : ℕ) → has_changed owner s ≡ true → get (view N owner) s ≡ get (view M owner) s
@@ -219,17 +218,21 @@ module _ (k : Kept) (old new : Parts) (n : OwnerNo) (pids : List Pid) (may : Set
 
 -- ---- tests of entries on committed bodies
 
-and_true : (b : Bool) → (b && true) ≡ b
+pub and_true : (b : Bool) → (b && true) ≡ b
 and_true true = refl
 and_true false = refl
 
-none_any : (f : Pid → Bool) (ps : List Pid) → list_any (λ p. f p && false) ps ≡ false
+pub none_any : (f : Pid → Bool) (ps : List Pid) → list_any (λ p. f p && false) ps ≡ false
 none_any f [] = refl
 none_any f (p ∷ ps) = ap (λ b. b || list_any (λ p. f p && false) ps) (and_false (f p)) ∙ none_any f ps
 
+-- an entry on a body, in this view or another
+pub on_view_of : (w : View) (pids : List Pid) (x : Slot) (e : Entry) (v : View) → e.view ≡ Some v → on_bodies w pids x e ≡ list_any (λ p. same_pid p e.pid && same_view w v) pids
+on_view_of w pids x e v on = ap (λ o. list_any (λ p. given (option_map (body e.pid) o) false (same_body (body p w))) pids) on
+
 module _ (pids : List Pid) (x : Slot) (e : Entry) where
   on_view : (v : View) → e.view ≡ Some v → on_committed pids x e ≡ list_any (λ p. same_pid p e.pid && same_view Committed v) pids
-  on_view v on = ap (λ o. list_any (λ p. given (option_map (body e.pid) o) false (same_body (body p Committed))) pids) on
+  on_view = on_view_of Committed pids x e
 
   pub on_committed_is : e.view ≡ Some Committed → on_committed pids x e ≡ list_any (λ p. same_pid p e.pid) pids
   on_committed_is on = on_view Committed on ∙ (λ i. list_any (λ p. and_true (same_pid p e.pid) i) pids)

@@ -1,17 +1,16 @@
 -- An entry that stands on a body already stays there.
 use Rattle.std.proofs.Common.{◌≡◌, ℕ, ◌==◌, Bool, true, false, cond, Option, Some, None, IsSome, refl, sym, ap, ◌∙◌, subst, inl, inr}
-use Rattle.std.specs.Prelude.{◌⊎◌, unwrap_or, if◌then◌else◌}
+use Rattle.std.specs.Prelude.{◌⊎◌, if◌then◌else◌}
 use Rattle.std.specs.Option.{option_map}
 use Rattle.std.specs.FinMap.{get, insert}
 use Rattle.std.proofs.lemmas.Bool.{eq-eqb}
 use Rattle.pss_base.specs.declared.session.SessionNo.{SessionNo}
 use Rattle.type_layout.specs.Schemas.{given}
-use Rattle.pss_machine.specs.Maps.{with_at}
-use Rattle.pss_machine.specs.Copies.{Entry as PlainEntry, Copies, AllCopies, no_copies, entry_numbered, at_entry, with_stand, is_attached, stand_in, attached}
+use Rattle.pss_machine.specs.Copies.{Entry as PlainEntry, entry_numbered, at_entry, with_stand, is_attached, stand_in, attached}
 use Rattle.pss_machine.specs.Kept.{Kept, copies_of}
 use Rattle.pss_machine.specs.Moving.{seen_in}
 use Rattle.pss_machine.proofs.Maps.{same_or_apart}
-use Rattle.pss_machine.proofs.Logic.{none_some, same_some}
+use Rattle.pss_machine.proofs.Logic.{none_some}
 use Rattle.incarnations.specs.declared.names.Entry.{Entry}
 use Rattle.incarnations.specs.Meaning.{AreCopies, entry_at}
 use Rattle.pss_copies.specs.declared.parts.Parts.{Parts}

@@ -1,28 +1,27 @@
 -- What a set leaves of entries and bodies.
-use Rattle.std.proofs.Common.{◌≡◌, ℕ, ◌==◌, ◌&&◌, Bool, true, false, not, cond, List, [], ◌∷◌, Option, Some, None, refl, sym, ap, ◌∙◌, subst, inl, inr}
-use Rattle.std.specs.Prelude.{◌⊎◌, ◌||◌, is_some, if◌then◌else◌}
+use Rattle.std.proofs.Common.{◌≡◌, ℕ, ◌==◌, ◌&&◌, Bool, true, false, not, List, Option, Some, None, refl, sym, ap, ◌∙◌, subst, inl, inr}
+use Rattle.std.specs.Prelude.{◌⊎◌, is_some, if◌then◌else◌}
 use Rattle.std.specs.Option.{option_map}
 use Rattle.std.specs.FinMap.{get, insert}
-use Rattle.std.proofs.lemmas.Bool.{eqb-true, eq-eqb}
+use Rattle.std.proofs.lemmas.Bool.{eq-eqb}
 use Rattle.pss_base.specs.declared.pid.Pid.{Pid}
 use Rattle.pss_base.specs.declared.owner.OwnerNo.{OwnerNo}
 use Rattle.pss_base.specs.declared.session.SessionNo.{SessionNo}
 use Rattle.type_layout.specs.Types.{PlainValue}
 use Rattle.type_layout.specs.Schemas.{given}
-use Rattle.pss_catalog.specs.Catalog.{Object, Catalog}
 use Rattle.pss_machine.specs.declared.session.View.{View}
 use Rattle.pss_machine.specs.declared.session.View.TheVariants.{Committed, Own, Kept as InCopy}
-use Rattle.pss_machine.specs.Operations.{PlainOp, Set, PlainAnswer, Done}
+use Rattle.pss_machine.specs.Operations.{Done}
 use Rattle.pss_machine.specs.Same.{same_pid}
-use Rattle.pss_machine.specs.Owners.{Owner, Owners, Step, view}
-use Rattle.pss_machine.specs.Sessions.{Session, Sessions, is_basic, owner_of, is_owner}
-use Rattle.pss_machine.specs.Copies.{Copied, Loose, Copies, AllCopies, values_at, is_changed_by, unchanged_in, view_in, body_in, same_view, detached, entry_numbered}
+use Rattle.pss_machine.specs.Owners.{Owners, Step, view}
+use Rattle.pss_machine.specs.Sessions.{Session, is_basic, owner_of, is_owner}
+use Rattle.pss_machine.specs.Copies.{Copied, Loose, AllCopies, values_at, is_changed_by, unchanged_in, view_in, body_in, same_view, detached}
 use Rattle.pss_machine.specs.Kept.{Kept}
 use Rattle.pss_machine.specs.Moving.{owners_after, is_outdated}
 use Rattle.pss_machine.proofs.Logic.{none_some, same_some, true_false}
 use Rattle.pss_laws.proofs.Footprint.{object_there}
 use Rattle.pss_laws.proofs.Living.{home_of_it}
-use Rattle.pss_session.specs.Meaning.{Meaning as Standing, session_at, belongs_to, of_sessions, is_unchanged, on_unchanged}
+use Rattle.pss_session.specs.Meaning.{Meaning as Standing, belongs_to, of_sessions, is_unchanged, on_unchanged}
 use Rattle.incarnations.specs.declared.names.Slot.{Slot}
 use Rattle.incarnations.specs.declared.names.BodyName.{BodyName}
 use Rattle.incarnations.specs.declared.names.Entry.{Entry}
@@ -30,10 +29,10 @@ use Rattle.incarnations.specs.Meaning.{Meaning, AreCopies, Leaves, loosened, bot
 use Rattle.incarnations.proofs.Keys.{body_key, pid_self}
 use Rattle.incarnations.proofs.Maps as maps
 use Rattle.pss_copies.specs.declared.parts.Parts.{Parts}
-use Rattle.pss_copies.specs.Told.{stand_told, entry_told, IsTold, AreTold}
-use Rattle.pss_copies.specs.Seats.{IsSeat, AreSeated, OwnerSees, AreValued, Attends}
+use Rattle.pss_copies.specs.Told.{stand_told, entry_told, AreTold}
+use Rattle.pss_copies.specs.Seats.{OwnerSees, Attends}
 use Rattle.pss_copies.specs.Ruled.{HomesAgree}
-use Rattle.pss_copies.specs.Stepped.{left_by, ChangesAt, SetsAt}
+use Rattle.pss_copies.specs.Stepped.{left_by, SetsAt}
 use Rattle.pss_copies.proofs.Associated.{eq_back}
 use Rattle.pss_copies.proofs.Left.{kept_entry, old_body, told_left}
 use Rattle.pss_copies.proofs.Outdated.{values_there, p_home, seat_after, sees_after, sees_it}

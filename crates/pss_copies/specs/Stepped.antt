@@ -6,7 +6,7 @@ use Rattle.pss_base.specs.declared.owner.OwnerNo.{OwnerNo}
 use Rattle.pss_base.specs.declared.session.SessionNo.{SessionNo}
 use Rattle.type_layout.specs.Types.{PlainValue}
 use Rattle.pss_catalog.specs.Catalog.{Object}
-use Rattle.pss_machine.specs.Operations.{PlainOp, Set, Destroy, Done}
+use Rattle.pss_machine.specs.Operations.{Set, Destroy, Done}
 use Rattle.pss_machine.specs.Alone.{object_of}
 use Rattle.pss_machine.specs.Owners.{Owner, Step, view}
 use Rattle.pss_machine.specs.Sessions.{Session, owner_of}

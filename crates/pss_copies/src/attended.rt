@@ -17,7 +17,7 @@ ghost use Rattle.pss_machine.specs.Kept.{Kept, first_kept, is_transaction, copie
 ghost use Rattle.pss_machine.specs.Effects.{Associates, Holds, Commits, Flushes};
 ghost use Rattle.pss_machine.specs.Moving.{moved, with_owner, without_owner, with_session, without_session, ended, without_transaction_of};
 ghost use Rattle.pss_session.specs.Meaning.{session_at, number_named, MayStart};
-ghost use Rattle.incarnations.specs.Meaning.{length_of, entry_at, body, HasNoEntry};
+ghost use Rattle.incarnations.specs.Meaning.{length_of, attached_of, entry_at, body, HasNoEntry};
 ghost use Rattle.incarnations.specs.declared.names.Entry.{Entry};
 ghost use Rattle.pss_copies.specs.Seats.{Attends, IsShared, IsRecordIn, seated_at, IsObtainedIn};
 ghost use Rattle.pss_machine.specs.Entries.{AreOrderly};
@@ -29,7 +29,7 @@ ghost use Rattle.pss_base.specs.declared.owner.OwnerNo.{OwnerNo as OwnerNumber};
 ghost use Rattle.pss_base.specs.declared.session.SessionNo.{SessionNo as SessionNumber};
 
 use crate::parts::Parts;
-use crate::settling::detach_committed;
+use crate::settling::{detach_bodies, detach_changed};
 use incarnations::Incarnations;
 use pss_base::{Bytes, NoMemory, OwnerNo, Pid, SessionNo, Steps};
 use pss_machine::{Access, Kind, View};
@@ -164,11 +164,11 @@ impl Attended {
     }
 
     /// A session that is active or suspended is ending with its transaction, and its entries stand on no body. It takes no
-    /// memory, and at most two steps for each entry of the session, and one.
+    /// memory, and at most two steps for each entry of the session that stands on a body, and one.
     pub fn end<L: Ledger>(&mut self, session: SessionNo, steps: &mut Steps<L>)
         requires { IsSomeAnd (session_at self.old.sessions session) (λ x. IsSome (open_in x.association)) }
         ensures ended { IsSomeAnd (session_at self.old.sessions session) (λ x. IsSomeAnd (open_in x.association) (λ n. (k : Kept) (failed : Bool) → Attends k self.old → Attends (ended k session n failed) self.new)) }
-        ensures steps { steps.new ≤ steps.old + (2 * length_of self.old.copies session + 1) }
+        ensures steps { steps.new ≤ steps.old + (2 * attached_of self.old.copies session + 1) }
     {
         let parts = &mut self.parts;
         parts.copies.copies_hold();
@@ -224,11 +224,11 @@ impl Attended {
     }
 
     /// The entries of a basic session that stand on its own copies stand on no body. It takes no memory, and at most two
-    /// steps for each entry of the session, and one.
+    /// steps for each entry of the session that stands on a body, and one.
     pub fn refresh<L: Ledger>(&mut self, session: SessionNo, steps: &mut Steps<L>)
         requires { IsSomeAnd (session_at self.old.sessions session) (λ x. IsTrue (is_basic x)) }
         ensures refreshed { (k : Kept) (x : Session) → get k.sessions session.0 ≡ Some x → IsSome (get k.copies session.0) → Attends k self.old → Attends (moved k (Holds session (refreshed k session x))) self.new }
-        ensures steps { steps.new ≤ steps.old + (2 * length_of self.old.copies session + 1) }
+        ensures steps { steps.new ≤ steps.old + (2 * attached_of self.old.copies session + 1) }
     {
         let parts = &mut self.parts;
         parts.copies.copies_hold();
@@ -333,27 +333,29 @@ impl Attended {
     {
         let kept = &mut self.parts;
         kept.copies.copies_hold();
-        detach_committed(&mut kept.copies, pids, steps);
+        detach_bodies(&mut kept.copies, pids, View::Committed, steps);
         kept.copies.copies_hold();
         kept.sessions.finish(&mut kept.copies, owner, steps);
         kept.copies.copies_hold();
     }
 
     /// A basic session commits what it changed of these objects, and goes on: no entry stands on the committed body of one of
-    /// them, nor on a body that is the session's own for a change. It takes no memory, and looks at each entry of the session.
+    /// them, nor on a body that is the session's own for a change. It has changed so many objects: where these are as many, no
+    /// entry on another body is looked at, else each of the session that stands on a body. It takes no memory.
     pub fn flush<L: Ledger>(
         &mut self,
         session: SessionNo,
         owner: OwnerNo,
         pids: &[Pid],
+        changed: u32,
         steps: &mut Steps<L>,
     )
-        ensures { (k : Kept) → MayFlush k session owner pids.now → Attends k self.old → Attends (moved k (Flushes owner)) self.new }
+        ensures { (k : Kept) → MayFlush k session owner pids.now changed → Attends k self.old → Attends (moved k (Flushes owner)) self.new }
     {
         let copies = &mut self.parts.copies;
         copies.copies_hold();
-        detach_committed(copies, pids, steps);
-        copies.detach_view(session, View::Own(owner), steps);
+        detach_bodies(copies, pids, View::Committed, steps);
+        detach_changed(copies, session, owner, pids, changed, steps);
         copies.copies_hold();
     }
 

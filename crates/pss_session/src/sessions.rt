@@ -1,7 +1,7 @@
 // Sessions, as callers see them.
 ghost use Rattle.std.specs.Prelude.{◌≡◌, ◌+◌, ◌*◌, ◌^◌, ◌<◌, ◌≤◌, None, IsSome, IsSomeAnd, IfSome, MatchOption, IfOk, OnOk, OnErr, IsTrue};
 ghost use Rattle.std.specs.FinMap as map;
-ghost use Rattle.incarnations.specs.Meaning.{opened as with_copies, Leaves, loosened, freed, of_session, in_view, both, length_of};
+ghost use Rattle.incarnations.specs.Meaning.{opened as with_copies, Leaves, loosened, freed, of_session, in_view, both, length_of, attached_of};
 ghost use Rattle.pss_machine.specs.declared.session.Association.TheVariants as association;
 ghost use Rattle.pss_machine.specs.declared.session.View.TheVariants.{Kept};
 ghost use Rattle.pss_machine.specs.Sessions.{is_basic, active_in, open_in};
@@ -259,7 +259,7 @@ impl Sessions {
     }
 
     /// A session that is active or suspended is ending with its transaction, and its entries stand on no body. It takes no
-    /// memory, and at most two steps for each entry of the session, and one.
+    /// memory, and at most two steps for each entry of the session that stands on a body, and one.
     pub fn end<L: Ledger>(
         &mut self,
         copies: &mut Incarnations,
@@ -272,7 +272,7 @@ impl Sessions {
         ensures lasts { copies.new.lasts ≡ copies.old.lasts }
         ensures left { Leaves (loosened (of_session session)) copies.old copies.new }
         ensures have { HaveSessions self.new copies.new }
-        ensures steps { steps.new ≤ steps.old + (2 * length_of copies.old session + 1) }
+        ensures steps { steps.new ≤ steps.old + (2 * attached_of copies.old session + 1) }
     {
         let Some(owner) = self.record(session).open_in() else {
             unreachable!()
@@ -300,7 +300,7 @@ impl Sessions {
     }
 
     /// The entries of a basic session that stand on its own copies stand on no body. It takes no memory, and at most two
-    /// steps for each entry of the session, and one.
+    /// steps for each entry of the session that stands on a body, and one.
     pub fn refresh<L: Ledger>(
         &self,
         copies: &mut Incarnations,
@@ -312,7 +312,7 @@ impl Sessions {
         ensures lasts { copies.new.lasts ≡ copies.old.lasts }
         ensures left { Leaves (loosened (both (of_session session) (in_view (Kept session)))) copies.old copies.new }
         ensures have { HaveSessions self.now copies.new }
-        ensures steps { steps.new ≤ steps.old + (2 * length_of copies.old session + 1) }
+        ensures steps { steps.new ≤ steps.old + (2 * attached_of copies.old session + 1) }
     {
         copies.detach_view(session, View::Kept(session), steps);
     }

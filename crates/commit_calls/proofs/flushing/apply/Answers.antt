@@ -15,5 +15,6 @@ empty-requires g c =
 pub returns-clause-flushed : goal.returns-clause-flushed
 returns-clause-flushed g c k stands ready may = record {
   accounts = c.empty.ensures c.args.parts.now.schema (settled k c.args.owner) (c.commit.ensures c.args.parts.now.schema k c.args.owner stands.accounts ready.commit);
-  attended = c.flush.ensures k (subst (λ (l : List Pid). MayFlush k c.args.session c.args.owner l) (sym c.as_slice.ensures) (flush_settles c.args.parts.now k c.args.owner c.args.ready ready c.args.session may)) stands.attended;
+  attended = c.flush.ensures k (subst (λ (l : List Pid). MayFlush k c.args.session c.args.owner l c.changed_count-changed.result) (sym c.as_slice.ensures)
+      (flush_settles c.args.parts.now k c.args.owner c.args.ready ready c.args.session c.changed_count-changed.result (c.changed_count-changed.ensures c.args.parts.now.schema k ready.owner stands.accounts ready.there) may)) stands.attended;
 }

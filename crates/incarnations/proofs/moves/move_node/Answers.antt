@@ -1,3 +1,4 @@
+use Rattle.incarnations.specs.Stock.{Last}
 use Rattle.incarnations.proofs.Moved.{row_left, col_left, moved}
 use Rattle.incarnations.proofs.moves.move_node.Goals as goal
 
@@ -9,5 +10,5 @@ insert_reserved-requires-clause-col c = col_left c.args.pool.now c.unlink_uncoun
 
 pub returns-clause-moved : goal.returns-clause-moved
 returns-clause-moved c =
-    moved c.args.pool.now c.unlink_uncounted-slot.new.self c.args.node c.unlink_uncounted-slot.ensures.unlinked c.requires.node c.unlink_uncounted-slot.ensures.rings c.insert_reserved.new.self c.args.row c.col_of-col.result c.unlink_uncounted-slot.result c.insert_reserved.result c.col_of-col.ensures
+    moved c.args.pool.now c.unlink_uncounted-slot.new.self c.args.node c.unlink_uncounted-slot.ensures.unlinked c.requires.node Last c.unlink_uncounted-slot.ensures.rings c.insert_reserved.new.self c.args.row c.col_of-col.result c.unlink_uncounted-slot.result c.insert_reserved.result c.col_of-col.ensures
     c.unlink_uncounted-slot.ensures.item c.insert_reserved.ensures.new c.insert_reserved.ensures.inserted

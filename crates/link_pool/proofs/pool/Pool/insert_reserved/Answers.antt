@@ -1,12 +1,11 @@
-use Rattle.std.proofs.Common.{◌<◌, sym, ap, ◌∙◌, subst}
+use Rattle.std.proofs.Common.{sym, ap, ◌∙◌}
 use Rattle.std.specs.FinMap as map
 use Rattle.link_pool.specs.Names.{node_named}
-use Rattle.link_pool.specs.Meaning.{inserted}
 use Rattle.link_pool.specs.Cells.{seat_of}
 use Rattle.link_pool.proofs.Sound.{get-nodes}
 use Rattle.link_pool.proofs.Settled.{rings_hold}
 use Rattle.link_pool.proofs.Told.{row_found, col_found}
-use Rattle.link_pool.proofs.Whole.{inserted_whole, inserted_meaning}
+use Rattle.link_pool.proofs.Whole.{came_behind}
 use Rattle.link_pool.proofs.pool.Pool.insert_reserved.Goals as goal
 
 pub add_last-number-requires-clause-row : goal.add_last-number-requires-clause-row
@@ -18,9 +17,10 @@ add_last-number-requires-clause-col g c = col_found c.self.inside.cells c.self.i
 pub invariant_of-self : goal.invariant_of-self
 invariant_of-self g c =
     let t = c.add_last-number.ensures in
-    inserted_whole c.self.inside.cells c.add_last-number.new.cells c.self.inside.promised c.self.invariant t.capacity (node_named c.add_last-number.result) (record { row = c.args.row; col = c.args.col; item = c.args.item })
-    (row_found c.self.inside.cells c.self.inside.promised c.args.self.now c.self.view_is c.args.row c.requires.row) (col_found c.self.inside.cells c.self.inside.promised c.args.self.now c.self.view_is c.args.col c.requires.col) t.vacant t.rows t.cols t.len
-    (subst (λ m. 0 < m.room) (sym c.self.view_is) c.requires.room)
+    let came =
+    came_behind c.self.inside.cells c.add_last-number.new.cells c.self.inside.promised c.self.invariant c.args.self.now c.self.view_is (node_named c.add_last-number.result) (record { row = c.args.row; col = c.args.col; item = c.args.item }) c.requires.row c.requires.col
+    c.requires.room t.vacant t.len t.capacity t.rows t.cols in
+    came.0
 
 pub returns-clause-new : goal.returns-clause-new
 returns-clause-new g c = ap (λ m. map.get m.nodes (node_named c.add_last-number.result)) (sym c.self.view_is) ∙ get-nodes c.self.inside.cells (node_named c.add_last-number.result) ∙ ap seat_of c.add_last-number.ensures.vacant
@@ -28,10 +28,10 @@ returns-clause-new g c = ap (λ m. map.get m.nodes (node_named c.add_last-number
 pub returns-clause-inserted : goal.returns-clause-inserted
 returns-clause-inserted g c =
     let t = c.add_last-number.ensures in
-    inserted_meaning c.self.inside.cells c.add_last-number.new.cells c.self.inside.promised c.self.invariant t.capacity (node_named c.add_last-number.result) (record { row = c.args.row; col = c.args.col; item = c.args.item })
-    (row_found c.self.inside.cells c.self.inside.promised c.args.self.now c.self.view_is c.args.row c.requires.row) (col_found c.self.inside.cells c.self.inside.promised c.args.self.now c.self.view_is c.args.col c.requires.col) t.vacant t.rows t.cols t.len
-    (subst (λ m. 0 < m.room) (sym c.self.view_is) c.requires.room)
-    ∙ ap (λ m. inserted m (node_named c.add_last-number.result) (record { row = c.args.row; col = c.args.col; item = c.args.item })) c.self.view_is
+    let came =
+    came_behind c.self.inside.cells c.add_last-number.new.cells c.self.inside.promised c.self.invariant c.args.self.now c.self.view_is (node_named c.add_last-number.result) (record { row = c.args.row; col = c.args.col; item = c.args.item }) c.requires.row c.requires.col
+    c.requires.room t.vacant t.len t.capacity t.rows t.cols in
+    came.1
 
 pub returns-clause-rings : goal.returns-clause-rings
 returns-clause-rings g c = let w = invariant_of-self g c in rings_hold c.add_last-number.new.cells c.self.inside.promised w.sound

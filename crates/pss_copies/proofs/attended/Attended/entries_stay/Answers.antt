@@ -3,7 +3,7 @@ use Rattle.pss_machine.specs.Moving.{with_owner, without_owner}
 use Rattle.pss_copies.specs.Seats.{Attends, seated_at}
 use Rattle.pss_copies.proofs.Staying.{attached_stays}
 use Rattle.pss_copies.specs.Stepped.{left_by}
-use Rattle.pss_copies.proofs.Quiet.{quiet_attends, attends_alike}
+use Rattle.pss_copies.proofs.Quiet.{quiet_attends}
 use Rattle.pss_copies.proofs.Fresh.{fresh_attends}
 use Rattle.pss_copies.proofs.Associated.{comes_attends, goes_attends}
 use Rattle.pss_copies.proofs.attended.Attended.entries_stay.Goals as goal

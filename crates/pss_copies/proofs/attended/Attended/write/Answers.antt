@@ -1,5 +1,4 @@
 use Rattle.std.proofs.Common.{refl, subst, sym}
-use Rattle.pss_session.proofs.Having.{have_lasts}
 use Rattle.pss_copies.specs.Seats.{Attends}
 use Rattle.pss_copies.proofs.Written.{set_attends}
 use Rattle.pss_copies.proofs.attended.Attended.write.Goals as goal

@@ -1,0 +1,14 @@
+use Rattle.incarnations.specs.Stock.{First}
+use Rattle.incarnations.proofs.Moved.{row_left, col_left, moved}
+use Rattle.incarnations.proofs.moves.move_ahead.Goals as goal
+
+pub insert_ahead_reserved-requires-clause-row : goal.insert_ahead_reserved-requires-clause-row
+insert_ahead_reserved-requires-clause-row c = row_left c.args.pool.now c.unlink_uncounted-slot.new.self c.args.node c.unlink_uncounted-slot.ensures.unlinked c.requires.node c.args.row c.requires.row
+
+pub insert_ahead_reserved-requires-clause-col : goal.insert_ahead_reserved-requires-clause-col
+insert_ahead_reserved-requires-clause-col c = col_left c.args.pool.now c.unlink_uncounted-slot.new.self c.args.node c.unlink_uncounted-slot.ensures.unlinked c.requires.node c.rings_hold.ensures.rings c.col_of-col.result c.col_of-col.ensures
+
+pub returns-clause-moved : goal.returns-clause-moved
+returns-clause-moved c =
+    moved c.args.pool.now c.unlink_uncounted-slot.new.self c.args.node c.unlink_uncounted-slot.ensures.unlinked c.requires.node First c.unlink_uncounted-slot.ensures.rings c.insert_ahead_reserved.new.self c.args.row c.col_of-col.result c.unlink_uncounted-slot.result c.insert_ahead_reserved.result c.col_of-col.ensures
+    c.unlink_uncounted-slot.ensures.item c.insert_ahead_reserved.ensures.new c.insert_ahead_reserved.ensures.inserted

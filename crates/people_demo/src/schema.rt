@@ -10,7 +10,7 @@ use std::alloc::Global;
 use std::rc::Rc;
 use type_layout::{
     DeclaredFactories, DeclaredFactory, Factories, HeldFactories, Home, HomeList, HomeNo, HomeNos,
-    Indexes, Key, KeyList, KeyNo, KeyNos, Layout, Member, MemberNames, Members, Names, Provided,
+    Indexes, Key, KeyList, KeyNo, KeyNos, Layout, Member, Members, Names, PlacedNames, Provided,
     ProvidedList, Schema, Ty,
 };
 
@@ -93,12 +93,12 @@ fn given_names(alloc: Global) -> Result<Names, NoMemory>
     Ok(names)
 }
 
-fn member_names(alloc: Global) -> Result<MemberNames, NoMemory>
+fn member_names(alloc: Global) -> Result<PlacedNames, NoMemory>
     ensures { IfOk result (λ made. made ≡ plain.ssn.name ∷ plain.name.name ∷ plain.boss.name ∷ []) }
 {
     let mut names = given_names(alloc)?;
     names.push(named(alloc, b"boss")?)?;
-    MemberNames::new(alloc, names)
+    PlacedNames::new(alloc, names)
 }
 
 fn make(alloc: Global) -> Result<DeclaredFactory, NoMemory>

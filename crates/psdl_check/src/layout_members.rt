@@ -17,7 +17,7 @@ use crate::referents::Referents;
 use psdl_standings::{TextLength, Types};
 use pss_base::NoMemory;
 use std::alloc::Global;
-use type_layout::{HomeNo, HomeNos, Member, MemberNames, Members, Names, Ty};
+use type_layout::{HomeNo, HomeNos, Member, Members, Names, PlacedNames, Ty};
 
 // How long the text of a member's type is.
 fn type_length(types: &Types<'_>, referents: &Referents, member_type: MemberType) -> TextLength
@@ -152,9 +152,9 @@ fn names_of(alloc: Global, members: &[TypedMember<'_>]) -> Result<Names, NoMemor
 pub(crate) fn member_names(
     alloc: Global,
     members: &[TypedMember<'_>],
-) -> Result<MemberNames, NoMemory>
+) -> Result<PlacedNames, NoMemory>
     ensures { IfOk result (λ names. names ≡ typed_names members.now) }
 {
     let names = names_of(alloc, members)?;
-    MemberNames::new(alloc, names)
+    PlacedNames::new(alloc, names)
 }

@@ -12,7 +12,7 @@ use psdl_tree::{Identifier, Identifiers};
 use pss_base::NoMemory;
 use std::alloc::Global;
 use std::marker::Model;
-use type_layout::{Field, Fields, Names, Ty};
+use type_layout::{Field, Fields, Names, PlacedNames, Ty};
 
 /// A field of a struct: its name, and the number of its type.
 #[derive(Clone, Copy)]
@@ -288,7 +288,7 @@ impl<'a> Types<'a> {
                 Ok(Ty::Arr(Box::new(alloc, item)?, count))
             }
             Node::Struct(fields) => Ok(Ty::Struct(self.build_fields(alloc, number, fields)?)),
-            Node::Enumeration(enumerators) => Ok(Ty::Enum(names_of(alloc, *enumerators)?)),
+            Node::Enumeration(enumerators) => Ok(Ty::Enum(enumerators_of(alloc, *enumerators)?)),
         }
     }
 
@@ -340,4 +340,12 @@ fn names_of(alloc: Global, enumerators: &Identifiers) -> Result<Names, NoMemory>
         add_name(&mut names, identifier)?;
     }
     Ok(names)
+}
+
+// The names of an enumeration, with their places.
+fn enumerators_of(alloc: Global, enumerators: &Identifiers) -> Result<PlacedNames, NoMemory>
+    ensures { IfOk result (λ names. names ≡ map (λ i. i.name) (all_identifiers (identifiers_view enumerators.now))) }
+{
+    let names = names_of(alloc, enumerators)?;
+    PlacedNames::new(alloc, names)
 }

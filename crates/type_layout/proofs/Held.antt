@@ -1,5 +1,5 @@
 -- The factories that a home holds.
-use Rattle.std.proofs.Common.{ℕ, ◌+◌, ◌≡◌, ◌<◌, List, [], ◌∷◌, ◌++◌, length, map, take, drop, find, get_or, Option, Some, None, Bool, true, false, cond, refl, sym, ap, ◌∙◌, ◌&&◌, ◌||◌, if◌then◌else◌, arith}
+use Rattle.std.proofs.Common.{ℕ, ◌+◌, ◌≡◌, ◌<◌, List, [], ◌∷◌, ◌++◌, length, map, take, drop, find, get_or, Option, Some, None, Bool, true, false, cond, refl, sym, ap, ◌∙◌, ◌||◌, if◌then◌else◌}
 use Rattle.std.specs.List.{flat_map, list_any}
 use Rattle.std.specs.Option.{option_or, option_map}
 use Rattle.std.specs.Str.{bytes_eq}

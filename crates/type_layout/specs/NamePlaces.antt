@@ -1,5 +1,5 @@
 -- The first place of each name of a list.
-use Rattle.std.specs.Prelude.{ℕ, ◌≡◌, List, Option, Some, None, cond}
+use Rattle.std.specs.Prelude.{ℕ, ◌≡◌, ◌≤◌, List, length, Option, Some, None, cond}
 use Rattle.std.specs.BTreeMap.{BTreeMap, get_by}
 use Rattle.std.specs.Cmp.Lexicographic.{slice_cmp}
 use Rattle.std.specs.List.{position_from}
@@ -12,6 +12,10 @@ use Rattle.std.specs.declared.vec.Vec.{Vec}
 abbrev pub place_among : List (List ℕ) → List ℕ → Option ℕ
 place_among names word = position_from (bytes_eq word) 0 names
 
+-- so many names are found by a walk
+abbrev pub few : ℕ
+few = 8
+
 module _ {Z : Type 0} where
   -- the place that a table has of a name
   abbrev pub place_in : BTreeMap (Vec ℕ Z) ℕ → List ℕ → Option ℕ
@@ -20,6 +24,11 @@ module _ {Z : Type 0} where
   -- the table has the first place of each of these names
   abbrev pub Finds : BTreeMap (Vec ℕ Z) ℕ → List (List ℕ) → Type 0
   Finds table names = (word : List ℕ) → place_in table word ≡ place_among names word
+
+  -- the table finds these names; with no table they are few, to be walked
+  abbrev pub MayFind : Option (BTreeMap (Vec ℕ Z) ℕ) → List (List ℕ) → Type 0
+  MayFind None names = length names ≤ few
+  MayFind (Some table) names = Finds table names
 
   -- a name has this place, unless it had one; all others keep theirs
   abbrev pub IsEntered : BTreeMap (Vec ℕ Z) ℕ → BTreeMap (Vec ℕ Z) ℕ → List ℕ → ℕ → Type 0

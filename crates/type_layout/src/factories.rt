@@ -6,10 +6,10 @@ ghost use Rattle.std.specs.Prelude.{◌≡◌, ◌++◌, [], map, find, IfOk, On
 ghost use Rattle.std.specs.Option.{option_map};
 ghost use Rattle.std.specs.Str.{bytes_eq};
 ghost use Rattle.type_layout.specs.Factories.{factories_held, numbers_among};
-ghost use Rattle.type_layout.specs.NamePlaces.{place_among, Finds};
+ghost use Rattle.type_layout.specs.NamePlaces.{Finds};
 
-use crate::name_places::{Places, enter, place_of, places_of};
-use crate::{Indexes, Names};
+use crate::name_places::{Places, enter, place_of};
+use crate::{Indexes, Names, PlacedNames};
 use pss_base::{Bytes, NoMemory};
 use std::alloc::Global;
 use std::collections::BTreeMap;
@@ -124,58 +124,23 @@ impl HeldFactories {
     }
 }
 
-/// The names of a home's members. Their places are found by them.
-#[derive(Drop)]
-pub struct MemberNames {
-    names: Names,
-    places: Places,
-}
-
-impl Model for MemberNames {
-    ghost use Rattle.std.specs.Prelude.{List, ℕ};
-    ghost use Rattle.type_layout.specs.NamePlaces.{Finds};
-
-    ghost Value = { List (List ℕ) };
-
-    ghost view = { λ m. m.names };
-
-    ghost invariant = { λ m. Finds m.places m.names };
-}
-
-impl MemberNames {
-    /// The names, with a table of their places.
-    pub fn new(alloc: Global, names: Names) -> Result<MemberNames, NoMemory>
-        ensures { IfOk result (λ m. m ≡ names) }
-    {
-        let places = places_of(alloc, names.as_slice())?;
-        Ok(MemberNames { names, places })
-    }
-
-    // The first place of a name.
-    fn place(&self, word: &[u8]) -> Option<u32>
-        ensures { result ≡ place_among self.now word.now }
-    {
-        place_of(&self.places, word)
-    }
-
-    // The numbers of the members with these names. A name that no member has is left out.
-    fn numbers(&self, alloc: Global, names: &[Bytes]) -> Result<Indexes, NoMemory>
-        ensures { IfOk result (λ numbers. numbers ≡ numbers_among self.now names.now) }
-    {
-        let mut numbers = Indexes::new(alloc);
-        for name in names {
-            if let Some(place) = self.place(name.as_slice()) {
-                numbers.push(place)?;
-            }
+// The numbers of the members with these names. A name that no member has is left out.
+fn numbers_of(alloc: Global, members: &PlacedNames, names: &[Bytes]) -> Result<Indexes, NoMemory>
+    ensures { IfOk result (λ numbers. numbers ≡ numbers_among members.now names.now) }
+{
+    let mut numbers = Indexes::new(alloc);
+    for name in names {
+        if let Some(place) = members.place(name.as_slice()) {
+            numbers.push(place)?;
         }
-        Ok(numbers)
     }
+    Ok(numbers)
 }
 
 /// The factories of a storage home.
 #[derive(Drop)]
 pub struct Factories {
-    members: MemberNames,
+    members: PlacedNames,
     held: HeldFactories,
 }
 
@@ -191,7 +156,7 @@ impl Model for Factories {
 
 impl Factories {
     /// The factories of a home with these members, by what it and others declare.
-    pub fn new(members: MemberNames, held: HeldFactories) -> Factories
+    pub fn new(members: PlacedNames, held: HeldFactories) -> Factories
         ensures { result ≡ factories_held members held }
     {
         Factories { members, held }
@@ -204,7 +169,7 @@ impl Factories {
         let Some(factory) = self.held.named(word) else {
             return Ok(None);
         };
-        let numbers = self.members.numbers(alloc, factory.members.as_slice())?;
+        let numbers = numbers_of(alloc, &self.members, factory.members.as_slice())?;
         Ok(Some(numbers))
     }
 }

@@ -1,12 +1,12 @@
 // Whether a value is of a type.
-ghost use Rattle.std.specs.Prelude.{◌≡◌, ◌↔◌, map, true, IsTrue, length};
-ghost use Rattle.type_layout.specs.Views.{plain_type, plain_field, plain_fields, plain_value};
+ghost use Rattle.std.specs.Prelude.{◌≡◌, ◌↔◌, map, true, IsTrue};
+ghost use Rattle.type_layout.specs.Views.{plain_type, plain_field, plain_value};
 ghost use Rattle.type_layout.specs.Types.{fields_of, values_of};
 ghost use Rattle.type_layout.specs.Values.{Of, IsRecord, layout_fields, is_over as passes_bound, has_zero as has_a_zero, are_bytes, lists as lists_home, count};
 ghost use Rattle.type_layout.specs.Members.{plain_member};
 ghost use Rattle.type_layout.specs.Testing as test;
 
-use crate::{Field, HomeNo, Layout, Member, Names, Record, Ty, Value};
+use crate::{Field, HomeNo, Layout, Member, PlacedNames, Record, Ty, Value};
 
 /// Whether a value is of a type: a number in its range, a text without a byte 0 and within its
 /// bound, a sequence within its bound, an array of exactly its number of elements, a struct of its
@@ -102,7 +102,7 @@ fn is_text(value: &Value, bound: u32) -> bool
     }
 }
 
-fn is_enumerator(value: &Value, names: &Names) -> bool
+fn is_enumerator(value: &Value, names: &PlacedNames) -> bool
     ensures { result ≡ test.is_enumerator names.now (plain_value value.now) }
 {
     match value {

@@ -2,7 +2,7 @@
 ghost use Rattle.std.specs.Prelude.{◌≡◌, ◌++◌, ◌∷◌, [], map, OnOk, OnErr};
 ghost use Rattle.type_layout.specs.Views.{plain_field, plain_fields};
 
-use crate::HomeNos;
+use crate::{HomeNos, PlacedNames};
 use pss_base::{Bytes, NoMemory};
 use std::alloc::Global;
 use std::marker::Model;
@@ -28,7 +28,7 @@ pub enum Ty {
     /// An array of exactly so many elements.
     Arr(Box<Ty>, u32),
     Struct(Fields),
-    Enum(Names),
+    Enum(PlacedNames),
     /// A reference to an object of one of these homes.
     Ref(HomeNos),
 }
@@ -74,7 +74,7 @@ impl Fields {
     }
 }
 
-/// Names, as an enum lists its enumerators.
+/// Names in order.
 #[derive(Drop)]
 pub struct Names {
     names: Vec<Bytes>,

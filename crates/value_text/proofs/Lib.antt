@@ -11,3 +11,4 @@ pub mod Standing
 pub mod PrintLaws
 pub mod LineReading
 pub mod ChosenReading
+pub mod Places

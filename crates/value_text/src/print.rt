@@ -13,7 +13,7 @@ ghost use Rattle.value_text.specs.Texts.{Spells};
 use itoa::Buffer;
 use pss_base::{Bytes, NoMemory, Pid, append_pid, hex_digit};
 use std::alloc::Global;
-use type_layout::{Field, Fields, Names, Ty, Value};
+use type_layout::{Field, Fields, PlacedNames, Ty, Value};
 
 /// The text of a value of the type: numbers without leading zeros, bytes from a space to `~` as they are,
 /// but the quote and `\` behind a `\`, and other bytes as `\x` and two digits with small letters. It is a
@@ -117,7 +117,7 @@ fn put_quoted(out: &mut Bytes, quote: u8, bytes: &[u8]) -> Result<(), NoMemory>
     Ok(())
 }
 
-fn put_name(out: &mut Bytes, names: &Names, ordinal: u32) -> Result<(), NoMemory>
+fn put_name(out: &mut Bytes, names: &PlacedNames, ordinal: u32) -> Result<(), NoMemory>
     requires { ordinal < length names.now }
     ensures { OnOk result (out.new ≡ out.old ++ unwrap_or (slice_get names.now ordinal) []) }
 {

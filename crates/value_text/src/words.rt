@@ -11,8 +11,8 @@ ghost use Rattle.value_text.specs.Reading.{Gives, is_part, word_at, number_in, t
 
 use crate::ValueFault;
 use crate::digits::{decimal_value, is_digit};
-use pss_base::{Bytes, is_blank, read_pid};
-use type_layout::{Names, Value};
+use pss_base::{is_blank, read_pid};
+use type_layout::{PlacedNames, Value};
 
 /// What was read, and the text behind it.
 pub(crate) type Read<'a, T> = Result<(T, &'a [u8]), ValueFault>;
@@ -115,24 +115,21 @@ pub(crate) fn truth_of(text: &[u8]) -> Read<'_, Value>
 
 // ---- enumerators
 
-fn place_of(names: &[Bytes], word: &[u8]) -> Option<usize>
+fn place_of(names: &PlacedNames, word: &[u8]) -> Option<u32>
     ensures { result ≡ position (λ name. bytes_eq name word.now) names.now }
 {
-    names.iter().position(|name| name.as_slice() == word)
+    names.place(word)
 }
 
-fn enumerator_in(names: &Names, word: &[u8]) -> Option<Value>
+fn enumerator_in(names: &PlacedNames, word: &[u8]) -> Option<Value>
     ensures { option_map plain_value result ≡ enumerator_in names.now word.now }
 {
-    let place = place_of(names.as_slice(), word)?;
-    if place > u32::MAX as usize {
-        return None;
-    }
-    Some(Value::Enum(place as u32))
+    let place = place_of(names, word)?;
+    Some(Value::Enum(place))
 }
 
 /// The enumerator of a name.
-pub(crate) fn enumerator_of<'a>(names: &Names, text: &'a [u8]) -> Read<'a, Value>
+pub(crate) fn enumerator_of<'a>(names: &PlacedNames, text: &'a [u8]) -> Read<'a, Value>
     ensures { Gives (λ x. (plain_value x.0, x.1.now)) result (word_at (enumerator_in names.now) text.now) }
 {
     let (word, rest) = word_of(text);

@@ -1,4 +1,4 @@
-use Rattle.std.proofs.Common.{List, ℕ, rules}
+use Rattle.std.proofs.Common.{rules}
 use Rattle.type_layout.specs.declared.factories.DeclaredFactory.{DeclaredFactory}
 use Rattle.type_layout.proofs.Named.{one_more}
 use Rattle.type_layout.proofs.factories.named_places.Goals as goal

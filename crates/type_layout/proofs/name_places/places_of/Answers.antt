@@ -1,4 +1,4 @@
-use Rattle.std.proofs.Common.{List, ℕ, rules}
+use Rattle.std.proofs.Common.{rules}
 use Rattle.type_layout.proofs.Named.{one_more_name}
 use Rattle.type_layout.proofs.name_places.places_of.Goals as goal
 

@@ -1,4 +1,4 @@
-use Rattle.std.proofs.Common.{◌≡◌, ◌∙◌, ℕ, List, Bor, map, Option, Some, None, sym, ap, rules}
+use Rattle.std.proofs.Common.{◌≡◌, ◌∙◌, List, Bor, map, Some, None, sym, ap, rules}
 use Rattle.std.specs.List.{slice_get}
 use Rattle.std.specs.Option.{option_map, option_and_then}
 use Rattle.std.specs.Str.{bytes_eq}

@@ -1,7 +1,6 @@
-use Rattle.std.proofs.Common.{◌≡◌, ◌∙◌, ℕ, List, find, Option, Some, None, sym, ap, rules}
+use Rattle.std.proofs.Common.{◌∙◌, ℕ, List, find, Some, None, ap, rules}
 use Rattle.std.specs.Option.{option_map}
 use Rattle.std.specs.Str.{bytes_eq}
-use Rattle.type_layout.specs.declared.factories.DeclaredFactory.{DeclaredFactory}
 use Rattle.type_layout.specs.declared.schema.Factory.{Factory}
 use Rattle.type_layout.proofs.Held.{members_held}
 use Rattle.type_layout.proofs.factories.Factories.members_of.Goals as goal

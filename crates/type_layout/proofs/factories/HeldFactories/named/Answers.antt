@@ -1,5 +1,4 @@
-use Rattle.std.proofs.Common.{◌≡◌, ◌∙◌, ℕ, List, find, Bool, sym, ap, rules}
-use Rattle.std.specs.List.{flat_map}
+use Rattle.std.proofs.Common.{◌∙◌, Bool, rules}
 use Rattle.std.specs.Str.{bytes_eq}
 use Rattle.type_layout.specs.declared.factories.DeclaredFactory.{DeclaredFactory}
 use Rattle.type_layout.proofs.Held.{found_here, not_here}

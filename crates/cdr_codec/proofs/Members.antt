@@ -15,7 +15,7 @@ use Rattle.type_layout.specs.Views.{plain_type}
 use Rattle.type_layout.specs.Members.{plain_member}
 use Rattle.type_layout.proofs.Lookups.{got_mapped}
 use Rattle.type_layout.specs.Values.{layout_fields}
-use Rattle.type_layout.specs.Schemas.{given, key_at, members_at}
+use Rattle.type_layout.specs.Schemas.{given, home_at, key_at, members_at}
 use Rattle.type_layout.specs.Sound.{IsSound, AreSound, IsSoundLayout, IsSoundSchema, IsKeyMember}
 use Rattle.type_layout.specs.Spelling.{padding, gap, record_spelling}
 use Rattle.type_layout.specs.Keys.{key_part, part_at, key_bytes}
@@ -233,30 +233,37 @@ key_read S sound k h bytes o s = subst (λ (ms : List PlainMember). flat_map (pa
     by_key None e = refl
     by_key (Some key) e = all_parts (members_at S key.home) s.home.layout.members (sound.layouts h s.home s.there) bytes o s.whole key.members (sound.key_types k key e h s.home s.there s.keyed)
 
--- ---- octets of a home that has the key
+-- ---- octets of a record of a home
 
 pub if_ok : {X E : Type 0} (r : Result X E) (P Q : X → Type 0) → ((x : X) → P x → Q x) → IfOk r P → IfOk r Q
 if_ok (Ok x) P Q weaker p = weaker x p
 if_ok (Err e) P Q weaker p = tt
 
-home_members : (S : Schema) (k : KeyNo) (h : HomeNo) (bytes : List ℕ) → (s : SpellsRecordWith S k h bytes) → members_at S h ≡ s.home.layout.members
-home_members S k h bytes s = ap (λ (x : Option Home). given x [] (λ home. home.layout.members)) s.there
+-- a home that is not there has no members
+layout_sound : (S : Schema) → IsSoundSchema S → (h : HomeNo) → IsSoundLayout (members_at S h)
+layout_sound S sound h = by_home (home_at S h) refl
+  where
+    by_home : (o : Option Home) → home_at S h ≡ o → IsSoundLayout (given o [] (λ home. home.layout.members))
+    by_home None at = λ i m e. absurd cc
+    by_home (Some home) at = sound.layouts h home at
 
-pub found_there : (S : Schema) → IsSoundSchema S → (k : KeyNo) (h : HomeNo) (bytes : List ℕ) → (s : SpellsRecordWith S k h bytes) → (ms : List PlainMember) → ms ≡ members_at S h → IsFound (fields_at (layout_fields ms) bytes 1)
-found_there S sound k h bytes s ms is =
-    let other = s.home.layout.members in
-    let read = fields_read other (sound.layouts h s.home s.there) bytes s.whole in
-    subst (λ (l : List PlainMember). IsFound (fields_at (layout_fields l) bytes 1)) (sym (is ∙ home_members S k h bytes s)) (to_found (fields_at (layout_fields other) bytes 1) (s.whole.values, length (record_spelling other s.whole.values)) read).0
+pub found_there : (S : Schema) → IsSoundSchema S → (h : HomeNo) (bytes : List ℕ) → SpellsRecord (members_at S h) bytes → (ms : List PlainMember) → ms ≡ members_at S h → IsFound (fields_at (layout_fields ms) bytes 1)
+found_there S sound h bytes s ms is =
+    let other = members_at S h in
+    let read = fields_read other (layout_sound S sound h) bytes s in
+    subst (λ (l : List PlainMember). IsFound (fields_at (layout_fields l) bytes 1)) (sym is) (to_found (fields_at (layout_fields other) bytes 1) (s.values, length (record_spelling other s.values)) read).0
 
-pub read_there : (S : Schema) → IsSoundSchema S → (k : KeyNo) (h : HomeNo) (bytes : List ℕ) → AreOctets bytes → (s : SpellsRecordWith S k h bytes) → (ms : List PlainMember) (places : List ℕ) → ms ≡ members_at S h → places ≡ places_of (layout_fields ms) bytes 1 → AreRead ms bytes places
-read_there S sound k h bytes o s ms places is at =
-    let there = is ∙ home_members S k h bytes s in
-    subst (AreRead ms bytes) (sym at) (subst (λ (l : List PlainMember). AreRead l bytes (places_of (layout_fields l) bytes 1)) (sym there) (are_read s.home.layout.members (sound.layouts h s.home s.there) bytes o s.whole))
+module _ (S : Schema) (sound : IsSoundSchema S) (k : KeyNo) (h : HomeNo) (bytes : List ℕ) (o : AreOctets bytes) (s : SpellsRecordWith S k h bytes) (ms : List PlainMember) (places : List ℕ) (is : ms ≡ members_at S h) (at : places ≡ places_of (layout_fields (members_at S h)) bytes 1) where
+  pub read_there : AreRead ms bytes places
+  read_there =
+      let there : ms ≡ s.home.layout.members = is ∙ ap (λ (x : Option Home). given x [] (λ home. home.layout.members)) s.there in
+      let same : places ≡ places_of (layout_fields ms) bytes 1 = at ∙ ap (λ (l : List PlainMember). places_of (layout_fields l) bytes 1) (sym is) in
+      subst (AreRead ms bytes) (sym same) (subst (λ (l : List PlainMember). AreRead l bytes (places_of (layout_fields l) bytes 1)) (sym there) (are_read s.home.layout.members (sound.layouts h s.home s.there) bytes o s.whole))
 
-pub key_there : (S : Schema) → IsSoundSchema S → (k : KeyNo) (h : HomeNo) (bytes : List ℕ) → AreOctets bytes → (s : SpellsRecordWith S k h bytes) → (ms : List PlainMember) (places indexes made : List ℕ) → ms ≡ members_at S h → places ≡ places_of (layout_fields ms) bytes 1 → indexes ≡ indexes_at S k → made ≡ flat_map (part_read ms bytes places) indexes → made ≡ key_bytes S k s.whole.values
-key_there S sound k h bytes o s ms places indexes made is at which so =
-    so ∙ ap (flat_map (part_read ms bytes places)) which ∙ ap (λ (l : List ℕ). flat_map (part_read ms bytes l) (indexes_at S k)) at
-    ∙ ap (λ (l : List PlainMember). flat_map (part_read l bytes (places_of (layout_fields l) bytes 1)) (indexes_at S k)) is ∙ key_read S sound k h bytes o s
+  pub key_there : (indexes made : List ℕ) → indexes ≡ indexes_at S k → made ≡ flat_map (part_read ms bytes places) indexes → made ≡ key_bytes S k s.whole.values
+  key_there indexes made which so =
+      so ∙ ap (flat_map (part_read ms bytes places)) which ∙ ap (λ (l : List ℕ). flat_map (part_read ms bytes l) (indexes_at S k)) at
+      ∙ ap (λ (l : List PlainMember). flat_map (part_read l bytes (places_of (layout_fields (members_at S h)) bytes 1)) (indexes_at S k)) is ∙ key_read S sound k h bytes o s
 
 -- ---- a member of octets
 

@@ -1,9 +1,9 @@
 -- Where what is read ends, by its kind.
 use Rattle.std.proofs.Common.{◌≡◌, ℕ, zero, suc, ◌+◌, ◌-◌, ◌<◌, ◌≤◌, Bool, true, false, cond, ltb, List, ◌∷◌, length, map, get_or, drop, Option, Some, None, Result, Ok, Err, refl, sym, ap, subst, ◌∙◌, arith}
-use Rattle.std.specs.Prelude.{◌==◌, slice_range, pos}
+use Rattle.std.specs.Prelude.{◌==◌, ◌*◌, slice_range, pos}
 use Rattle.std.specs.List.{position}
 use Rattle.std.specs.Int.{w16, w32, w64, cast_signed}
-use Rattle.std.proofs.lemmas.Bool.{ltb-false}
+use Rattle.std.proofs.lemmas.Bool.{ltb-false, ne_eqb}
 use Rattle.byteorder.specs.Endian.{big_number}
 use Rattle.pss_base.specs.declared.pid.Pid.{Pid}
 use Rattle.type_layout.specs.declared.home.HomeNo.{HomeNo}
@@ -22,7 +22,7 @@ use Rattle.cdr_codec.specs.declared.width.Width.TheVariants as width
 use Rattle.cdr_codec.specs.Primitives.{One, Two, Four, Eight, Primitive, Pad, Plain, Logical, Enumerator, TextLength, ItemCount, Home, Serial, width_of, refuses, fault_at, given}
 use Rattle.cdr_codec.specs.Reading.{◌>>=◌, Reader, plain_at, one_at, pads_at, found_at, judged_at, seen, letters_at, text_at, times_at, items_at, pid_of, pid_at, value_at, fields_at}
 use Rattle.cdr_codec.specs.Widths.{octets_in, number_width}
-use Rattle.cdr_codec.specs.Places.{IsFound, end_of, count_at, places_of}
+use Rattle.cdr_codec.specs.Places.{IsFound, end_of, behind_numbers, count_at, places_of}
 use Rattle.cdr_codec.proofs.Laws.{done, ok_is, bind_ok}
 use Rattle.cdr_codec.proofs.Types.{or_false, not_none}
 use Rattle.cdr_codec.proofs.Loop.{fields_drop, members_drop}
@@ -263,6 +263,44 @@ fields_first name t ts bytes at found = first_of_both (value_at t bytes at) (fie
 pub fields_over : (bytes : List ℕ) (at : ℕ) → end_of (fields_at no_fields bytes at) ≡ at
 unfolding fields_at
 fields_over bytes at = refl
+
+-- ---- numbers of one width
+
+some_numbers : (k n at : ℕ) → behind_numbers k (suc n) at ≡ at + gap k at + suc n * k
+some_numbers k n at = ap (λ (b : Bool). cond b at (at + gap k at + suc n * k)) (ne_eqb (suc n) 0 (λ e. absurd (omega (arith, e))))
+
+-- behind a number the next one of its width stands at once
+next_number : (w : Width) (n at : ℕ) → at + gap (octets_in w) at + octets_in w + gap (octets_in w) (at + gap (octets_in w) at + octets_in w) + suc n * octets_in w ≡ at + gap (octets_in w) at + suc (suc n) * octets_in w
+next_number width.One n at = omega arith
+next_number width.Two n at = (let next : gap 2 (at + gap 2 at + 2) ≡ 0 = omega arith in omega (arith, next))
+next_number width.Four n at = (let next : gap 4 (at + gap 4 at + 4) ≡ 0 = omega arith in omega (arith, next))
+next_number width.Eight n at = (let next : gap 8 (at + gap 8 at + 8) ≡ 0 = omega arith in omega (arith, next))
+
+one_more : (w : Width) (n at : ℕ) → behind_numbers (octets_in w) n (at + gap (octets_in w) at + octets_in w) ≡ behind_numbers (octets_in w) (suc n) at
+one_more w zero at = (let one : at + gap (octets_in w) at + octets_in w ≡ at + gap (octets_in w) at + 1 * octets_in w = omega arith in one ∙ sym (some_numbers (octets_in w) 0 at))
+one_more w (suc n) at = some_numbers (octets_in w) n (at + gap (octets_in w) at + octets_in w) ∙ next_number w n at ∙ sym (some_numbers (octets_in w) (suc n) at)
+
+short_gap : (w : Width) (at : ℕ) → gap (octets_in w) at ≤ 8
+short_gap width.One at = omega arith
+short_gap width.Two at = omega arith
+short_gap width.Four at = omega arith
+short_gap width.Eight at = omega arith
+
+-- none too have padding here
+pub numbers_fit : (w : Width) (n at size : ℕ) → at ≤ size → behind_numbers (octets_in w) n at ≤ size → at + gap (octets_in w) at + n * octets_in w ≤ size + 8
+numbers_fit w zero at size le within = (let short = short_gap w at in omega (arith, le, short))
+numbers_fit w (suc n) at size le within = (let some = some_numbers (octets_in w) n at in omega (arith, within, some))
+
+pub numbers_ends : (t : PlainType) (w : Width) → number_width t ≡ Some w → (n : ℕ) (bytes : List ℕ) (at : ℕ) → at ≤ length bytes → IsFound (times_at (value_at t) n bytes at)
+    → (end_of (times_at (value_at t) n bytes at) ≡ behind_numbers (octets_in w) n at) × (behind_numbers (octets_in w) n at ≤ length bytes)
+unfolding times_at
+numbers_ends t w e zero bytes at le found = (refl, le)
+numbers_ends t w e (suc n) bytes at le found =
+    let first = first_of_both (value_at t bytes at) (times_at (value_at t) n bytes) (times_at (value_at t) (suc n) bytes at) refl found in
+    let one = number_ends t w e bytes at first.found in
+    let later = numbers_ends t w e n bytes (at + gap (octets_in w) at + octets_in w) one.1 (subst (λ (k : ℕ). IsFound (times_at (value_at t) n bytes k)) one.0 first.later) in
+    let ends = sym first.ends ∙ ap (λ (k : ℕ). end_of (times_at (value_at t) n bytes k)) one.0 ∙ later.0 ∙ one_more w n at in
+    (ends, subst (λ (k : ℕ). k ≤ length bytes) (one_more w n at) later.1)
 
 -- ---- loops over fields and members
 

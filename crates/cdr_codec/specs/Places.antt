@@ -1,5 +1,5 @@
 -- Where values begin and end in octets that are known to have them.
-use Rattle.std.specs.Prelude.{ℕ, ◌≡◌, ◌+◌, ◌≤◌, List, [], ◌∷◌, length, drop, Result, Ok, Err, Some}
+use Rattle.std.specs.Prelude.{ℕ, ◌≡◌, ◌+◌, ◌*◌, ◌≤◌, ◌==◌, if◌then◌else◌, List, [], ◌∷◌, length, drop, Result, Ok, Err, Some}
 use Rattle.std.specs.List.{slice_get}
 use Rattle.byteorder.specs.Endian.{big_number}
 use Rattle.type_layout.specs.Types.{PlainType, PlainFields, no_fields, field_and, PlainValue, PlainMember}
@@ -21,6 +21,10 @@ IsFound (Err f) = ⊥
 abbrev pub end_of : {A : Type 0} → Result (A × ℕ) RecordFault → ℕ
 end_of (Ok x) = x.1
 end_of (Err f) = 0
+
+-- the place behind so many numbers of one width, of which the first alone has padding in front of it
+abbrev pub behind_numbers : ℕ → ℕ → ℕ → ℕ
+behind_numbers width n at = if n == 0 then at else at + gap width at + n * width
 
 -- the number in four octets at the next place that 4 divides
 abbrev pub count_at : List ℕ → ℕ → ℕ

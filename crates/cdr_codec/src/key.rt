@@ -1,43 +1,22 @@
-// The bytes of a key, from a record's octets.
+// The bytes of a key, from a record's octets and the places of its members.
 ghost use Rattle.std.specs.Prelude.{◌≡◌, ◌≤◌, ◌<◌, ◌+◌, ◌-◌, ◌++◌, length, map, drop, take, slice_range, Some, IfOk, OnOk};
 ghost use Rattle.std.specs.List.{flat_map};
 ghost use Rattle.std.specs.Int.{w32, to_be_bytes};
 ghost use Rattle.type_layout.specs.Views.{plain_type};
 ghost use Rattle.type_layout.specs.Members.{plain_member};
 ghost use Rattle.type_layout.specs.Spelling.{gap};
-ghost use Rattle.type_layout.specs.Keys.{key_bytes};
-ghost use Rattle.type_layout.specs.Sound.{IsSound, IsSoundSchema};
+ghost use Rattle.type_layout.specs.Sound.{IsSound};
 ghost use Rattle.cdr_codec.specs.Reading.{value_at};
 ghost use Rattle.cdr_codec.specs.Widths.{octets_in};
 ghost use Rattle.cdr_codec.specs.Places.{IsFound, count_at as counted, part_of, part_read, AreRead, indexes_at};
-ghost use Rattle.cdr_codec.specs.Spelled.{SpellsRecordWith};
 
-use crate::places::{count_at, places_of};
+use crate::places::count_at;
 use crate::width::{Width, width_of};
 use pss_base::{Bytes, NoMemory};
 use std::alloc::Global;
-use type_layout::{HomeNo, KeyNo, Member, Schema, Ty, members_at};
+use type_layout::{KeyNo, Member, Schema, Ty};
 
-/// The bytes of a key, from octets that spell a record of a home that has the key: those that `key_of`
-/// gives of the record. No value is made. It takes time in the octets, and memory in the number of
-/// members and in the bytes.
-pub fn key_of_octets(
-    alloc: Global,
-    schema: &Schema,
-    key: KeyNo,
-    home: HomeNo,
-    bytes: &[u8],
-) -> Result<Bytes, NoMemory>
-    requires sound { IsSoundSchema schema.now }
-    requires spelled { SpellsRecordWith schema.now key home bytes.now }
-    ensures { IfOk result (λ made. (s : SpellsRecordWith schema.now key home bytes.now) → made ≡ key_bytes schema.now key s.whole.values) }
-{
-    let members = members_at(schema, home);
-    let places = places_of(alloc, members, bytes, 1)?;
-    parts_of(alloc, members, bytes, &places, indexes_of(schema, key))
-}
-
-fn indexes_of(schema: &Schema, key: KeyNo) -> &[u32]
+pub(crate) fn indexes_of(schema: &Schema, key: KeyNo) -> &[u32]
     ensures { result.now ≡ indexes_at schema.now key }
 {
     match schema.keys.as_slice().get(key.0 as usize) {
@@ -46,7 +25,7 @@ fn indexes_of(schema: &Schema, key: KeyNo) -> &[u32]
     }
 }
 
-fn parts_of(
+pub(crate) fn parts_of(
     alloc: Global,
     members: &[Member],
     bytes: &[u8],

@@ -1,5 +1,5 @@
 // Where values begin and end in octets that are known to have them: nothing is tested, and nothing is made.
-ghost use Rattle.std.specs.Prelude.{◌≡◌, ◌≤◌, ◌<◌, ◌+◌, ◌^◌, length, map, drop, IfOk};
+ghost use Rattle.std.specs.Prelude.{◌≡◌, ◌≤◌, ◌<◌, ◌+◌, ◌*◌, ◌^◌, length, map, IfOk};
 ghost use Rattle.type_layout.specs.Types.{fields_of};
 ghost use Rattle.type_layout.specs.Views.{plain_type, plain_field};
 ghost use Rattle.type_layout.specs.Members.{plain_member};
@@ -7,7 +7,7 @@ ghost use Rattle.type_layout.specs.Values.{layout_fields};
 ghost use Rattle.type_layout.specs.Spelling.{gap};
 ghost use Rattle.cdr_codec.specs.Reading.{times_at, value_at, fields_at};
 ghost use Rattle.cdr_codec.specs.Widths.{octets_in};
-ghost use Rattle.cdr_codec.specs.Places.{IsFound, end_of, count_at as counted, places_of as begin};
+ghost use Rattle.cdr_codec.specs.Places.{IsFound, end_of, behind_numbers, count_at as counted, places_of as begin};
 
 use crate::width::{Width, width_of};
 use pss_base::NoMemory;
@@ -19,6 +19,17 @@ fn number_end(at: usize, width: Width) -> usize
     ensures { result ≡ at + gap (octets_in width) at + octets_in width }
 {
     at + width.gap(at) + width.octets()
+}
+
+// Between numbers of one width there is no padding.
+fn numbers_end(at: usize, width: Width, count: u64) -> usize
+    requires { at + gap (octets_in width) at + count * octets_in width < 2 ^ 64 }
+    ensures { result ≡ behind_numbers (octets_in width) count at }
+{
+    if count == 0 {
+        return at;
+    }
+    at + width.gap(at) + count as usize * width.octets()
 }
 
 // How many items or bytes follow, and where they do.
@@ -70,6 +81,9 @@ fn items_end(item: &Ty, count: u64, bytes: &[u8], at: usize) -> usize
     ensures end { result ≡ end_of (times_at (value_at (plain_type item.now)) count bytes.now at) }
     ensures within { result ≤ length bytes.now }
 {
+    if let Some(width) = width_of(item) {
+        return numbers_end(at, width, count);
+    }
     let mut place = at;
     for _ in 0..count {
         place = value_end(item, bytes, place);

@@ -10,6 +10,7 @@ use Rattle.type_layout.specs.declared.key.KeyNo.{KeyNo}
 use Rattle.type_layout.specs.declared.schema.Schema.{Schema}
 use Rattle.type_layout.specs.Schemas.{home_at, members_at, given, keys_at}
 use Rattle.type_layout.specs.Values.{IsRecord}
+use Rattle.type_layout.specs.Keys.{IsRecordWith}
 use Rattle.type_layout.specs.Spelling.{record_spelling}
 use Rattle.type_layout.specs.declared.schema.Home.{Home}
 use Rattle.pss_catalog.specs.Catalog.{Object}
@@ -20,6 +21,7 @@ use Rattle.cdr_codec.specs.Spelled.{SpellsRecord, SpellsRecordWith}
 use Rattle.owner_view.specs.declared.object.Changed.{Changed}
 use Rattle.owner_view.specs.declared.seen.Seen.{Seen}
 use Rattle.owner_view.specs.declared.seen.Seen.TheVariants.{Stored, Own}
+use Rattle.owner_view.specs.Keyed.{keyed}
 use Rattle.owner_view.specs.Seen.{HasKey, HasKeys, Fits, IsSeen, IsShown, home_seen}
 
 module _ (S : Schema) (seen : Seen) (home : HomeNo) (bytes : Bor (List ℕ)) (is : seen ≡ Stored home bytes) where
@@ -35,14 +37,6 @@ module _ (S : Schema) (seen : Seen) (home : HomeNo) (bytes : Bor (List ℕ)) (is
     values = s.object.values;
     is_record = subst (λ (ms : List PlainMember). IsRecord ms s.object.values) (same_members members same s) s.fits.is_record;
     spelled = (stored s).1 ∙ ap (λ (ms : List PlainMember). record_spelling ms s.object.values) (same_members members same s);
-  }
-
-  abbrev pub spells_with : (k : KeyNo) (h : HasKey S home k) (s : IsShown S seen) → SpellsRecordWith S k home bytes.now
-  spells_with k h s = record {
-    home = h.home;
-    there = h.there;
-    keyed = h.keyed;
-    whole = spells h.home.layout.members (sym (ap (λ o. given o [] (λ (x : Home). x.layout.members)) h.there)) s;
   }
 
 module _ (S : Schema) (seen : Seen) (changed : Bor Changed) (is : seen ≡ Own changed) where
@@ -82,3 +76,32 @@ pub has_keys : (S : Schema) (h : HomeNo) (home : Home) → home_at S h ≡ Some 
 has_keys S h home there keys same i k is =
     let own : keys ≡ home.keys = same ∙ ap (λ o. given o [] (λ (x : Home). x.keys)) there in
     record { home = home; there = there; keyed = any_there home.keys i k (ap (λ (l : List KeyNo). slice_get l i) (sym own) ∙ is) }
+
+-- ---- keys of records
+
+module _ (S : Schema) (h : HomeNo) (k : KeyNo) (has : HasKey S h k) where
+  pub members_had : members_at S h ≡ has.home.layout.members
+  members_had = ap (λ o. given o [] (λ (x : Home). x.layout.members)) has.there
+
+  pub record_had : (vs : List PlainValue) → IsRecord (members_at S h) vs → IsRecord has.home.layout.members vs
+  record_had vs is = subst (λ (ms : List PlainMember). IsRecord ms vs) members_had is
+
+-- octets of a home spell a record of one that has the key
+abbrev pub with_key : (S : Schema) (h : HomeNo) (bytes : List ℕ) (s : SpellsRecord (members_at S h) bytes) (k : KeyNo) (has : HasKey S h k) → SpellsRecordWith S k h bytes
+with_key S h bytes s k has = record {
+  home = has.home;
+  there = has.there;
+  keyed = has.keyed;
+  whole = record { values = s.values; is_record = record_had S h k has s.values s.is_record; spelled = s.spelled ∙ ap (λ (ms : List PlainMember). record_spelling ms s.values) (members_had S h k has) };
+}
+
+pub record_with : (S : Schema) (object : Object) → Fits S object → (k : KeyNo) → HasKey S object.home k → IsRecordWith S k object.values
+record_with S object fits k has = record { number = object.home; home = has.home; there = has.there; keyed = has.keyed; of_home = record_had S object.home k has object.values fits.is_record }
+
+-- what is said of octets whose members' places are known is said of the same octets
+module _ (keys : List KeyNo) (pairs : List (KeyNo × List ℕ)) where
+  abbrev AreKeyed : Schema → HomeNo → List ℕ → Type 0
+  AreKeyed S h bytes = (s : SpellsRecord (members_at S h) bytes) → pairs ≡ keyed S s.values keys
+
+  pub at_places : (S S' : Schema) (h h' : HomeNo) (bytes bytes' : List ℕ) → S' ≡ S → h' ≡ h → bytes' ≡ bytes → AreKeyed S' h' bytes' → AreKeyed S h bytes
+  at_places S S' h h' bytes bytes' schema home octets are = subst (λ (b : List ℕ). AreKeyed S h b) octets (subst (λ (n : HomeNo). AreKeyed S n bytes') home (subst (λ (T : Schema). AreKeyed T h' bytes') schema are))

@@ -2,17 +2,16 @@
 ghost use Rattle.std.specs.Prelude.{◌≡◌, ◌<◌, Some, IsSome, IfOk, length};
 ghost use Rattle.std.specs.List.{slice_get};
 ghost use Rattle.type_layout.specs.Views.{plain_value};
-ghost use Rattle.type_layout.specs.Keys.{key_bytes};
 ghost use Rattle.type_layout.specs.Schemas.{home_at as home_in, members_at};
 ghost use Rattle.type_layout.specs.Sound.{IsSoundSchema, IsSoundLayout};
 ghost use Rattle.cdr_codec.specs.Spelled.{SpellsRecord};
-ghost use Rattle.owner_view.specs.Seen.{IsShown, home_seen, HasKey};
+ghost use Rattle.owner_view.specs.Seen.{IsShown, home_seen};
 
 use crate::object::Changed;
-use cdr_codec::{decode, key_of_octets, read_member};
-use pss_base::{Bytes, NoMemory};
+use cdr_codec::{decode, read_member};
+use pss_base::NoMemory;
 use std::alloc::Global;
-use type_layout::{HomeNo, KeyNo, Layout, Record, Schema, Value, home_at, key_of};
+use type_layout::{HomeNo, Layout, Record, Schema, Value, home_at};
 
 /// An object as an owner sees it.
 #[derive(Clone, Copy)]
@@ -69,24 +68,6 @@ pub fn record_of(alloc: Global, schema: &Schema, seen: Seen<'_>) -> Result<Recor
     match seen {
         Seen::Stored(home, bytes) => stored_record(alloc, layout_at(schema, home), bytes),
         Seen::Own(object) => object.record.copy(alloc),
-    }
-}
-
-/// The bytes of one of its keys.
-pub fn key_bytes_of(
-    alloc: Global,
-    schema: &Schema,
-    seen: Seen<'_>,
-    key: KeyNo,
-) -> Result<Bytes, NoMemory>
-    requires sound { IsSoundSchema schema.now }
-    requires shown { IsShown schema.now seen }
-    requires keyed { HasKey schema.now (home_seen seen) key }
-    ensures { IfOk result (λ bytes. (s : IsShown schema.now seen.entry) → bytes ≡ key_bytes schema.now key s.object.values) }
-{
-    match seen {
-        Seen::Stored(home, bytes) => key_of_octets(alloc, schema, key, home, bytes),
-        Seen::Own(object) => key_of(alloc, schema, key, &object.record),
     }
 }
 

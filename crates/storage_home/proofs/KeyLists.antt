@@ -97,3 +97,15 @@ pub any_at : (keys : List KeyNo) (i : ℕ) (d : KeyNo) → i < length keys → l
 any_at [] i d within = absurd (omega (arith, within))
 any_at (k ∷ ks) zero d within = ap (λ b. b || list_any (λ j. j.0 == k.0) ks) (eq-eqb k.0 k.0 refl)
 any_at (k ∷ ks) (suc i) d within = by_test (λ b. (b || list_any (λ j. j.0 == (get_or ks i d).0) ks) ≡ true) (k.0 == (get_or ks i d).0) (λ _. refl) (λ _. any_at ks i d (omega (arith, within)))
+
+pub none_of : (keys : List KeyNo) → (length keys == 0) ≡ true → keys ≡ []
+none_of [] is = refl
+none_of (k ∷ keys) is = absurd (omega (arith, same_number (length (k ∷ keys)) 0 is))
+
+-- what is said of octets whose members' places are known is said of the same octets
+module _ (keys : List KeyNo) (pairs : List (KeyNo × List ℕ)) where
+  abbrev AreThese : Schema → HomeNo → List ℕ → Type 0
+  AreThese S h bytes = (s : SpellsObject S h bytes) → pairs ≡ pairs_of S s.values keys
+
+  pub at_places : (S S' : Schema) (h h' : HomeNo) (bytes bytes' : List ℕ) → S' ≡ S → h' ≡ h → bytes' ≡ bytes → AreThese S' h' bytes' → AreThese S h bytes
+  at_places S S' h h' bytes bytes' schema home octets are = subst (λ (b : List ℕ). AreThese S h b) octets (subst (λ (n : HomeNo). AreThese S n bytes') home (subst (λ (T : Schema). AreThese T h' bytes') schema are))

@@ -1,15 +1,18 @@
 // The keys of a home, and of the objects in it.
-ghost use Rattle.std.specs.Prelude.{Some, IfOk};
+ghost use Rattle.std.specs.Prelude.{◌≡◌, Some, IfOk, map};
+ghost use Rattle.type_layout.specs.Keys.{key_bytes};
+ghost use Rattle.type_layout.specs.Schemas.{keys_at as keys_in};
 ghost use Rattle.type_layout.specs.Sound.{IsSoundSchema};
 ghost use Rattle.storage_home.specs.Applied.{AreKeysOf, SpellsObject, object_of};
 
 use crate::change::KeyValues;
-use cdr_codec::key_of_octets;
+use cdr_codec::MemberPlaces;
 use pss_base::NoMemory;
 use std::alloc::Global;
 use type_layout::{HomeNo, KeyNo, Schema, keys_at};
 
-/// The keys of an object of a home, with the bytes that its record, in these octets, gives each.
+/// The keys of an object of a home, with the bytes that its record, in these octets, gives each. The octets
+/// are walked over once for all keys. Most homes have none, and then the octets are not looked at.
 pub fn keys_of_octets(
     alloc: Global,
     schema: &Schema,
@@ -20,9 +23,27 @@ pub fn keys_of_octets(
     requires spells { SpellsObject schema.now home octets.now }
     ensures { IfOk result (λ pairs. (s : SpellsObject schema.now home octets.now) → AreKeysOf schema.now (Some (object_of s)) pairs) }
 {
+    let keys = keys_at(schema, home);
+    if keys.is_empty() {
+        return Ok(KeyValues::new(alloc));
+    }
+    let places = MemberPlaces::new(alloc, schema, home, octets)?;
+    keys_by_places(alloc, &places, keys)
+}
+
+fn keys_by_places(
+    alloc: Global,
+    places: &MemberPlaces<'_>,
+    keys: &[KeyNo],
+) -> Result<KeyValues, NoMemory>
+    requires sound { IsSoundSchema places.now.schema.now }
+    requires spells { SpellsObject places.now.schema.now places.now.home places.now.bytes.now }
+    requires there { keys.now ≡ keys_in places.now.schema.now places.now.home }
+    ensures { IfOk result (λ pairs. (s : SpellsObject places.now.schema.now places.now.home places.now.bytes.now) → pairs ≡ map (λ k. (k, key_bytes places.now.schema.now k s.values)) keys.now) }
+{
     let mut values = KeyValues::new(alloc);
-    for key in keys_at(schema, home) {
-        values.push((*key, key_of_octets(alloc, schema, *key, home, octets)?))?;
+    for key in keys {
+        values.push((*key, places.key_bytes(alloc, *key)?))?;
     }
     Ok(values)
 }

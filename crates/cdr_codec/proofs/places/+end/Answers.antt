@@ -1,4 +1,4 @@
-use Rattle.std.proofs.Common.{◌≡◌, ◌+◌, ◌-◌, map, ap, subst, sym, ◌∙◌, drop, rules, arith}
+use Rattle.std.proofs.Common.{◌≡◌, ◌+◌, ◌-◌, length, map, ap, subst, sym, ◌∙◌, drop, rules, arith}
 use Rattle.type_layout.specs.Types.{PlainType, Str, Seq, Arr, Struct, RefTo, PlainFields, fields_of}
 use Rattle.type_layout.specs.Spelling.{gap}
 use Rattle.type_layout.specs.Views.{plain_type, plain_field}
@@ -8,7 +8,7 @@ use Rattle.cdr_codec.proofs.Sizes.{size, sizes}
 use Rattle.cdr_codec.proofs.Nodes.{text_view, sequence_view, array_view, struct_view, reference_view}
 use Rattle.type_layout.specs.declared.ty.Ty.{Ty}
 use Rattle.cdr_codec.proofs.Loop.{fields_drop, fields_out}
-use Rattle.cdr_codec.proofs.Skips.{number_ends, text_ends, sequence_ends, array_ends, struct_ends, reference_ends, times_first, times_over, field_type, first_field, fields_over}
+use Rattle.cdr_codec.proofs.Skips.{number_ends, text_ends, sequence_ends, array_ends, struct_ends, reference_ends, numbers_fit, numbers_ends, times_first, times_over, field_type, first_field, fields_over}
 use Rattle.cdr_codec.proofs.places.+end.Goals as goal
 
 pub fields_end-value_end-place-requires : goal.fields_end-value_end-place-requires
@@ -29,6 +29,18 @@ fields_end-loop-field-preserved t c =
 
 pub fields_end-returns-clause-end : goal.fields_end-returns-clause-end
 fields_end-returns-clause-end t c = sym (fields_over c.args.bytes.now c.loop-field.place) ∙ ap (λ (fields : PlainFields). end_of (fields_at fields c.args.bytes.now c.loop-field.place)) (sym (fields_out c.args.fields.now c.loop-field.field-index c.loop-field-test.false)) ∙ c.loop-field.invariant.2
+
+pub items_end-numbers_end-requires : goal.items_end-numbers_end-requires
+items_end-numbers_end-requires t c =
+    let e = numbers_ends (plain_type c.args.item.now) c.in-Some.width (sym c.in-Some.ensures) c.args.count c.args.bytes.now c.args.at c.requires.place c.requires.found in
+    let fit = numbers_fit c.in-Some.width c.args.count c.args.at (length c.args.bytes.now) c.requires.place e.1 in
+    search rules
+
+pub items_end-returns-in-Some-clause-end : goal.items_end-returns-in-Some-clause-end
+items_end-returns-in-Some-clause-end t c = c.numbers_end.ensures ∙ sym (numbers_ends (plain_type c.args.item.now) c.in-Some.width (sym c.in-Some.ensures) c.args.count c.args.bytes.now c.args.at c.requires.place c.requires.found).0
+
+pub items_end-returns-in-Some-clause-within : goal.items_end-returns-in-Some-clause-within
+items_end-returns-in-Some-clause-within t c = (let e = numbers_ends (plain_type c.args.item.now) c.in-Some.width (sym c.in-Some.ensures) c.args.count c.args.bytes.now c.args.at c.requires.place c.requires.found in omega (arith, c.numbers_end.ensures, e.1))
 
 pub items_end-value_end-place-requires : goal.items_end-value_end-place-requires
 items_end-value_end-place-requires t c = (search rules, (c.loop.invariant.0, (times_first (value_at (plain_type c.args.item.now)) c.args.count c.loop.counter c.args.bytes.now c.loop.place c.loop-test.true c.loop.invariant.1).found))

@@ -1,7 +1,0 @@
-use Rattle.std.proofs.Common.{◌≡◌, map, take}
-use Rattle.type_layout.specs.Keys.{key_bytes}
-use Rattle.storage_home.specs.Applied.{SpellsObject}
-use Rattle.storage_home.proofs.keys.keys_of_octets.Given as goal
-
-abbrev pub invariant-loop-key : goal.invariant-loop-key
-invariant-loop-key l = (s : SpellsObject l.schema l.home l.octets) → l.values ≡ map (λ k. (k, key_bytes l.schema k s.values)) (take l.key-index l.key-items)

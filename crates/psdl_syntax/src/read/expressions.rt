@@ -6,6 +6,7 @@ ghost use Rattle.psdl_tree.specs.Views.{group_view, primary_view, unary_view, pr
 ghost use Rattle.psdl_syntax.specs.Productions.{is_mark, is_operator, shift_operator, sum_operator, product_operator, operand_at, operator_operand_at, group_with, primary_with, unary_with, product_with, sum_with, shift_with, and_with, xor_with, expression_at, expression_inside};
 ghost use Rattle.psdl_tokens.specs.declared.token.Mark.TheVariants as marks;
 
+use super::lists::put_part;
 use super::names::name_of;
 use super::operators::{
     at_product, at_shift, at_sum, optional_sign_of, product_operator_of, shift_operator_of,
@@ -45,7 +46,7 @@ fn or_parts_of(alloc: Global, depth: u32, tokens: &[Token]) -> Read<'_, Vec<OrPa
         }
         let (place, after) = place_of(Mark::Or, rest)?;
         let (operand, after) = xor_of(alloc, depth, after)?;
-        parts.push(OrPart { place, operand })?;
+        put_part(&mut parts, OrPart { place, operand })?;
         rest = after;
     }
     Ok((parts, rest))
@@ -73,7 +74,7 @@ fn xor_parts_of(alloc: Global, depth: u32, tokens: &[Token]) -> Read<'_, Vec<Xor
         }
         let (place, after) = place_of(Mark::Xor, rest)?;
         let (operand, after) = and_of(alloc, depth, after)?;
-        parts.push(XorPart { place, operand })?;
+        put_part(&mut parts, XorPart { place, operand })?;
         rest = after;
     }
     Ok((parts, rest))
@@ -101,7 +102,7 @@ fn and_parts_of(alloc: Global, depth: u32, tokens: &[Token]) -> Read<'_, Vec<And
         }
         let (place, after) = place_of(Mark::And, rest)?;
         let (operand, after) = shift_of(alloc, depth, after)?;
-        parts.push(AndPart { place, operand })?;
+        put_part(&mut parts, AndPart { place, operand })?;
         rest = after;
     }
     Ok((parts, rest))
@@ -129,11 +130,14 @@ fn shift_parts_of(alloc: Global, depth: u32, tokens: &[Token]) -> Read<'_, Vec<S
         }
         let ((place, operator), after) = shift_operator_of(rest)?;
         let (operand, after) = sum_of(alloc, depth, after)?;
-        parts.push(ShiftPart {
-            place,
-            operator,
-            operand,
-        })?;
+        put_part(
+            &mut parts,
+            ShiftPart {
+                place,
+                operator,
+                operand,
+            },
+        )?;
         rest = after;
     }
     Ok((parts, rest))
@@ -161,11 +165,14 @@ fn sum_parts_of(alloc: Global, depth: u32, tokens: &[Token]) -> Read<'_, Vec<Sum
         }
         let ((place, operator), after) = sum_operator_of(rest)?;
         let (operand, after) = product_of(alloc, depth, after)?;
-        parts.push(SumPart {
-            place,
-            operator,
-            operand,
-        })?;
+        put_part(
+            &mut parts,
+            SumPart {
+                place,
+                operator,
+                operand,
+            },
+        )?;
         rest = after;
     }
     Ok((parts, rest))
@@ -193,11 +200,14 @@ fn product_parts_of(alloc: Global, depth: u32, tokens: &[Token]) -> Read<'_, Vec
         }
         let ((place, operator), after) = product_operator_of(rest)?;
         let (operand, after) = unary_of(alloc, depth, after)?;
-        parts.push(ProductPart {
-            place,
-            operator,
-            operand,
-        })?;
+        put_part(
+            &mut parts,
+            ProductPart {
+                place,
+                operator,
+                operand,
+            },
+        )?;
         rest = after;
     }
     Ok((parts, rest))

@@ -1,5 +1,5 @@
 // Lists of parts.
-ghost use Rattle.std.specs.Prelude.{◌≡◌, ◌-◌, ℕ, map};
+ghost use Rattle.std.specs.Prelude.{◌≡◌, ◌-◌, ◌++◌, ◌∷◌, [], ℕ, map, OnOk};
 ghost use Rattle.part_readers.specs.Reading.{Gives, starts, many};
 ghost use Rattle.psdl_syntax.specs.Seen.{seen};
 ghost use Rattle.psdl_syntax.specs.Lists.{begins};
@@ -7,6 +7,7 @@ ghost use Rattle.psdl_syntax.specs.Productions.{Reads, braces, up_to_brace};
 
 use super::words::{Read, at_mark, before, before_brace, open_of};
 use psdl_tokens::{Mark, Token};
+use pss_base::NoMemory;
 use std::alloc::Global;
 
 /// Where one more part of a list begins.
@@ -41,6 +42,17 @@ fn is_part_here(start: Start, tokens: &[Token]) -> bool
         Start::Inside => before_brace(tokens),
         Start::Anywhere => !tokens.is_empty(),
     }
+}
+
+/// Puts a part last. The room doubles from one part on, since most lists of operands are short.
+pub(super) fn put_part<P: Drop>(parts: &mut Vec<P>, part: P) -> Result<(), NoMemory>
+    ensures { OnOk result (parts.new.items ≡ parts.old.items ++ part ∷ []) }
+{
+    if parts.len() == parts.capacity() {
+        parts.reserve_exact(parts.len().max(1))?;
+    }
+    parts.push(part)?;
+    Ok(())
 }
 
 /// All parts that stand here one behind the other.

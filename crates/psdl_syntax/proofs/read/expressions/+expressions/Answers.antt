@@ -31,7 +31,7 @@ or_parts_of-returns-in_err-operand t c =
 
 pub or_parts_of-loop-preserved : goal.or_parts_of-loop-preserved
 or_parts_of-loop-preserved t c =
-    pushed_on or_part_view (is_mark marks.Or) (operand_at marks.Or (xor_with (expression_inside c.args.depth) c.args.depth)) _ _ _ (length c.args.tokens.now) c.loop.counter (map seen c.loop.rest.now) (c.in_ok-place.place, xor_view c.in_ok-operand.operand) (map seen c.in_ok-operand.after.now) (many (is_mark marks.Or) (operand_at marks.Or (xor_with (expression_inside c.args.depth) c.args.depth)) (map seen c.args.tokens.now)) c.in_ok-push.ensures.items (or_part_rolled c.in_ok-place.place c.in_ok-operand.operand) c.loop-test.true (search rules) (operand_gives marks.Or (xor_with (expression_inside c.args.depth) c.args.depth) (map seen c.loop.rest.now) (map seen c.in_ok-place.after.now) (map seen c.in_ok-operand.after.now) c.in_ok-place.place (xor_view c.in_ok-operand.operand) c.in_ok-place.ensures c.in_ok-operand.ensures) c.loop.invariant
+    pushed_on or_part_view (is_mark marks.Or) (operand_at marks.Or (xor_with (expression_inside c.args.depth) c.args.depth)) _ _ _ (length c.args.tokens.now) c.loop.counter (map seen c.loop.rest.now) (c.in_ok-place.place, xor_view c.in_ok-operand.operand) (map seen c.in_ok-operand.after.now) (many (is_mark marks.Or) (operand_at marks.Or (xor_with (expression_inside c.args.depth) c.args.depth)) (map seen c.args.tokens.now)) c.in_ok-put_part.ensures (or_part_rolled c.in_ok-place.place c.in_ok-operand.operand) c.loop-test.true (search rules) (operand_gives marks.Or (xor_with (expression_inside c.args.depth) c.args.depth) (map seen c.loop.rest.now) (map seen c.in_ok-place.after.now) (map seen c.in_ok-operand.after.now) c.in_ok-place.place (xor_view c.in_ok-operand.operand) c.in_ok-place.ensures c.in_ok-operand.ensures) c.loop.invariant
 
 pub xor_parts_of-returns-then-not-at_mark : goal.xor_parts_of-returns-then-not-at_mark
 xor_parts_of-returns-then-not-at_mark t c = no_more (is_mark marks.Xor) (operand_at marks.Xor (and_with (expression_inside c.args.depth) c.args.depth)) (map xor_part_view c.loop.parts.items) (length c.args.tokens.now) c.loop.counter (map seen c.loop.rest.now) (many (is_mark marks.Xor) (operand_at marks.Xor (and_with (expression_inside c.args.depth) c.args.depth)) (map seen c.args.tokens.now)) (search rules) c.loop.invariant
@@ -51,7 +51,7 @@ xor_parts_of-returns-in_err-operand t c =
 
 pub xor_parts_of-loop-preserved : goal.xor_parts_of-loop-preserved
 xor_parts_of-loop-preserved t c =
-    pushed_on xor_part_view (is_mark marks.Xor) (operand_at marks.Xor (and_with (expression_inside c.args.depth) c.args.depth)) _ _ _ (length c.args.tokens.now) c.loop.counter (map seen c.loop.rest.now) (c.in_ok-place.place, and_view c.in_ok-operand.operand) (map seen c.in_ok-operand.after.now) (many (is_mark marks.Xor) (operand_at marks.Xor (and_with (expression_inside c.args.depth) c.args.depth)) (map seen c.args.tokens.now)) c.in_ok-push.ensures.items (xor_part_rolled c.in_ok-place.place c.in_ok-operand.operand) c.loop-test.true (search rules) (operand_gives marks.Xor (and_with (expression_inside c.args.depth) c.args.depth) (map seen c.loop.rest.now) (map seen c.in_ok-place.after.now) (map seen c.in_ok-operand.after.now) c.in_ok-place.place (and_view c.in_ok-operand.operand) c.in_ok-place.ensures c.in_ok-operand.ensures) c.loop.invariant
+    pushed_on xor_part_view (is_mark marks.Xor) (operand_at marks.Xor (and_with (expression_inside c.args.depth) c.args.depth)) _ _ _ (length c.args.tokens.now) c.loop.counter (map seen c.loop.rest.now) (c.in_ok-place.place, and_view c.in_ok-operand.operand) (map seen c.in_ok-operand.after.now) (many (is_mark marks.Xor) (operand_at marks.Xor (and_with (expression_inside c.args.depth) c.args.depth)) (map seen c.args.tokens.now)) c.in_ok-put_part.ensures (xor_part_rolled c.in_ok-place.place c.in_ok-operand.operand) c.loop-test.true (search rules) (operand_gives marks.Xor (and_with (expression_inside c.args.depth) c.args.depth) (map seen c.loop.rest.now) (map seen c.in_ok-place.after.now) (map seen c.in_ok-operand.after.now) c.in_ok-place.place (and_view c.in_ok-operand.operand) c.in_ok-place.ensures c.in_ok-operand.ensures) c.loop.invariant
 
 pub and_parts_of-returns-then-not-at_mark : goal.and_parts_of-returns-then-not-at_mark
 and_parts_of-returns-then-not-at_mark t c = no_more (is_mark marks.And) (operand_at marks.And (shift_with (expression_inside c.args.depth) c.args.depth)) (map and_part_view c.loop.parts.items) (length c.args.tokens.now) c.loop.counter (map seen c.loop.rest.now) (many (is_mark marks.And) (operand_at marks.And (shift_with (expression_inside c.args.depth) c.args.depth)) (map seen c.args.tokens.now)) (search rules) c.loop.invariant
@@ -71,7 +71,7 @@ and_parts_of-returns-in_err-operand t c =
 
 pub and_parts_of-loop-preserved : goal.and_parts_of-loop-preserved
 and_parts_of-loop-preserved t c =
-    pushed_on and_part_view (is_mark marks.And) (operand_at marks.And (shift_with (expression_inside c.args.depth) c.args.depth)) _ _ _ (length c.args.tokens.now) c.loop.counter (map seen c.loop.rest.now) (c.in_ok-place.place, shift_view c.in_ok-operand.operand) (map seen c.in_ok-operand.after.now) (many (is_mark marks.And) (operand_at marks.And (shift_with (expression_inside c.args.depth) c.args.depth)) (map seen c.args.tokens.now)) c.in_ok-push.ensures.items (and_part_rolled c.in_ok-place.place c.in_ok-operand.operand) c.loop-test.true (search rules) (operand_gives marks.And (shift_with (expression_inside c.args.depth) c.args.depth) (map seen c.loop.rest.now) (map seen c.in_ok-place.after.now) (map seen c.in_ok-operand.after.now) c.in_ok-place.place (shift_view c.in_ok-operand.operand) c.in_ok-place.ensures c.in_ok-operand.ensures) c.loop.invariant
+    pushed_on and_part_view (is_mark marks.And) (operand_at marks.And (shift_with (expression_inside c.args.depth) c.args.depth)) _ _ _ (length c.args.tokens.now) c.loop.counter (map seen c.loop.rest.now) (c.in_ok-place.place, shift_view c.in_ok-operand.operand) (map seen c.in_ok-operand.after.now) (many (is_mark marks.And) (operand_at marks.And (shift_with (expression_inside c.args.depth) c.args.depth)) (map seen c.args.tokens.now)) c.in_ok-put_part.ensures (and_part_rolled c.in_ok-place.place c.in_ok-operand.operand) c.loop-test.true (search rules) (operand_gives marks.And (shift_with (expression_inside c.args.depth) c.args.depth) (map seen c.loop.rest.now) (map seen c.in_ok-place.after.now) (map seen c.in_ok-operand.after.now) c.in_ok-place.place (shift_view c.in_ok-operand.operand) c.in_ok-place.ensures c.in_ok-operand.ensures) c.loop.invariant
 
 pub shift_parts_of-returns-then-not-at_shift : goal.shift_parts_of-returns-then-not-at_shift
 shift_parts_of-returns-then-not-at_shift t c = no_more (is_operator shift_operator) (operator_operand_at shift_operator (sum_with (expression_inside c.args.depth) c.args.depth)) (map shift_part_view c.loop.parts.items) (length c.args.tokens.now) c.loop.counter (map seen c.loop.rest.now) (many (is_operator shift_operator) (operator_operand_at shift_operator (sum_with (expression_inside c.args.depth) c.args.depth)) (map seen c.args.tokens.now)) (search rules) c.loop.invariant
@@ -91,7 +91,7 @@ shift_parts_of-returns-in_err-operand t c =
 
 pub shift_parts_of-loop-preserved : goal.shift_parts_of-loop-preserved
 shift_parts_of-loop-preserved t c =
-    pushed_on shift_part_view (is_operator shift_operator) (operator_operand_at shift_operator (sum_with (expression_inside c.args.depth) c.args.depth)) _ _ _ (length c.args.tokens.now) c.loop.counter (map seen c.loop.rest.now) (c.in_ok-place.place, c.in_ok-place.operator, sum_view c.in_ok-operand.operand) (map seen c.in_ok-operand.after.now) (many (is_operator shift_operator) (operator_operand_at shift_operator (sum_with (expression_inside c.args.depth) c.args.depth)) (map seen c.args.tokens.now)) c.in_ok-push.ensures.items (shift_part_rolled c.in_ok-place.place c.in_ok-place.operator c.in_ok-operand.operand) c.loop-test.true (search rules) (operator_gives shift_operator (sum_with (expression_inside c.args.depth) c.args.depth) (map seen c.loop.rest.now) (map seen c.in_ok-place.after.now) (map seen c.in_ok-operand.after.now) (c.in_ok-place.place, c.in_ok-place.operator) (sum_view c.in_ok-operand.operand) c.in_ok-place.ensures c.in_ok-operand.ensures) c.loop.invariant
+    pushed_on shift_part_view (is_operator shift_operator) (operator_operand_at shift_operator (sum_with (expression_inside c.args.depth) c.args.depth)) _ _ _ (length c.args.tokens.now) c.loop.counter (map seen c.loop.rest.now) (c.in_ok-place.place, c.in_ok-place.operator, sum_view c.in_ok-operand.operand) (map seen c.in_ok-operand.after.now) (many (is_operator shift_operator) (operator_operand_at shift_operator (sum_with (expression_inside c.args.depth) c.args.depth)) (map seen c.args.tokens.now)) c.in_ok-put_part.ensures (shift_part_rolled c.in_ok-place.place c.in_ok-place.operator c.in_ok-operand.operand) c.loop-test.true (search rules) (operator_gives shift_operator (sum_with (expression_inside c.args.depth) c.args.depth) (map seen c.loop.rest.now) (map seen c.in_ok-place.after.now) (map seen c.in_ok-operand.after.now) (c.in_ok-place.place, c.in_ok-place.operator) (sum_view c.in_ok-operand.operand) c.in_ok-place.ensures c.in_ok-operand.ensures) c.loop.invariant
 
 pub sum_parts_of-returns-then-not-at_sum : goal.sum_parts_of-returns-then-not-at_sum
 sum_parts_of-returns-then-not-at_sum t c = no_more (is_operator sum_operator) (operator_operand_at sum_operator (product_with (expression_inside c.args.depth) c.args.depth)) (map sum_part_view c.loop.parts.items) (length c.args.tokens.now) c.loop.counter (map seen c.loop.rest.now) (many (is_operator sum_operator) (operator_operand_at sum_operator (product_with (expression_inside c.args.depth) c.args.depth)) (map seen c.args.tokens.now)) (search rules) c.loop.invariant
@@ -111,7 +111,7 @@ sum_parts_of-returns-in_err-operand t c =
 
 pub sum_parts_of-loop-preserved : goal.sum_parts_of-loop-preserved
 sum_parts_of-loop-preserved t c =
-    pushed_on sum_part_view (is_operator sum_operator) (operator_operand_at sum_operator (product_with (expression_inside c.args.depth) c.args.depth)) _ _ _ (length c.args.tokens.now) c.loop.counter (map seen c.loop.rest.now) (c.in_ok-place.place, c.in_ok-place.operator, product_view c.in_ok-operand.operand) (map seen c.in_ok-operand.after.now) (many (is_operator sum_operator) (operator_operand_at sum_operator (product_with (expression_inside c.args.depth) c.args.depth)) (map seen c.args.tokens.now)) c.in_ok-push.ensures.items (sum_part_rolled c.in_ok-place.place c.in_ok-place.operator c.in_ok-operand.operand) c.loop-test.true (search rules) (operator_gives sum_operator (product_with (expression_inside c.args.depth) c.args.depth) (map seen c.loop.rest.now) (map seen c.in_ok-place.after.now) (map seen c.in_ok-operand.after.now) (c.in_ok-place.place, c.in_ok-place.operator) (product_view c.in_ok-operand.operand) c.in_ok-place.ensures c.in_ok-operand.ensures) c.loop.invariant
+    pushed_on sum_part_view (is_operator sum_operator) (operator_operand_at sum_operator (product_with (expression_inside c.args.depth) c.args.depth)) _ _ _ (length c.args.tokens.now) c.loop.counter (map seen c.loop.rest.now) (c.in_ok-place.place, c.in_ok-place.operator, product_view c.in_ok-operand.operand) (map seen c.in_ok-operand.after.now) (many (is_operator sum_operator) (operator_operand_at sum_operator (product_with (expression_inside c.args.depth) c.args.depth)) (map seen c.args.tokens.now)) c.in_ok-put_part.ensures (sum_part_rolled c.in_ok-place.place c.in_ok-place.operator c.in_ok-operand.operand) c.loop-test.true (search rules) (operator_gives sum_operator (product_with (expression_inside c.args.depth) c.args.depth) (map seen c.loop.rest.now) (map seen c.in_ok-place.after.now) (map seen c.in_ok-operand.after.now) (c.in_ok-place.place, c.in_ok-place.operator) (product_view c.in_ok-operand.operand) c.in_ok-place.ensures c.in_ok-operand.ensures) c.loop.invariant
 
 pub product_parts_of-returns-then-not-at_product : goal.product_parts_of-returns-then-not-at_product
 product_parts_of-returns-then-not-at_product t c = no_more (is_operator product_operator) (operator_operand_at product_operator (unary_with (expression_inside c.args.depth) c.args.depth)) (map product_part_view c.loop.parts.items) (length c.args.tokens.now) c.loop.counter (map seen c.loop.rest.now) (many (is_operator product_operator) (operator_operand_at product_operator (unary_with (expression_inside c.args.depth) c.args.depth)) (map seen c.args.tokens.now)) (search rules) c.loop.invariant
@@ -131,7 +131,7 @@ product_parts_of-returns-in_err-operand t c =
 
 pub product_parts_of-loop-preserved : goal.product_parts_of-loop-preserved
 product_parts_of-loop-preserved t c =
-    pushed_on product_part_view (is_operator product_operator) (operator_operand_at product_operator (unary_with (expression_inside c.args.depth) c.args.depth)) _ _ _ (length c.args.tokens.now) c.loop.counter (map seen c.loop.rest.now) (c.in_ok-place.place, c.in_ok-place.operator, unary_view c.in_ok-operand.operand) (map seen c.in_ok-operand.after.now) (many (is_operator product_operator) (operator_operand_at product_operator (unary_with (expression_inside c.args.depth) c.args.depth)) (map seen c.args.tokens.now)) c.in_ok-push.ensures.items (product_part_rolled c.in_ok-place.place c.in_ok-place.operator c.in_ok-operand.operand) c.loop-test.true (search rules) (operator_gives product_operator (unary_with (expression_inside c.args.depth) c.args.depth) (map seen c.loop.rest.now) (map seen c.in_ok-place.after.now) (map seen c.in_ok-operand.after.now) (c.in_ok-place.place, c.in_ok-place.operator) (unary_view c.in_ok-operand.operand) c.in_ok-place.ensures c.in_ok-operand.ensures) c.loop.invariant
+    pushed_on product_part_view (is_operator product_operator) (operator_operand_at product_operator (unary_with (expression_inside c.args.depth) c.args.depth)) _ _ _ (length c.args.tokens.now) c.loop.counter (map seen c.loop.rest.now) (c.in_ok-place.place, c.in_ok-place.operator, unary_view c.in_ok-operand.operand) (map seen c.in_ok-operand.after.now) (many (is_operator product_operator) (operator_operand_at product_operator (unary_with (expression_inside c.args.depth) c.args.depth)) (map seen c.args.tokens.now)) c.in_ok-put_part.ensures (product_part_rolled c.in_ok-place.place c.in_ok-place.operator c.in_ok-operand.operand) c.loop-test.true (search rules) (operator_gives product_operator (unary_with (expression_inside c.args.depth) c.args.depth) (map seen c.loop.rest.now) (map seen c.in_ok-place.after.now) (map seen c.in_ok-operand.after.now) (c.in_ok-place.place, c.in_ok-place.operator) (unary_view c.in_ok-operand.operand) c.in_ok-place.ensures c.in_ok-operand.ensures) c.loop.invariant
 
 pub group_of-returns : goal.group_of-returns
 group_of-returns t c =

@@ -18,8 +18,11 @@ use type_layout::{HomeNo, KeyNo, Schema, members_at};
 /// whatever number of keys is asked for.
 #[derive(Drop)]
 pub struct MemberPlaces<'a> {
+    /// The schema that has the home.
     pub schema: &'a Schema,
+    /// The home whose members the record has.
     pub home: HomeNo,
+    /// The octets of the record, the flag of byte order first.
     pub bytes: &'a [u8],
     places: Vec<usize>,
     ghost octets: { (i : ℕ) → get_or bytes.now i 0 < 256 },
@@ -27,8 +30,8 @@ pub struct MemberPlaces<'a> {
 }
 
 impl<'a> MemberPlaces<'a> {
-    /// The places in octets that spell a record of the home. It takes time in the octets, and memory in the
-    /// number of members.
+    /// The places in octets that spell a record of the home, counted from 0. It takes time in the octets, and
+    /// memory in the number of members. `NoMemory`: nothing has changed.
     pub fn new(
         alloc: Global,
         schema: &'a Schema,
@@ -51,7 +54,7 @@ impl<'a> MemberPlaces<'a> {
     }
 
     /// The bytes of a key that the home has: those that `key_of` gives of the record. No value is made. It
-    /// takes time and memory in the key's members and in the bytes.
+    /// takes time and memory in the key's members and in the bytes. `NoMemory`: the places are as before.
     pub fn key_bytes(&self, alloc: Global, key: KeyNo) -> Result<Bytes, NoMemory>
         requires sound { IsSoundSchema self.now.schema.now }
         requires spelled { SpellsRecordWith self.now.schema.now key self.now.home self.now.bytes.now }

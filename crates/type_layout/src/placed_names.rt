@@ -39,6 +39,7 @@ impl PlacedNames {
         Ok(PlacedNames { names, places })
     }
 
+    /// The names, in their order.
     pub fn as_slice(&self) -> &[Bytes]
         ensures { result.now ≡ self.now }
     {

@@ -25,12 +25,10 @@ pub fn make_ready(parts: &mut Parts, owner: OwnerNo) -> Result<Option<Ready>, No
     ensures stands { OnOk result ((k : Kept) → IsAt parts.old k → Stands parts.new k) }
     ensures rest { StayAs parts.old parts.new }
 {
-    match parts.accounts.prepare(
-        parts.alloc,
-        owner,
-        parts.schema.schema(),
-        parts.limits.total,
-    )? {
+    match parts
+        .accounts
+        .prepare(owner, parts.schema.schema(), parts.limits.total)?
+    {
         Some(commit) => match pids_of(parts.alloc, commit.changes().as_slice()) {
             Ok(pids) => Ok(Some(Ready { commit, pids })),
             Err(NoMemory) => Err(NoMemory),

@@ -1,6 +1,7 @@
 -- Commits that are made ready, and made.
 use Rattle.std.proofs.Common.{ℕ, ◌≡◌, ◌+◌, ◌≤◌, ◌<◌, ◌-◌, ◌^◌, List, [], ◌∷◌, ◌++◌, length, Option, Some, None, Bool, true, false, if◌then◌else◌, refl, sym, ap, ◌∙◌, subst, arith}
 use Rattle.std.specs.Prelude.{nat_lt}
+use Rattle.std.specs.Option.{option_map}
 use Rattle.std.proofs.lemmas.Bool.{lt-ltb}
 use Rattle.pss_base.specs.declared.owner.OwnerNo.{OwnerNo}
 use Rattle.type_layout.specs.declared.schema.Schema.{Schema}
@@ -18,6 +19,8 @@ use Rattle.storage_home.specs.Applied.{MayApply}
 use Rattle.tx_session.specs.Owners.{owners_in, Under}
 use Rattle.owner_titles.specs.Meaning.{AreTitles}
 use Rattle.owner_titles.specs.History.{told}
+use Rattle.owner_titles.specs.declared.told.Told.{Told}
+use Rattle.owner_titles.specs.Telling.{told_text}
 use Rattle.owner_titles.proofs.Follow.{same_follows}
 use Rattle.owner_accounts.specs.declared.accounts.Accounts.{Accounts}
 use Rattle.owner_accounts.specs.declared.commits.Commit.{Commit}
@@ -102,9 +105,9 @@ module _ (S : Schema) (a b : Accounts) (k : Kept) (n : OwnerNo) (commit : Commit
     is_none false x e = refl
 
     -- the history tells of it
-    pub made_told : (told_text : List ℕ) → commit.text ≡ Some told_text → b.history ≡ told a.history told_text → AreAccounts S b (settled k n)
-    made_told told_text is history =
-        let joined = is_some (joins p.owner.level changes) text told_text (sym p.text ∙ is) in
+    pub made_told : (one : Told) → commit.told ≡ Some one → b.history ≡ told a.history (told_text one) → AreAccounts S b (settled k n)
+    made_told one is history =
+        let joined = is_some (joins p.owner.level changes) text (told_text one) (sym p.told ∙ ap (option_map told_text) is) in
         made
         (subst (λ h. IsHistory h after) (sym history)
         (record {
@@ -113,9 +116,9 @@ module _ (S : Schema) (a b : Accounts) (k : Kept) (n : OwnerNo) (commit : Commit
         }))
 
     -- it does not
-    pub made_silent : commit.text ≡ None → b.history ≡ a.history → AreAccounts S b (settled k n)
+    pub made_silent : commit.told ≡ None → b.history ≡ a.history → AreAccounts S b (settled k n)
     made_silent is history =
-        let not = is_none (joins p.owner.level changes) text (sym p.text ∙ is) in
+        let not = is_none (joins p.owner.level changes) text (sym p.told ∙ ap (option_map told_text) is) in
         made
         (subst (λ h. IsHistory h after) (sym history)
         (record {

@@ -1,5 +1,6 @@
 -- Commits that are made ready.
 use Rattle.std.specs.Prelude.{ℕ, ◌≡◌, ◌≤◌, ◌<◌, ◌-◌, ◌^◌, List, Option, Some, None, if◌then◌else◌}
+use Rattle.std.specs.Option.{option_map}
 use Rattle.std.specs.FinMap.{get}
 use Rattle.pss_base.specs.declared.owner.OwnerNo.{OwnerNo}
 use Rattle.type_layout.specs.declared.schema.Schema.{Schema}
@@ -11,6 +12,7 @@ use Rattle.pss_machine.specs.Moving.{joins, commit_text, title_of}
 use Rattle.storage_home.specs.Kept.{most}
 use Rattle.storage_home.specs.Applied.{AreChanges, AreReserved}
 use Rattle.owner_view.specs.Net.{AreNet}
+use Rattle.owner_titles.specs.Telling.{told_text}
 use Rattle.owner_accounts.specs.declared.accounts.Accounts.{Accounts}
 use Rattle.owner_accounts.specs.declared.commits.Commit.{Commit}
 use Rattle.owner_accounts.specs.Accounts.{AreAccounts}
@@ -21,11 +23,11 @@ pub record MayPrepare (S : Schema) (a : Accounts) (n : OwnerNo) (limit : ℕ) : 
   pub by : IsOwner S a n
   pub limit_is : by.limits.total ≡ limit
 
--- what the history will tell of it, where it will
+-- the text that the history will tell of it, where it will
 abbrev pub text_of : Kept → OwnerNo → Owner → Option (List ℕ)
 text_of k n owner = if joins owner.level (net k.catalog owner) then Some (commit_text (title_of k n) owner.level (net k.catalog owner)) else None
 
--- what the owner changed is made ready: its net changes, for which there is room, and the text
+-- what the owner changed is made ready: its net changes, for which there is room, and what is told
 pub record IsPrepared (S : Schema) (a : Accounts) (k : Kept) (n : OwnerNo) (commit : Commit) : Type 0 where
   pub owner : Owner
   pub there : get k.owners n.0 ≡ Some owner
@@ -35,7 +37,7 @@ pub record IsPrepared (S : Schema) (a : Accounts) (k : Kept) (n : OwnerNo) (comm
   pub reserved : AreReserved a.homes commit.changes
   pub unique : IsUnique S (over k.catalog (net k.catalog owner))
   pub bounded : total S (over k.catalog (net k.catalog owner)) ≤ most
-  pub text : commit.text ≡ text_of k n owner
+  pub told : option_map told_text commit.told ≡ text_of k n owner
 
 -- some machine keeps what these accounts do, and the commit is made ready for it
 pub record AnyPrepared (a : Accounts) (commit : Commit) : Type 0 where

@@ -1,6 +1,7 @@
 // What owners changed is committed.
 ghost use Rattle.std.specs.Prelude.{◌≡◌, ◌↔◌, ◌<◌, List, length, Some, None, IfOk, IfSome, OnOk, if◌then◌else◌};
 ghost use Rattle.std.specs.FinMap.{get};
+ghost use Rattle.std.specs.Option.{option_map};
 ghost use Rattle.type_layout.specs.declared.schema.Schema.{Schema as PlainSchema};
 ghost use Rattle.pss_base.specs.declared.owner.OwnerNo.{OwnerNo as Number};
 ghost use Rattle.pss_catalog.specs.Catalog.{total};
@@ -10,15 +11,15 @@ ghost use Rattle.pss_machine.specs.Kept.{Kept};
 ghost use Rattle.pss_machine.specs.Moving as machine;
 ghost use Rattle.pss_machine.specs.Moving.{joins, settled};
 ghost use Rattle.owner_titles.specs.Meaning.{title_of};
+ghost use Rattle.owner_titles.specs.Telling.{told_text};
 ghost use Rattle.owner_accounts.specs.Accounts.{AreAccounts};
 ghost use Rattle.owner_accounts.specs.Commits.{MayPrepare, IsPrepared, AnyPrepared, text_of};
 
 use crate::accounts::Accounts;
 use crate::weights::is_too_much;
-use owner_titles::{Called, commit_text};
-use pss_base::{Bytes, NoMemory, OwnerNo};
+use owner_titles::{Called, Told, told_of};
+use pss_base::{NoMemory, OwnerNo};
 use pss_machine::Level;
-use std::alloc::Global;
 use storage_home::Changes;
 use type_layout::Schema;
 
@@ -26,7 +27,7 @@ use type_layout::Schema;
 #[derive(Drop)]
 pub struct Commit {
     changes: Changes,
-    text: Option<Bytes>,
+    told: Option<Told>,
 }
 
 impl Commit {
@@ -45,7 +46,6 @@ impl Accounts {
     /// `NoMemory`: nothing is said of the accounts, which are not used again.
     pub fn prepare(
         &mut self,
-        alloc: Global,
         owner: OwnerNo,
         schema: &Schema,
         most: u64,
@@ -60,21 +60,16 @@ impl Accounts {
             return Ok(None);
         }
         self.homes.reserve_for(&changes)?;
-        let text = self.text_of(alloc, owner, changes.as_slice().len() as u32)?;
-        Ok(Some(Commit { changes, text }))
+        let told = self.told_of(owner, changes.as_slice().len() as u32)?;
+        Ok(Some(Commit { changes, told }))
     }
 
     // What the history will tell of an owner's commit of so many changes, where it will tell of it.
-    fn text_of(
-        &self,
-        alloc: Global,
-        owner: OwnerNo,
-        changed: u32,
-    ) -> Result<Option<Bytes>, NoMemory>
-        ensures { IfOk result (λ text. (S : PlainSchema) (k : Kept) (o : Owner) → AreAccounts S self.now k → get k.owners owner.0 ≡ Some o → length (net k.catalog o) ≡ changed → text ≡ text_of k owner o) }
+    fn told_of(&self, owner: OwnerNo, changed: u32) -> Result<Option<Told>, NoMemory>
+        ensures { IfOk result (λ told. (S : PlainSchema) (k : Kept) (o : Owner) → AreAccounts S self.now k → get k.owners owner.0 ≡ Some o → length (net k.catalog o) ≡ changed → option_map told_text told ≡ text_of k owner o) }
     {
         match self.titles.get(owner) {
-            Some(called) => text_of(alloc, called, changed),
+            Some(called) => told_where_it_joins(called, changed),
             None => Ok(None),
         }
     }
@@ -84,10 +79,10 @@ impl Accounts {
         requires { AnyPrepared self.old commit }
         ensures { (S : PlainSchema) (k : Kept) (n : Number) → AreAccounts S self.old k → IsPrepared S self.old k n commit → AreAccounts S self.new (settled k n) }
     {
-        let Commit { changes, text } = commit;
+        let Commit { changes, told } = commit;
         self.homes.apply_reserved(changes);
-        if let Some(text) = text {
-            self.history.tell(text);
+        if let Some(told) = told {
+            self.history.tell(told);
         }
     }
 }
@@ -104,12 +99,12 @@ fn joins(level: Level, changed: u32) -> bool
 }
 
 // What the history will tell of a commit of so many changes by one who is called so, where it will tell of it.
-fn text_of(alloc: Global, called: &Called, changed: u32) -> Result<Option<Bytes>, NoMemory>
-    ensures { IfOk result (λ text. (changes : List Change) → length changes ≡ changed → text ≡ (if joins called.now.level changes then Some (machine.commit_text (title_of called.now) called.now.level changes) else None)) }
+fn told_where_it_joins(called: &Called, changed: u32) -> Result<Option<Told>, NoMemory>
+    ensures { IfOk result (λ told. (changes : List Change) → length changes ≡ changed → option_map told_text told ≡ (if joins called.now.level changes then Some (machine.commit_text (title_of called.now) called.now.level changes) else None)) }
 {
     if joins(called.level, changed) {
-        let text = commit_text(alloc, called, changed)?;
-        Ok(Some(text))
+        let told = told_of(called, changed)?;
+        Ok(Some(told))
     } else {
         Ok(None)
     }

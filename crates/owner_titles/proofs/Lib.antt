@@ -4,3 +4,4 @@ pub mod Naming
 pub mod Sounds
 pub mod Machine
 pub mod Follow
+pub mod Telling

@@ -1,4 +1,5 @@
 pub mod Codes
 pub mod Meaning
+pub mod Telling
 pub mod History
 pub mod inner

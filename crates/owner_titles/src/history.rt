@@ -1,38 +1,43 @@
 // The commits that there were.
 ghost use Rattle.std.specs.Prelude.{◌≡◌, ◌-◌, ◌<◌, ◌^◌, ◌++◌, ◌∷◌, [], IfOk};
 ghost use Rattle.owner_titles.specs.History.{no_commits, told};
-ghost use Rattle.owner_titles.specs.inner.Room.{HasRoom};
-ghost use Rattle.pss_machine.specs.Moving.{last_64};
+ghost use Rattle.owner_titles.specs.Telling.{told_text};
+ghost use Rattle.owner_titles.specs.inner.Room.{HasRoom, newest};
 
-use pss_base::{Bytes, NoMemory};
+use crate::text::told_text;
+use crate::told::Told;
+use pss_base::NoMemory;
 use std::alloc::Global;
 use std::collections::VecDeque;
 use std::marker::Model;
 use type_layout::Names;
 
-// How many texts are kept.
+// How many commits are told of.
 const KEPT: usize = 64;
 
 /// How many commits there were, and the texts of the last 64 of them, oldest first.
 ///
-/// The room for these is made at first, so that a commit is told without memory.
+/// A text is spelled when it is asked for; until then what it tells is kept as values. The room for these is made at
+/// first, so that a commit is told without memory.
 #[derive(Drop)]
 pub struct History {
     alloc: Global,
     commits: u64,
-    recent: VecDeque<Bytes>,
+    recent: VecDeque<Told>,
 }
 
 impl Model for History {
     ghost use Rattle.owner_titles.specs.History.{History};
     ghost use Rattle.owner_titles.specs.Codes.{history_code};
+    ghost use Rattle.owner_titles.specs.Telling.{told_text};
     ghost use Rattle.owner_titles.specs.inner.Room.{HasRoom};
+    ghost use Rattle.std.specs.Prelude.{map};
 
     ghost Value = { History };
 
     ghost coded = { history_code };
 
-    ghost view = { λ h. record { commits = h.commits; recent = h.recent.items } };
+    ghost view = { λ h. record { commits = h.commits; recent = map told_text h.recent.items } };
 
     ghost invariant = { λ h. HasRoom h.recent };
 }
@@ -49,12 +54,12 @@ impl History {
         })
     }
 
-    /// One commit more, of this text. It takes no memory.
-    pub fn tell(&mut self, text: Bytes)
+    /// One commit more, of which this is told. It takes no memory.
+    pub fn tell(&mut self, commit: Told)
         requires { self.old.commits < 2 ^ 64 - 1 }
-        ensures { self.new ≡ told self.old text }
+        ensures { self.new ≡ told self.old (told_text commit) }
     {
-        push_last(&mut self.recent, text);
+        push_last(&mut self.recent, commit);
         self.commits += 1;
     }
 
@@ -65,28 +70,28 @@ impl History {
         self.commits
     }
 
-    /// The texts of the last 64 commits, oldest first.
+    /// The texts of the last 64 commits, oldest first. They are spelled here.
     pub fn recent(&self) -> Result<Names, NoMemory>
         ensures { IfOk result (λ texts. texts ≡ self.now.recent) }
     {
         let mut texts = Names::new(self.alloc);
         for at in 0..self.recent.len() {
-            if let Some(text) = self.recent.get(at) {
-                texts.push(text.copy()?)?;
+            if let Some(told) = self.recent.get(at) {
+                texts.push(told_text(self.alloc, told)?)?;
             }
         }
         Ok(texts)
     }
 }
 
-// Puts a text last, in the place of the first one where there is no room for one more.
-fn push_last(recent: &mut VecDeque<Bytes>, text: Bytes)
+// Puts what is told of a commit last, in the place of the first one where there is no room for one more.
+fn push_last(recent: &mut VecDeque<Told>, commit: Told)
     requires { HasRoom recent.old }
     ensures room { HasRoom recent.new }
-    ensures last { recent.new.items ≡ last_64 (recent.old.items ++ text ∷ []) }
+    ensures last { recent.new.items ≡ newest (recent.old.items ++ commit ∷ []) }
 {
     if recent.len() == KEPT {
         let _ = recent.pop_front();
     }
-    recent.push_back_reserved(text);
+    recent.push_back_reserved(commit);
 }

@@ -1,11 +1,9 @@
-// What the history tells of a commit.
-ghost use Rattle.std.specs.Prelude.{◌≡◌, ◌++◌, List, length, codes, decimal, IfOk, OnOk};
-ghost use Rattle.pss_machine.specs.Moving as machine;
+// The text of what is told of a commit.
+ghost use Rattle.std.specs.Prelude.{◌≡◌, ◌++◌, codes, decimal, IfOk, OnOk};
 ghost use Rattle.pss_machine.specs.Moving.{level_text};
-ghost use Rattle.pss_catalog.specs.Changes.{Change};
-ghost use Rattle.owner_titles.specs.Meaning.{title_of};
+ghost use Rattle.owner_titles.specs.Telling.{told_text};
 
-use crate::called::Called;
+use crate::told::Told;
 use itoa::Buffer;
 use pss_base::{Bytes, NoMemory};
 use pss_machine::Level;
@@ -40,16 +38,16 @@ fn append_number(out: &mut Bytes, number: u32) -> Result<(), NoMemory>
 // The most bytes behind a name: a level and two numbers, each behind a colon.
 const BEHIND_NAME: usize = 37;
 
-/// What the history tells of an owner's commit: its name, its level, how many data commands it has done, and how many
-/// objects it changed.
-pub fn commit_text(alloc: Global, called: &Called, changed: u32) -> Result<Bytes, NoMemory>
-    ensures { (changes : List Change) → length changes ≡ changed → IfOk result (λ text. text ≡ machine.commit_text (title_of called.now) called.now.level changes) }
+/// The text of what is told of a commit: the owner's name, its level, how many data commands it had done, and how many
+/// objects it changed, with colons between them.
+pub fn told_text(alloc: Global, told: &Told) -> Result<Bytes, NoMemory>
+    ensures { IfOk result (λ text. text ≡ told_text told.now) }
 {
-    let name = called.name.as_slice();
+    let name = told.name.as_slice();
     let mut text = Bytes::with_room(alloc, name.len() + BEHIND_NAME)?;
     text.extend(name)?;
-    append_part(&mut text, level_name(called.level))?;
-    append_number(&mut text, called.commands)?;
-    append_number(&mut text, changed)?;
+    append_part(&mut text, level_name(told.level))?;
+    append_number(&mut text, told.commands)?;
+    append_number(&mut text, told.changed)?;
     Ok(text)
 }

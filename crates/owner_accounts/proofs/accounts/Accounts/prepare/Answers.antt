@@ -30,11 +30,11 @@ overflow_cast-as_slice c =
     let same : length c.as_slice-2.result.now ≡ length (steps c.requires) = ap length c.as_slice-2.ensures.items ∙ as_many c.args.schema.now c.requires.by.kept.catalog c.in_ok-changes.changes (steps c.requires) (c.in_ok-changes.ensures.wanted (may_see c.requires.by)) in
     omega (arith, same, few c.requires)
 
-wanted : (c : goal.In_ok-text) (m : MayPrepare c.args.schema.now c.args.self.now c.args.owner c.args.most) → AreChanges c.args.schema.now m.by.kept.catalog c.in_ok-changes.changes (steps m)
+wanted : (c : goal.In_ok-told) (m : MayPrepare c.args.schema.now c.args.self.now c.args.owner c.args.most) → AreChanges c.args.schema.now m.by.kept.catalog c.in_ok-changes.changes (steps m)
 wanted c m = c.in_ok-changes.ensures.wanted (may_see m.by)
 
 -- the objects would weigh no more than the limit
-within : (c : goal.In_ok-text) (m : MayPrepare c.args.schema.now c.args.self.now c.args.owner c.args.most) → nat_lt c.args.most (total c.args.schema.now (over m.by.kept.catalog (steps m))) ≡ false
+within : (c : goal.In_ok-told) (m : MayPrepare c.args.schema.now c.args.self.now c.args.owner c.args.most) → nat_lt c.args.most (total c.args.schema.now (over m.by.kept.catalog (steps m))) ≡ false
 within c m =
     sym (c.is_too_much.ensures c.args.schema.now m.by.kept.catalog (steps m) m.by.are.catalog (subst (λ cs. AreChanges c.args.schema.now m.by.kept.catalog cs (steps m)) (sym c.as_slice.ensures.items) (wanted c m)) (rise m))
     ∙ c.if-is_too_much.false
@@ -51,7 +51,7 @@ returns-clause-prepared c m = record {
   reserved = c.in_ok-reserve_for.ensures.ok;
   unique = unique_after m;
   bounded = bounded_after m (within c m);
-  text =
-      c.in_ok-text.ensures c.args.schema.now m.by.kept m.by.owner (reserved_are c.args.schema.now c.args.self.now _ m.by.kept m.by.are (c.in_ok-reserve_for.ensures.kept c.args.schema.now m.by.kept.catalog m.by.are.catalog) refl refl refl refl) m.by.there
+  told =
+      c.in_ok-told.ensures c.args.schema.now m.by.kept m.by.owner (reserved_are c.args.schema.now c.args.self.now _ m.by.kept m.by.are (c.in_ok-reserve_for.ensures.kept c.args.schema.now m.by.kept.catalog m.by.are.catalog) refl refl refl refl) m.by.there
       (sym (ap length c.as_slice-2.ensures.items ∙ as_many c.args.schema.now m.by.kept.catalog c.in_ok-changes.changes (steps m) (wanted c m)));
 }

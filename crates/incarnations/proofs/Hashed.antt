@@ -1,5 +1,5 @@
 -- The finite map that a table by hash stands for.
-use Rattle.std.proofs.Common.{ℕ, suc, ◌≡◌, ◌+◌, List, [], ◌∷◌, length, Bool, true, false, cond, Some, None, IsSome, refl, sym, ap, ◌∙◌, subst, arith}
+use Rattle.std.proofs.Common.{ℕ, suc, ◌≡◌, ◌+◌, List, [], ◌∷◌, length, Bool, true, false, cond, Option, Some, None, IsSome, refl, sym, ap, ◌∙◌, subst, arith}
 use Rattle.std.specs.Prelude.{is_some, IsSomeAnd}
 use Rattle.std.specs.Map.{lookup, keys_of}
 use Rattle.std.specs.List.{IsDistinct, AllByRecursion}
@@ -54,6 +54,17 @@ module _ {K X : Type 0} {R : K → K → Ordering} (key : IsKey R) (eq : K → K
 
     pub there : IsSome (get m q) → IsSome (lookup (eq q) es)
     there h = subst IsSome told h
+
+    -- a value of which something holds is there, and it holds of what stands in the table
+    pub some : (P : X → Type 0) → IsSomeAnd (get m q) P → IsSome (get m q)
+    some P = by (get m q)
+      where
+        by : (o : Option X) → IsSomeAnd o P → IsSome o
+        by None h = absurd h
+        by (Some x) h = refl
+
+    pub holds_at : (P : X → Type 0) → IsSomeAnd (get m q) P → (x : X) → Some x ≡ lookup (eq q) es → P x
+    holds_at P h x at = subst (λ o. IsSomeAnd o P) (told ∙ sym at) h
 
     pub never : IsSome (get m q) → None ≡ lookup (eq q) es → ⊥
     never h e = nothing (subst IsSome (told ∙ sym e) h)

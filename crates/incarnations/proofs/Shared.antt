@@ -1,5 +1,5 @@
 -- What is stored after an entry came to share a body, or to stand on a new one; and after a body got another value.
-use Rattle.std.proofs.Common.{◌≡◌, ◌≢◌, ◌<◌, ◌≤◌, ◌+◌, List, [], Some, None, IsSome, refl, sym, ap, ◌∙◌, subst, arith}
+use Rattle.std.proofs.Common.{ℕ, ◌≡◌, ◌≢◌, ◌<◌, ◌≤◌, ◌+◌, List, [], Some, None, IsSome, refl, sym, ap, ◌∙◌, subst, arith}
 use Rattle.std.specs.Prelude.{IsSomeAnd, is_some}
 use Rattle.std.specs.Option.{option_map}
 use Rattle.std.specs.FinMap.{FinMap, get, insert, remove}
@@ -17,10 +17,10 @@ use Rattle.incarnations.specs.declared.stock.Stock.{Stock}
 use Rattle.incarnations.specs.Keys.{slot_cmp, session_cmp}
 use Rattle.incarnations.specs.Maps.{each, count}
 use Rattle.incarnations.specs.Records.{with_entries, with_attached}
-use Rattle.incarnations.specs.Meaning.{stands_on, body, with_view, with_entry, attached}
+use Rattle.incarnations.specs.Meaning.{is_of, stands_on, body, with_view, with_entry, attached}
 use Rattle.incarnations.specs.Stock.{Place, Loose, On, row_at, meaning_of, IsSound, First, IsMoved}
-use Rattle.incarnations.proofs.Maps.{no_value, one_value, insert_here, insert_apart, remove_apart, each_insert, each_same}
-use Rattle.incarnations.proofs.Keys.{body_key, session_key}
+use Rattle.incarnations.proofs.Maps.{no_value, one_value, insert_here, insert_apart, remove_apart, each_insert, each_same, count_within, len_each}
+use Rattle.incarnations.proofs.Keys.{slot_key, body_key, session_key}
 use Rattle.incarnations.proofs.Fronts.{attached_fewer}
 use Rattle.std.specs.FinMap as finite
 use Rattle.incarnations.specs.Keys.{body_cmp}
@@ -35,8 +35,10 @@ module _ (k : Stock) (sound : IsSound k) (x : Slot) (was : EntryRecord) (at : ge
   home : Has (get k.sessions x.session)
   home = home_there k sound x was at
 
-  pub home_room : IsSomeAnd (get k.sessions x.session) (λ r. r.attached < r.entries)
-  home_room = subst (λ o. IsSomeAnd o (λ r. r.attached < r.entries)) (sym home.is) (attached_fewer k sound x was at home.value home.is (ap is_some loose))
+  pub home_room : (n : ℕ) → finite.len k.entries ≤ n → IsSomeAnd (get k.sessions x.session) (λ r. r.attached < n)
+  home_room n within =
+      subst (λ o. IsSomeAnd o (λ r. r.attached < n)) (sym home.is)
+      (omega (arith, within, attached_fewer k sound x was at home.value home.is (ap is_some loose), sound.counts.sessions x.session home.value.entries (ap (option_map (λ r. r.entries)) home.is), count_within slot_key (is_of x.session) (plain k.entries), len_each (λ r. r.entry) k.entries))
 
   module _ (sessions : FinMap session_cmp SessionRecord) (one : IsWith k.sessions sessions x.session (λ r. with_attached (r.attached + 1) r)) where
     counted : sessions ≡ insert k.sessions x.session (with_attached (home.value.attached + 1) home.value)

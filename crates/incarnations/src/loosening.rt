@@ -6,7 +6,7 @@ ghost use Rattle.incarnations.specs.Stock.{IsSound, IsSet, IsPassed, KeepsCols, 
 
 use crate::loads::lower;
 use crate::moves::move_node;
-use crate::names::{BodyName, Entry, EntryRecord, SessionRecord, Slot};
+use crate::names::{BodyName, Entry, EntryRecord, Slot};
 use crate::stock::Stock;
 use pss_machine::View;
 
@@ -32,16 +32,7 @@ pub fn loosen(stock: &mut Stock, slot: Slot, was: EntryRecord, view: View)
         view: None,
     };
     stock.entries.set(slot, EntryRecord { entry, node });
-    stock.sessions.set(
-        slot.session,
-        SessionRecord {
-            col: home.col,
-            row: home.row,
-            last: home.last,
-            entries: home.entries,
-            attached: home.attached - 1,
-        },
-    );
+    stock.sessions.count_down(slot.session);
     stock.attached -= 1;
     lower(stock, BodyName { pid, view });
 }

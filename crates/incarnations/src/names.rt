@@ -87,7 +87,7 @@ pub struct SessionRecord {
     pub row: Row,
     pub last: u32,
     pub entries: u32,
-    pub attached: u32,
+    pub attached: u64,
 }
 
 /// Where a body stands: the row of its entries, and how many they are.

@@ -1,38 +1,15 @@
 // Entries come to stand on bodies.
-ghost use Rattle.std.specs.Prelude.{◌≡◌, ◌<◌, ◌+◌, Some, None, IsSome, IsSomeAnd, OnOk, OnErr};
-ghost use Rattle.std.specs.FinMap.{get, insert};
+ghost use Rattle.std.specs.Prelude.{◌≡◌, Some, None, IsSome, IsSomeAnd, OnOk, OnErr};
+ghost use Rattle.std.specs.FinMap.{get};
 ghost use Rattle.incarnations.specs.Meaning.{body, with_entry, with_view, attached};
-ghost use Rattle.incarnations.specs.Maps.{IsWith};
-ghost use Rattle.incarnations.specs.Records.{with_attached};
 ghost use Rattle.incarnations.specs.Stock.{IsSound, meaning_of};
 
 use crate::moves::move_ahead;
-use crate::names::{BodyName, BodyPlace, BodyRecord, Entry, EntryRecord, SessionRecord, Slot};
+use crate::names::{BodyName, BodyPlace, BodyRecord, Entry, EntryRecord, Slot};
 use crate::stock::Stock;
-use crate::tables::sessions::SessionTable;
-use pss_base::{NoMemory, SessionNo};
+use pss_base::NoMemory;
 use pss_machine::View;
 use type_layout::Record;
-
-// One more of a session's entries stands on a body.
-fn count_one(sessions: &mut SessionTable, session: SessionNo)
-    requires { IsSomeAnd (get sessions.old session) (λ r. r.attached < r.entries) }
-    ensures { IsWith sessions.old sessions.new session (λ r. with_attached (r.attached + 1) r) }
-{
-    let Some(home) = sessions.get(session) else {
-        unreachable!()
-    };
-    sessions.set(
-        session,
-        SessionRecord {
-            col: home.col,
-            row: home.row,
-            last: home.last,
-            entries: home.entries,
-            attached: home.attached + 1,
-        },
-    );
-}
 
 /// An entry that stands on no body comes to stand on one that is there, and comes first in its session.
 pub fn share(stock: &mut Stock, slot: Slot, was: EntryRecord, view: View)
@@ -57,7 +34,7 @@ pub fn share(stock: &mut Stock, slot: Slot, was: EntryRecord, view: View)
         view: Some(view),
     };
     stock.entries.set(slot, EntryRecord { entry, node });
-    count_one(&mut stock.sessions, slot.session);
+    stock.sessions.count_up(slot.session);
     stock.bodies.set_entries(name, place.entries + 1);
     stock.attached += 1;
 }
@@ -95,7 +72,7 @@ pub fn attach(
                 view: Some(view),
             };
             stock.entries.set(slot, EntryRecord { entry, node });
-            count_one(&mut stock.sessions, slot.session);
+            stock.sessions.count_up(slot.session);
             stock.attached += 1;
             Ok(())
         }

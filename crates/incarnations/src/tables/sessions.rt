@@ -1,6 +1,8 @@
 // The sessions by number.
-ghost use Rattle.std.specs.Prelude.{◌≡◌, IsSome, OnOk, OnErr};
+ghost use Rattle.std.specs.Prelude.{◌≡◌, ◌<◌, ◌+◌, ◌-◌, ◌^◌, IsSome, IsSomeAnd, OnOk, OnErr};
 ghost use Rattle.std.specs.FinMap as map;
+ghost use Rattle.incarnations.specs.Maps.{IsWith};
+ghost use Rattle.incarnations.specs.Records.{with_attached};
 
 use crate::names::SessionRecord;
 use pss_base::{NoMemory, SessionNo};
@@ -57,6 +59,28 @@ impl SessionTable {
         ensures { self.new ≡ map.insert self.old session put }
     {
         self.table.set(session, put);
+    }
+
+    /// One more of a session's entries stands on a body. It is counted where the record stands.
+    pub fn count_up(&mut self, session: SessionNo)
+        requires { IsSomeAnd (map.get self.old session) (λ r. r.attached < 2 ^ 63) }
+        ensures { IsWith self.old self.new session (λ r. with_attached (r.attached + 1) r) }
+    {
+        match self.table.get_mut(session) {
+            Some(record) => record.attached += 1,
+            None => unreachable!(),
+        }
+    }
+
+    /// One fewer of a session's entries stands on a body.
+    pub fn count_down(&mut self, session: SessionNo)
+        requires { IsSomeAnd (map.get self.old session) (λ r. 0 < r.attached) }
+        ensures { IsWith self.old self.new session (λ r. with_attached (r.attached - 1) r) }
+    {
+        match self.table.get_mut(session) {
+            Some(record) => record.attached -= 1,
+            None => unreachable!(),
+        }
     }
 
     pub fn remove(&mut self, session: SessionNo)

@@ -80,7 +80,7 @@ fn needs_below<C: Committed>(
     requires { Sees C.shows view.now }
     ensures { IfOk result (λ needs. needs ≡ map (extent_need Read) (below view.now.schema.now home)) }
 {
-    let homes = homes_below(alloc, view.schema, view.committed.families(), home)?;
+    let homes = homes_below(alloc, view.committed.families(), home)?;
     needs_of(alloc, &homes)
 }
 

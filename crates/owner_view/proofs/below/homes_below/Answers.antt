@@ -1,16 +1,15 @@
-use Rattle.std.proofs.Common.{◌<◌, ◌≤◌, length, ap, arith}
+use Rattle.std.proofs.Common.{ℕ, List, subst, rules}
+use Rattle.std.specs.List.Sorted.{IsPermutation}
+use Rattle.std.proofs.lemmas.List.Sorted.{answers_always, IsNonDecreasingBy-from_sort}
 use Rattle.type_layout.specs.declared.home.HomeNo.{HomeNo}
-use Rattle.type_layout.specs.Schemas.{descends}
-use Rattle.owner_view.proofs.Belows.{one_more, all_of_them}
+use Rattle.owner_view.proofs.Belows.{heirs_below}
 use Rattle.owner_view.proofs.below.homes_below.Goals as goal
 
-pub loop-place-preserved : goal.loop-place-preserved
-loop-place-preserved c =
-    let within : c.loop-place.place < length c.args.schema.now.homes = omega (arith, c.loop-place-test.true, ap length c.as_slice-place-end.ensures) in
-    one_more (λ (g : HomeNo). descends c.args.schema.now g c.args.home) c.args.schema.now.homes c.loop-place.place c.loop-place.homes.items c.push_heir.new.homes.items within c.loop-place.invariant
-    (c.in_ok-push_heir.ensures c.args.schema.now c.requires.sound c.requires.families)
-
 pub returns : goal.returns
-returns c =
-    let end : length c.args.schema.now.homes ≤ c.loop-place.place = omega (arith, c.loop-place-test.false, ap length c.as_slice-place-end.ensures) in
-    all_of_them (λ (g : HomeNo). descends c.args.schema.now g c.args.home) c.args.schema.now.homes c.loop-place.place c.loop-place.homes.items end c.loop-place.invariant
+returns c S sound bases =
+    let number : HomeNo → ℕ = λ home. home.0 in
+    let homes = c.sort_unstable_by_key.new.self.items in
+    let numbers = answers_always _ _ _ (λ f a r next called. search rules) in
+    heirs_below S sound c.args.home c.heirs.result.now (c.heirs.ensures S sound bases) homes
+    (subst (λ (hs : List HomeNo). IsPermutation hs homes) c.in_ok-homes.ensures.items c.sort_unstable_by_key.ensures.permutation)
+    (IsNonDecreasingBy-from_sort number homes (c.sort_unstable_by_key.ensures.sorted number numbers))

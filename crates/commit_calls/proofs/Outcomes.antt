@@ -31,7 +31,7 @@ use Rattle.connector_parts.specs.Found.{IsFound}
 use Rattle.connector_parts.proofs.Decisions.{in_state, for_found, only_told, comes}
 use Rattle.connector_parts.proofs.Bounds.{own_at}
 use Rattle.commit_calls.specs.Ready.{MayMakeReady}
-use Rattle.commit_calls.specs.Commits.{MayFlush, Follows}
+use Rattle.commit_calls.specs.Commits.{Follows}
 
 -- ---- full, or not
 
@@ -138,9 +138,6 @@ module _ (c : Parts) (k : Kept) (at : IsAt c k) (name : List ℕ) where
 
     pub basic_is : (n : OwnerNo) → found.kind ≡ Basic n → decision c.schema c.limits k (command.Flush name) ≡ unless_full c.schema c.limits k n (Flushes n)
     basic_is n kind = in_state k name found is (λ s session. flushing c.schema c.limits k session) (Basic n) found.association kind refl
-
-    pub may_flush : (n : OwnerNo) → found.kind ≡ Basic n → MayFlush k found.number n
-    may_flush n kind = record { own = own_at c k at; session = is.session; there = is.there; kind = sym is.kind_is ∙ kind }
 
     -- the owner of the session is there
     abbrev pub flush_ready : (n : OwnerNo) → found.kind ≡ Basic n → MayMakeReady c n

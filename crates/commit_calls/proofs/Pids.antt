@@ -1,9 +1,12 @@
 -- The objects of changes.
-use Rattle.std.proofs.Common.{ℕ, ◌≡◌, List, [], ◌∷◌, map, Option, Some, None, sym, ap, ◌∙◌}
+use Rattle.std.proofs.Common.{ℕ, ◌≡◌, ◌==◌, false, List, [], ◌∷◌, map, Option, Some, None, sym, ap, ◌∙◌}
 use Rattle.std.specs.FinMap.{get}
+use Rattle.std.proofs.lemmas.Bool.{eq-eqb}
+use Rattle.pss_base.specs.declared.pid.Pid.{Pid}
 use Rattle.pss_base.specs.declared.owner.OwnerNo.{OwnerNo}
 use Rattle.type_layout.specs.declared.home.HomeNo.{HomeNo}
 use Rattle.type_layout.specs.declared.schema.Schema.{Schema}
+use Rattle.type_layout.specs.Schemas.{given}
 use Rattle.pss_catalog.specs.Catalog.{Object, Catalog, IsGiven}
 use Rattle.pss_catalog.specs.Changes.{Change as Step}
 use Rattle.storage_home.specs.declared.change.Change.{Change}
@@ -15,7 +18,8 @@ use Rattle.pss_laws.proofs.Storing.{net_each}
 use Rattle.owner_view.specs.Net.{home_left, AreNet}
 use Rattle.owner_accounts.specs.Reached.{IsReached}
 use Rattle.owner_accounts.proofs.Runs.{fine_at, keeping_at}
-use Rattle.pss_copies.specs.Settling.{AreOf}
+use Rattle.owner_view.specs.States.{AreValued}
+use Rattle.pss_copies.specs.Settling.{AreOf, HasAmong}
 use Rattle.commit_calls.specs.Ready.{pid_of}
 
 -- each is of the home in which its object was committed, and is where it does not go
@@ -34,3 +38,7 @@ pub pids_of_net : (S : Schema) (limits : Limits) (k : Kept) → IsReached S limi
 pids_of_net S limits k reached n owner there cs are =
     let fine = fine_at S limits k reached in
     of_changes S k.catalog k.next (net k.catalog owner) cs are (net_each S k.next k.catalog owner fine.catalog (fine.views n.0 owner there) ((keeping_at S limits k reached).homes n.0 owner there))
+
+-- each object to which changes give a value is among those that have one
+pub valued_among : (owner : Owner) (pids : List Pid) → AreValued owner.changes pids → HasAmong owner pids
+valued_among owner pids all pid x gave of = all pid ∙ ap (λ state. given state false (λ s. given s false (λ (y : Object). y.home.0 == pid.home))) gave ∙ eq-eqb x.home.0 pid.home of

@@ -1,5 +1,5 @@
 -- Commits that are made ready for what a machine keeps.
-use Rattle.std.proofs.Common.{◌≡◌, ◌<◌, map, Option, Some, None, Bool, true, false, refl, sym, ap, ◌∙◌, subst}
+use Rattle.std.proofs.Common.{◌≡◌, ◌<◌, List, map, Option, Some, None, Bool, true, false, refl, sym, ap, ◌∙◌, subst}
 use Rattle.std.specs.Prelude.{◌↔◌, not, nat_lt, IfSome}
 use Rattle.std.specs.Option.{option_map}
 use Rattle.std.specs.FinMap.{get}
@@ -10,7 +10,8 @@ use Rattle.type_layout.specs.declared.schema.Schema.{Schema}
 use Rattle.type_layout.specs.Schemas.{given}
 use Rattle.pss_catalog.specs.Catalog.{total}
 use Rattle.pss_catalog.specs.Changes.{over}
-use Rattle.pss_machine.specs.Owners.{net}
+use Rattle.storage_home.specs.declared.change.Change.{Change}
+use Rattle.pss_machine.specs.Owners.{Owner, net}
 use Rattle.pss_machine.specs.Kept.{Kept, Title}
 use Rattle.pss_machine.specs.Sessions.{first_open}
 use Rattle.pss_machine.proofs.Logic.{none_some}
@@ -20,12 +21,13 @@ use Rattle.pss_machine.specs.Deciding.{is_over_full, is_marked}
 use Rattle.owner_titles.specs.declared.called.Called.{Called}
 use Rattle.owner_titles.specs.Meaning.{Meaning as Titles, AreTitles, title_of}
 use Rattle.owner_accounts.specs.declared.commits.Commit.{Commit}
+use Rattle.owner_accounts.specs.Accounts.{AreAccounts}
 use Rattle.owner_accounts.specs.Commits.{MayPrepare, IsPrepared}
-use Rattle.pss_copies.specs.Settling.{AreOf}
+use Rattle.pss_copies.specs.Settling.{AreOf, HasAmong}
 use Rattle.connector_parts.specs.declared.parts.Parts.{Parts}
 use Rattle.connector_parts.specs.Stands.{Stands, StayAs}
 use Rattle.commit_calls.specs.declared.ready.Ready.{Ready}
-use Rattle.commit_calls.specs.Ready.{pid_of, pids_in, MayMakeReady, IsReady}
+use Rattle.commit_calls.specs.Ready.{pid_of, pids_in, own_in, MayMakeReady, IsReady}
 use Rattle.commit_calls.specs.Commits.{IsCalled}
 use Rattle.commit_calls.proofs.Pids.{pids_of_net}
 use Rattle.commit_calls.proofs.Outcomes.{Opened, opened_is, none_opened}
@@ -58,15 +60,18 @@ module _ (c : Parts) (n : OwnerNo) (S : Schema) (same : S ≡ c.schema) (m : May
       by true less = absurd (none_some (sym ((full_as (o ≡ None) h).1 (ltb-true c.limits.total (total c.schema (over m.kept.catalog (net m.kept.catalog m.owner))) less)) ∙ is))
 
   -- and its objects are these
-  pub ready_as : (d : Parts) (ready : Ready) → d.schema ≡ c.schema → (o : Option Commit) → o ≡ Some ready.commit → IfSome o (λ commit. (p : MayPrepare S c.accounts n c.limits.total) → IsPrepared S d.accounts p.by.kept n commit) → pids_in ready.pids ≡ map pid_of ready.commit.changes → IsReady d m.kept n ready
-  ready_as d ready stays o is h pids =
+  pub ready_as : (d : Parts) (ready : Ready) → d.schema ≡ c.schema → (o : Option Commit) → o ≡ Some ready.commit → IfSome o (λ commit. (p : MayPrepare S c.accounts n c.limits.total) → IsPrepared S d.accounts p.by.kept n commit) → AreAccounts c.schema d.accounts m.kept
+      → (changes : List Change) → changes ≡ ready.commit.changes → pids_in ready.pids ≡ map pid_of changes → ((S : Schema) (k : Kept) (o : Owner) → AreAccounts S d.accounts k → get k.owners n.0 ≡ Some o → AreOf k.catalog (net k.catalog o) (map pid_of changes) → HasAmong o (own_in ready.pids)) → IsReady d m.kept n ready
+  ready_as d ready stays o is h are changes they_are pids own =
       let prepared = subst (λ (q : Option Commit). IfSome q (λ commit. (p : MayPrepare S c.accounts n c.limits.total) → IsPrepared S d.accounts p.by.kept n commit)) is h in
       let p = subst (λ T. (p : MayPrepare T c.accounts n c.limits.total) → IsPrepared T d.accounts p.by.kept n ready.commit) same prepared (may_prepare c n m) in
+      let of_net = subst (λ cs. AreOf m.kept.catalog (net m.kept.catalog p.owner) (map pid_of cs)) (sym they_are) (pids_of_net c.schema c.limits m.kept m.at.reached n p.owner p.there ready.commit.changes p.homes) in
       record {
         owner = p.owner;
         there = p.there;
         commit = subst (λ T. IsPrepared T d.accounts m.kept n ready.commit) (sym stays) p;
-        pids = subst (AreOf m.kept.catalog (net m.kept.catalog p.owner)) (sym pids) (pids_of_net c.schema c.limits m.kept m.at.reached n p.owner p.there ready.commit.changes p.homes);
+        pids = subst (AreOf m.kept.catalog (net m.kept.catalog p.owner)) (sym pids) of_net;
+        own = own c.schema m.kept p.owner are p.there of_net;
       }
 
 -- what was made ready

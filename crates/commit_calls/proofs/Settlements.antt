@@ -1,8 +1,7 @@
 -- What stands behind a commit.
-use Rattle.std.proofs.Common.{ℕ, ◌≡◌, Option, Some, refl, sym, ap, ◌∙◌}
-use Rattle.std.specs.FinMap.{get, len}
+use Rattle.std.proofs.Common.{◌≡◌, Option, Some, refl, sym, ap, ◌∙◌}
+use Rattle.std.specs.FinMap.{get}
 use Rattle.pss_base.specs.declared.owner.OwnerNo.{OwnerNo}
-use Rattle.pss_base.specs.declared.session.SessionNo.{SessionNo}
 use Rattle.type_layout.specs.declared.schema.Schema.{Schema}
 use Rattle.type_layout.specs.Schemas.{given}
 use Rattle.pss_machine.specs.Owners.{Owner, net, is_basic}
@@ -13,13 +12,14 @@ use Rattle.pss_machine.proofs.Logic.{same_some}
 use Rattle.owner_accounts.specs.declared.accounts.Accounts.{Accounts}
 use Rattle.owner_accounts.specs.Accounts.{AreAccounts}
 use Rattle.owner_accounts.specs.Steps.{IsThere}
-use Rattle.pss_copies.specs.Settling.{AreOf, Settles}
+use Rattle.pss_copies.specs.Ruled.{AreOwned}
+use Rattle.pss_copies.specs.Settling.{MayFlush}
 use Rattle.pss_copies.specs.Settling as copies
 use Rattle.connector_parts.specs.declared.parts.Parts.{Parts}
 use Rattle.connector_parts.proofs.Goings.{accounts_alike}
 use Rattle.commit_calls.specs.declared.ready.Ready.{Ready}
-use Rattle.commit_calls.specs.Ready.{pids_in, IsReady}
-use Rattle.commit_calls.specs.Commits.{MayCommit, MayFlush}
+use Rattle.commit_calls.specs.Ready.{pids_in, own_in, IsReady}
+use Rattle.commit_calls.specs.Commits.{MayCommit}
 use Rattle.commit_calls.proofs.Outcomes.{acts_of}
 
 module _ (c : Parts) (k : Kept) (n : OwnerNo) (ready : Ready) (is : IsReady c k n ready) where
@@ -32,8 +32,8 @@ module _ (c : Parts) (k : Kept) (n : OwnerNo) (ready : Ready) (is : IsReady c k 
         closed = may.closed;
       }
 
-  pub flush_settles : (s : SessionNo) (changed : ℕ) → changed ≡ len is.owner.changes → MayFlush k s n → copies.MayFlush k s n (pids_in ready.pids) changed
-  flush_settles s changed so_many may = record { settles = record { owner = is.owner; there = is.there; pids_are = is.pids; own = may.own }; session = may.session; there = may.there; kind = may.kind; changed_is = so_many }
+  pub flush_settles : AreOwned k.owners k.sessions k.next_owner → MayFlush k n (pids_in ready.pids) (own_in ready.pids)
+  flush_settles own = record { settles = record { owner = is.owner; there = is.there; pids_are = is.pids; own = own }; covered = is.own }
 
 -- accounts whose owner has gone are those of the transaction that has gone
 pub gone_alike : (S : Schema) (a : Accounts) (k : Kept) (n : OwnerNo) → AreAccounts S a (without_owner (settled k n) n) → AreAccounts S a (moved k (Commits n))

@@ -4,7 +4,6 @@ use Rattle.std.specs.FinMap.{get}
 use Rattle.pss_base.specs.declared.owner.OwnerNo.{OwnerNo}
 use Rattle.pss_base.specs.declared.session.SessionNo.{SessionNo}
 use Rattle.pss_machine.specs.declared.reply.Reply.{Reply}
-use Rattle.pss_machine.specs.declared.session.Kind.TheVariants.{Basic}
 use Rattle.pss_machine.specs.Sessions.{Session, first_open}
 use Rattle.pss_machine.specs.Kept.{Kept, is_transaction}
 use Rattle.pss_machine.specs.Effects.{Decision}
@@ -21,13 +20,6 @@ pub record MayCommit (k : Kept) (n : OwnerNo) : Type 0 where
   pub own : AreOwned k.owners k.sessions k.next_owner
   pub transaction : is_transaction k.owners n.0 ≡ true
   pub closed : first_open k.sessions n ≡ None
-
--- a basic session, and the owner that it is
-pub record MayFlush (k : Kept) (s : SessionNo) (n : OwnerNo) : Type 0 where
-  pub own : AreOwned k.owners k.sessions k.next_owner
-  pub session : Session
-  pub there : get k.sessions s.0 ≡ Some session
-  pub kind : session.kind ≡ Basic n
 
 -- what is ready may be committed
 pub record MayApply (c : Parts) (n : OwnerNo) (ready : Ready) : Type 0 where

@@ -10,38 +10,32 @@ ghost use Rattle.pss_machine.specs.Deciding.{decision, unless_full};
 ghost use Rattle.pss_machine.specs.Effects.{Flushes};
 ghost use Rattle.pss_machine.specs.Moving.{moved};
 ghost use Rattle.pss_recovery.specs.Silence.{IsSilent};
+ghost use Rattle.pss_copies.specs.Ruled.{AreOwned};
 ghost use Rattle.connector_parts.specs.Stands.{Stands, AnyAt, IsAt, StayAs, Comes};
 ghost use Rattle.commit_calls.specs.Ready.{MayMakeReady, IsReady};
-ghost use Rattle.commit_calls.specs.Commits.{MayFlush, MayApply, IsBehind, Follows};
+ghost use Rattle.commit_calls.specs.Commits.{MayApply, IsBehind, Follows};
 ghost use Rattle.commit_saving.specs.Saving.{BecomesSaved, IsSavedThroughout, StaysSaved, saved_by};
 
 use crate::ready::Ready;
 use crate::storing::store_changes;
 use connector_parts::Parts;
-use pss_base::{OwnerNo, SessionNo, Steps, StoreStop};
+use pss_base::{OwnerNo, Steps, StoreStop};
 use pss_disk::Station;
 use pss_machine::{Kind, Reply, Text};
 use pss_recovery::Store;
 use std::sync::ledger::Ledger;
 
 // What was made ready is committed, and the basic session begins anew. It takes no memory.
-fn apply<L: Ledger>(
-    parts: &mut Parts,
-    session: SessionNo,
-    owner: OwnerNo,
-    ready: Ready,
-    steps: &mut Steps<L>,
-)
+fn apply<L: Ledger>(parts: &mut Parts, owner: OwnerNo, ready: Ready, steps: &mut Steps<L>)
     requires { MayApply parts.old owner ready }
-    ensures flushed { (k : Kept) → Stands parts.old k → IsReady parts.old k owner ready → MayFlush k session owner → Stands parts.new (moved k (Flushes owner)) }
+    ensures flushed { (k : Kept) → Stands parts.old k → IsReady parts.old k owner ready → AreOwned k.owners k.sessions k.next_owner → Stands parts.new (moved k (Flushes owner)) }
     ensures rest { StayAs parts.old parts.new }
 {
     let Ready { commit, pids } = ready;
-    let changed = parts.accounts.changed_count(owner);
     parts.accounts.commit(commit);
     parts
         .attended
-        .flush(session, owner, pids.as_slice(), changed, steps);
+        .flush(owner, pids.as_slice(), pids.own(), steps);
     parts.accounts.empty(owner, steps);
 }
 
@@ -51,14 +45,13 @@ fn flush_changes<L: Ledger, W: Station>(
     parts: &mut Parts,
     store: &mut Store,
     station: &mut W,
-    session: SessionNo,
     owner: OwnerNo,
     steps: &mut Steps<L>,
 ) -> Result<Reply, StoreStop>
     requires ready { MayMakeReady parts.old owner }
     requires behind { IsBehind parts.old store.old }
     requires settled { IsSettled (W.content station.old) (W.now station.old) }
-    ensures follows { IfOk result (λ reply. (m : MayMakeReady parts.old owner) → MayFlush m.kept session owner → Follows parts.old m.kept (unless_full parts.old.schema parts.old.limits m.kept owner (Flushes owner)) reply parts.new) }
+    ensures follows { IfOk result (λ reply. (m : MayMakeReady parts.old owner) → Follows parts.old m.kept (unless_full parts.old.schema parts.old.limits m.kept owner (Flushes owner)) reply parts.new) }
     ensures saved { OnOk result ((m : MayMakeReady parts.old owner) → BecomesSaved W.content parts.old.schema m.kept (unless_full parts.old.schema parts.old.limits m.kept owner (Flushes owner)).effect store.old store.new station.old station.new) }
     ensures images { (m : MayMakeReady parts.old owner) → IsSavedThroughout W.content W.history parts.old.schema m.kept (unless_full parts.old.schema parts.old.limits m.kept owner (Flushes owner)).effect store.old station.old station.new }
     ensures memory { IfErr result (λ why. why ≡ stop.NoMemory → (m : MayMakeReady parts.old owner) → StaysSaved W.content W.history parts.old.schema m.kept store.old station.old station.new) }
@@ -69,7 +62,7 @@ fn flush_changes<L: Ledger, W: Station>(
 {
     match store_changes(parts, store, station, owner)? {
         Some(ready) => {
-            apply(parts, session, owner, ready, steps);
+            apply(parts, owner, ready, steps);
             Ok(Reply::Done)
         }
         None => Ok(Reply::Full),
@@ -104,7 +97,7 @@ pub fn flush<L: Ledger, W: Station>(
         return Ok(Reply::NoSession);
     };
     match found.kind {
-        Kind::Basic(owner) => flush_changes(parts, store, station, found.number, owner, steps),
+        Kind::Basic(owner) => flush_changes(parts, store, station, owner, steps),
         Kind::Transactional => Ok(Reply::Kind),
     }
 }

@@ -1,26 +1,51 @@
 // The objects that commits change.
-ghost use Rattle.std.specs.Prelude.{◌≡◌, map, IfOk};
-ghost use Rattle.commit_calls.specs.Ready.{pid_of, pids_in};
+ghost use Rattle.std.specs.Prelude.{◌≡◌, Some, map, IfOk};
+ghost use Rattle.std.specs.FinMap.{get};
+ghost use Rattle.type_layout.specs.declared.schema.Schema.{Schema};
+ghost use Rattle.pss_machine.specs.Owners.{Owner, net};
+ghost use Rattle.pss_machine.specs.Kept.{Kept};
+ghost use Rattle.owner_accounts.specs.Accounts.{AreAccounts};
+ghost use Rattle.pss_copies.specs.Settling.{AreOf, HasAmong};
+ghost use Rattle.commit_calls.specs.Ready.{pid_of, pids_in, own_in};
 
-use pss_base::{NoMemory, Pid};
+use owner_accounts::Accounts;
+use pss_base::{NoMemory, OwnerNo, Pid};
 use std::alloc::Global;
 use std::slice;
 use storage_home::Change;
 
-/// The objects that a commit changes, in the order of its changes. One alone takes no memory.
+/// The objects that a commit changes, in the order of its changes, and those of which the owner has a value.
 #[derive(Drop)]
 pub enum Pids {
+    /// The owner changed no other object than this one. It takes no memory.
     One(Pid),
+    /// The owner changed no other objects than these.
     Many(Vec<Pid>),
+    /// The owner changed others too, which came to nothing. The objects of which it has a value stand beside those that the
+    /// commit changes.
+    Fewer { net: Vec<Pid>, own: Vec<Pid> },
 }
 
 impl Pids {
+    /// The objects that the commit changes.
     pub fn as_slice(&self) -> &[Pid]
         ensures { result.now ≡ pids_in self.now }
     {
         match self {
             Pids::One(pid) => slice::from_ref(pid),
             Pids::Many(pids) => pids.as_slice(),
+            Pids::Fewer { net, own: _ } => net.as_slice(),
+        }
+    }
+
+    /// Objects among which are all of which the owner has a value.
+    pub fn own(&self) -> &[Pid]
+        ensures { result.now ≡ own_in self.now }
+    {
+        match self {
+            Pids::One(pid) => slice::from_ref(pid),
+            Pids::Many(pids) => pids.as_slice(),
+            Pids::Fewer { net: _, own } => own.as_slice(),
         }
     }
 }
@@ -44,9 +69,10 @@ fn list_of(alloc: Global, changes: &[Change]) -> Result<Vec<Pid>, NoMemory>
     Ok(pids)
 }
 
-/// The objects of changes.
-pub fn pids_of(alloc: Global, changes: &[Change]) -> Result<Pids, NoMemory>
-    ensures { IfOk result (λ pids. pids_in pids ≡ map pid_of changes.now) }
+// The objects of changes, where the owner changed no others.
+fn all_of(alloc: Global, changes: &[Change]) -> Result<Pids, NoMemory>
+    ensures pids { IfOk result (λ pids. pids_in pids ≡ map pid_of changes.now) }
+    ensures own { IfOk result (λ pids. own_in pids ≡ map pid_of changes.now) }
 {
     if changes.len() == 1 {
         return Ok(Pids::One(pid_of(&changes[0])));
@@ -54,5 +80,40 @@ pub fn pids_of(alloc: Global, changes: &[Change]) -> Result<Pids, NoMemory>
     match list_of(alloc, changes) {
         Ok(pids) => Ok(Pids::Many(pids)),
         Err(memory) => Err(memory),
+    }
+}
+
+// The objects of changes, and those of which the owner has a value.
+#[inline(never)]
+fn fewer_of(
+    alloc: Global,
+    accounts: &Accounts,
+    owner: OwnerNo,
+    changes: &[Change],
+) -> Result<Pids, NoMemory>
+    ensures pids { IfOk result (λ pids. pids_in pids ≡ map pid_of changes.now) }
+    ensures own { IfOk result (λ pids. (S : Schema) (k : Kept) (o : Owner) → AreAccounts S accounts.now k → get k.owners owner.0 ≡ Some o → HasAmong o (own_in pids)) }
+{
+    let net = list_of(alloc, changes)?;
+    match accounts.valued_pids(owner) {
+        Ok(own) => Ok(Pids::Fewer { net, own }),
+        Err(NoMemory) => Err(NoMemory),
+    }
+}
+
+/// The objects of an owner's net changes. Those of which it has a value are listed only where it changed others too.
+pub fn pids_of(
+    alloc: Global,
+    accounts: &Accounts,
+    owner: OwnerNo,
+    changes: &[Change],
+) -> Result<Pids, NoMemory>
+    ensures pids { IfOk result (λ pids. pids_in pids ≡ map pid_of changes.now) }
+    ensures own { IfOk result (λ pids. (S : Schema) (k : Kept) (o : Owner) → AreAccounts S accounts.now k → get k.owners owner.0 ≡ Some o → AreOf k.catalog (net k.catalog o) (map pid_of changes.now) → HasAmong o (own_in pids)) }
+{
+    if changes.len() == accounts.changed_count(owner) as usize {
+        all_of(alloc, changes)
+    } else {
+        fewer_of(alloc, accounts, owner, changes)
     }
 }

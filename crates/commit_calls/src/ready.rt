@@ -29,7 +29,12 @@ pub fn make_ready(parts: &mut Parts, owner: OwnerNo) -> Result<Option<Ready>, No
         .accounts
         .prepare(owner, parts.schema.schema(), parts.limits.total)?
     {
-        Some(commit) => match pids_of(parts.alloc, commit.changes().as_slice()) {
+        Some(commit) => match pids_of(
+            parts.alloc,
+            &parts.accounts,
+            owner,
+            commit.changes().as_slice(),
+        ) {
             Ok(pids) => Ok(Some(Ready { commit, pids })),
             Err(NoMemory) => Err(NoMemory),
         },

@@ -6,11 +6,12 @@ ghost use Rattle.type_layout.specs.declared.schema.Schema.{Schema as PlainSchema
 ghost use Rattle.pss_machine.specs.Owners.{Owner, has_changed, view};
 ghost use Rattle.pss_machine.specs.Kept.{Kept};
 ghost use Rattle.pss_machine.specs.Deciding.{lock_count};
+ghost use Rattle.owner_view.specs.States.{AreValued};
 ghost use Rattle.owner_accounts.specs.Accounts.{AreAccounts};
 ghost use Rattle.owner_accounts.specs.Steps.{IsOwner};
 
 use crate::accounts::Accounts;
-use pss_base::{NoMemory, OwnerNo};
+use pss_base::{NoMemory, OwnerNo, Pid};
 use type_layout::{Record, Schema};
 
 impl Accounts {
@@ -40,6 +41,14 @@ impl Accounts {
         ensures { (S : PlainSchema) (k : Kept) (o : Owner) → AreAccounts S self.now k → get k.owners owner.0 ≡ Some o → result ≡ len o.changes }
     {
         self.owners.changed_count(owner)
+    }
+
+    /// The pids of the objects that have a value from an owner, also where it is the one that was committed. They stand in no
+    /// stated order.
+    pub fn valued_pids(&self, owner: OwnerNo) -> Result<Vec<Pid>, NoMemory>
+        ensures { IfOk result (λ pids. (S : PlainSchema) (k : Kept) (o : Owner) → AreAccounts S self.now k → get k.owners owner.0 ≡ Some o → AreValued o.changes pids.items) }
+    {
+        self.owners.valued_pids(owner)
     }
 
     /// The record of the object with a serial as an owner sees it, where it sees one.

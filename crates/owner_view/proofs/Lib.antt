@@ -4,6 +4,7 @@ pub mod Numbers
 pub mod Showing
 pub mod Tests
 pub mod Stating
+pub mod Valued
 pub mod Owning
 pub mod Freeing
 pub mod Viewing

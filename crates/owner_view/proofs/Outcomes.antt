@@ -8,3 +8,7 @@ if_ok (Err e) f p = p
 pub on_ok : {A E P Q : Type 0} (r : Result A E) → (P → Q) → OnOk r P → OnOk r Q
 on_ok (Ok a) f p = f p
 on_ok (Err e) f p = p
+
+pub if_ok_on : {A E D : Type 0} {P Q : A → Type 0} (r : Result A E) → ((a : A) → D → P a → Q a) → OnOk r D → IfOk r P → IfOk r Q
+if_ok_on (Ok a) f d p = f a d p
+if_ok_on (Err e) f d p = p

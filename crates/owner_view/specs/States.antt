@@ -1,11 +1,14 @@
 -- The states of objects by what stands at their serials.
-use Rattle.std.specs.Prelude.{ℕ, ◌≡◌, ◌≤◌, ◌+◌, List, [], ◌∷◌, Option, Some, None, is_some, cond, ◌==◌}
+use Rattle.std.specs.Prelude.{ℕ, ◌≡◌, ◌≤◌, ◌+◌, ◌++◌, List, [], ◌∷◌, Option, Some, None, is_some, Bool, false, cond, ◌==◌}
 use Rattle.std.specs.List.{list_any}
 use Rattle.std.specs.Map.{lookup}
-use Rattle.std.specs.FinMap.{insert, remove, empty}
+use Rattle.std.specs.Option.{option_to_list}
+use Rattle.std.specs.FinMap.{get, insert, remove, empty}
+use Rattle.pss_base.specs.declared.pid.Pid.{Pid}
 use Rattle.type_layout.specs.Schemas.{given}
-use Rattle.pss_catalog.specs.Catalog.{Object}
+use Rattle.pss_catalog.specs.Catalog.{Object, pid_of}
 use Rattle.pss_machine.specs.Changes.{Changes}
+use Rattle.pss_machine.specs.Same.{same_pid}
 use Rattle.owner_view.specs.declared.states.Slot.{Slot}
 use Rattle.owner_view.specs.declared.states.Slot.TheVariants as slot
 use Rattle.owner_view.specs.declared.states.Told.{Told}
@@ -56,3 +59,23 @@ Rise least (s ∷ ss) = (least ≤ s) × Rise (s + 1) ss
 pub record AreInOrder (es : List (ℕ × Slot)) (ss : List ℕ) : Type 0 where
   pub rise : Rise 0 ss
   pub all : (q : ℕ) → list_any (λ t. q == t) ss ≡ is_some (slot_at q es)
+
+-- ---- objects that have a value
+
+-- the changes give the object with this pid a value
+abbrev pub has_value : Changes → Pid → Bool
+has_value changes pid = given (get changes pid.serial) false (λ state. given state false (λ x. x.home.0 == pid.home))
+
+-- these are the pids of the objects to which the changes give a value
+abbrev pub AreValued : Changes → List Pid → Type 0
+AreValued changes pids = (pid : Pid) → list_any (λ p. same_pid p pid) pids ≡ has_value changes pid
+
+-- the pid of the object that stands in the slot of a serial
+abbrev pub slot_pid : ℕ → Slot → Option Pid
+slot_pid s slot.Reserved = None
+slot_pid s slot.Gone = None
+slot_pid s (slot.There object) = Some (pid_of (s, plain_object object))
+
+abbrev pub pids_in : List (ℕ × Slot) → List Pid
+pids_in [] = []
+pids_in (e ∷ es) = option_to_list (slot_pid e.0 e.1) ++ pids_in es

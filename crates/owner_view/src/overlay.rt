@@ -1,12 +1,12 @@
 // What an owner changed, and who holds which keys among the changed objects.
 ghost use Rattle.std.specs.Prelude.{◌≡◌, [], ◌∷◌, None, IfOk, IfSome, OnOk, IsSome};
 ghost use Rattle.std.specs.FinMap as map;
-ghost use Rattle.owner_view.specs.States.{slot_at, slot_state, told_state, with_told, AreInOrder};
+ghost use Rattle.owner_view.specs.States.{slot_at, slot_state, told_state, with_told, AreInOrder, AreValued};
 ghost use Rattle.storage_home.specs.Indexes.{KeyIndexes as Table, found_at, MayPut, KeepsFound, TurnsFound, KeepsKeysReserved};
 ghost use Rattle.owner_view.specs.Overlay.{changes_in, indexes_in, IsReady, FoundAfter};
 
 use crate::states::{self, Slot, States, Told, told_at};
-use pss_base::{Bytes, NoMemory};
+use pss_base::{Bytes, NoMemory, Pid};
 use std::alloc::Global;
 use storage_home::indexes::{self, KeyIndexes};
 use type_layout::KeyNo;
@@ -53,6 +53,13 @@ impl Overlay {
         ensures { IfOk result (λ serials. AreInOrder self.now.states.table.entries serials.items) }
     {
         states::in_order(self.alloc, &self.states)
+    }
+
+    /// The pids of the objects that have a value, in no stated order.
+    pub fn pids(&self) -> Result<Vec<Pid>, NoMemory>
+        ensures { IfOk result (λ pids. AreValued (changes_in self.now) pids.items) }
+    {
+        states::pids(self.alloc, &self.states)
     }
 
     /// What was made of the object with a serial.

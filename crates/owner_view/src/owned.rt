@@ -7,6 +7,7 @@ ghost use Rattle.pss_machine.specs.Operations.{plain_op};
 ghost use Rattle.storage_home.specs.Applied.{AreChanges};
 ghost use Rattle.owner_view.specs.Net.{net_of, AreNet};
 ghost use Rattle.owner_view.specs.Owned.{changed_by, IsCounted, IsUnder, IsSame, IsReadyFor, MayPutIn, HasPut, MayLook, MayStep};
+ghost use Rattle.owner_view.specs.States.{AreValued};
 ghost use Rattle.owner_view.specs.Steps.{IsStep};
 ghost use Rattle.owner_view.specs.Views.{seen_with};
 
@@ -17,7 +18,7 @@ use crate::state::state_at;
 use crate::states::Told;
 use crate::step::{Put, Step};
 use crate::view::View;
-use pss_base::NoMemory;
+use pss_base::{NoMemory, Pid};
 use pss_machine::{Level, Op};
 use std::alloc::Global;
 use storage_home::{Changes, Homes};
@@ -68,6 +69,14 @@ impl Owned {
         ensures { result ≡ map.len (changed_by self.now) }
     {
         self.changed
+    }
+
+    /// The pids of the objects that have a value from the owner, also where it is the one that was committed. They stand in no
+    /// stated order.
+    pub fn valued_pids(&self) -> Result<Vec<Pid>, NoMemory>
+        ensures { IfOk result (λ pids. AreValued (changed_by self.now) pids.items) }
+    {
+        self.overlay.pids()
     }
 
     /// What an operation comes to on what the owner sees: what it needs, what it answers, and what it changes.

@@ -1,13 +1,13 @@
 // The states to which objects were changed, by serial.
-ghost use Rattle.std.specs.Prelude.{◌≡◌, [], ◌∷◌, Some, None, nat_eq, is_some, IfOk, IfSome, OnOk, IsSome};
-ghost use Rattle.std.specs.Option.{option_map};
-ghost use Rattle.owner_view.specs.States.{slot_at, slot_state, state_at, told_state, KeepsStates, TurnsState, AreInOrder};
+ghost use Rattle.std.specs.Prelude.{◌≡◌, ◌++◌, [], ◌∷◌, Some, None, nat_eq, is_some, IfOk, IfSome, OnOk, IsSome};
+ghost use Rattle.std.specs.Option.{option_map, option_to_list};
+ghost use Rattle.owner_view.specs.States.{slot_at, slot_state, slot_pid, pids_in, state_at, told_state, changes_of, KeepsStates, TurnsState, AreInOrder, AreValued};
 ghost use Rattle.std.specs.List.{IsDistinct};
 ghost use Rattle.std.specs.Map.{keys_of};
 
 use crate::object::Changed;
 use indexmap::IndexMap;
-use pss_base::NoMemory;
+use pss_base::{NoMemory, Pid};
 use std::alloc::Global;
 use std::cell::Cell;
 use std::hash::BuildHasherDefault;
@@ -230,4 +230,36 @@ fn serials_of(alloc: Global, states: &States) -> Result<Vec<u64>, NoMemory>
         serials.push(*serial)?;
     }
     Ok(serials)
+}
+
+/// The pids of the objects that stand in slots, in the order of the slots.
+pub fn pids(alloc: Global, states: &States) -> Result<Vec<Pid>, NoMemory>
+    ensures { IfOk result (λ pids. AreValued (changes_of states.now.table.entries) pids.items) }
+{
+    slot_pids(alloc, states)
+}
+
+fn slot_pids(alloc: Global, states: &States) -> Result<Vec<Pid>, NoMemory>
+    ensures apart { OnOk result (IsDistinct nat_eq (keys_of states.now.table.entries)) }
+    ensures all { IfOk result (λ pids. pids.items ≡ pids_in states.now.table.entries) }
+{
+    let mut pids = Vec::with_capacity(alloc, states.table.len())?;
+    for (serial, slot) in states.table.iter() {
+        put_pid(&mut pids, *serial, slot)?;
+    }
+    Ok(pids)
+}
+
+fn put_pid(pids: &mut Vec<Pid>, serial: u64, slot: &Slot) -> Result<(), NoMemory>
+    ensures { OnOk result (pids.new.items ≡ pids.old.items ++ option_to_list (slot_pid serial slot.now)) }
+{
+    match slot {
+        Slot::There(object) => pids.push(Pid {
+            home: object.home.0,
+            serial,
+        })?,
+        Slot::Gone => (),
+        Slot::Reserved => (),
+    }
+    Ok(())
 }

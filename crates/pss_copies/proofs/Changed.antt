@@ -1,4 +1,4 @@
--- The objects that an owner changed, where each of them is among those of its net changes.
+-- The objects to which an owner gave values, among those of its net changes and of its own bodies.
 use Rattle.std.proofs.Common.{◌≡◌, ◌==◌, ◌≤◌, Bool, true, false, cond, List, [], ◌∷◌, length, filter, not, Option, Some, None, IsSome, refl, sym, ap, ◌∙◌, subst, arith}
 use Rattle.std.specs.Prelude.{◌||◌, ◌&&◌, is_some, unwrap_or, if◌then◌else◌}
 use Rattle.std.specs.List.{list_any}
@@ -27,7 +27,7 @@ use Rattle.incarnations.specs.declared.names.Entry.{Entry}
 use Rattle.incarnations.specs.Meaning.{AreCopies, body, body_of}
 use Rattle.pss_copies.specs.declared.parts.Parts.{Parts}
 use Rattle.pss_copies.specs.Seats.{Attends}
-use Rattle.pss_copies.specs.Settling.{AreOf, Settles}
+use Rattle.pss_copies.specs.Settling.{AreOf, HasAmong}
 use Rattle.pss_copies.proofs.Associated.{on_own}
 use Rattle.pss_copies.proofs.Outdated.{values_there}
 
@@ -81,23 +81,27 @@ as_many M [] (p ∷ ps) are = absurd are
 as_many M (c ∷ cs) [] are = absurd are
 as_many M (c ∷ cs) (p ∷ ps) are = omega (arith, as_many M cs ps are.3)
 
--- an entry on an owner's own body is for one of its objects, where these are as many as it changed
-pub own_among : (k : Kept) (a : Parts) (n : OwnerNo) (pids : List Pid) (may : Settles k n pids) → length pids ≡ len may.owner.changes → AreCopies a.copies → Attends k a
+-- where they are as many, each object to which the owner gave a value is among theirs
+pub all_among : (M : Catalog) (owner : Owner) (pids : List Pid) → AreOf M (net M owner) pids → length pids ≡ len owner.changes → HasAmong owner pids
+all_among M owner pids are all pid x gave of =
+    let whole : net M owner ≡ listed owner.changes =
+    all_pass (λ c. not (same_state c.state (get M c.serial))) (listed owner.changes) (omega (arith, as_many M (net M owner) pids are, all, length-map (entries owner.changes) change_of, len-entries owner.changes)) in
+    among_left M (net M owner) pids are pid x (ap (λ cs. last_state cs pid.serial) whole ∙ last_listed owner.changes pid.serial ∙ gave) of
+
+-- an entry on an owner's own body is for an object to which the owner gave a value
+pub own_among : (k : Kept) (a : Parts) (n : OwnerNo) (owner : Owner) (pids : List Pid) → get k.owners n.0 ≡ Some owner → HasAmong owner pids → AreCopies a.copies → Attends k a
     → (x : Slot) (e : Entry) (m : OwnerNo) → get a.copies.entries x ≡ Some e → e.view ≡ Some (Own m) → m.0 ≡ n.0 → list_any (λ p. same_pid p e.pid) pids ≡ true
-own_among k a n pids may all are at x e m was on same =
+own_among k a n owner pids there_is all are at x e m was on same =
     let b = some_body (get a.copies.bodies (body e.pid (Own m))) (are.bodies x (body e.pid (Own m)) (ap (option_and_then body_of) was ∙ ap (option_map (body e.pid)) on)) in
     let sees = at.seats.valued.own e.pid m b.0 b.1 in
-    let owner_is : sees.owner ≡ may.owner = same_some (sym sees.there ∙ ap (get k.owners) same ∙ may.there) in
+    let owner_is : sees.owner ≡ owner = same_some (sym sees.there ∙ ap (get k.owners) same ∙ there_is) in
     let o = values_there (view k.catalog sees.owner) e.pid b.0 sees.seen in
-    let there : get (view k.catalog may.owner) e.pid.serial ≡ Some o.0 = subst (λ (w : Owner). get (view k.catalog w) e.pid.serial ≡ Some o.0) owner_is (object_there (view k.catalog sees.owner) e.pid o.0 o.1) in
+    let there : get (view k.catalog owner) e.pid.serial ≡ Some o.0 = subst (λ (w : Owner). get (view k.catalog w) e.pid.serial ≡ Some o.0) owner_is (object_there (view k.catalog sees.owner) e.pid o.0 o.1) in
     let changed_it = (on_own k.owners k.sessions a.copies are at.seats.seated e.pid m b.0 b.1).changed in
-    let has : has_changed may.owner e.pid.serial ≡ true = sym (ap (λ q. given q false (λ owner. has_changed owner e.pid.serial)) (ap (get k.owners) same ∙ may.there)) ∙ changed_it in
-    let whole : net k.catalog may.owner ≡ listed may.owner.changes =
-    all_pass (λ c. not (same_state c.state (get k.catalog c.serial))) (listed may.owner.changes)
-    (omega (arith, as_many k.catalog (net k.catalog may.owner) pids may.pids_are, all, length-map (entries may.owner.changes) change_of, len-entries may.owner.changes)) in
-    let last : last_state (net k.catalog may.owner) e.pid.serial ≡ Some (Some o.0) =
-    ap (λ cs. last_state cs e.pid.serial) whole ∙ last_listed may.owner.changes e.pid.serial ∙ state_of (get may.owner.changes e.pid.serial) o.0 has (sym (found_over k.catalog (listed may.owner.changes) e.pid.serial ∙ ap (λ z. unwrap_or z (get k.catalog e.pid.serial)) (last_listed may.owner.changes e.pid.serial)) ∙ there) in
-    among_left k.catalog (net k.catalog may.owner) pids may.pids_are e.pid o.0 last (home_of_it (view k.catalog sees.owner) e.pid o.0 o.1)
+    let has : has_changed owner e.pid.serial ≡ true = sym (ap (λ q. given q false (λ owner. has_changed owner e.pid.serial)) (ap (get k.owners) same ∙ there_is)) ∙ changed_it in
+    all e.pid o.0
+    (state_of (get owner.changes e.pid.serial) o.0 has (sym (found_over k.catalog (listed owner.changes) e.pid.serial ∙ ap (λ z. unwrap_or z (get k.catalog e.pid.serial)) (last_listed owner.changes e.pid.serial)) ∙ there))
+    (home_of_it (view k.catalog sees.owner) e.pid o.0 o.1)
   where
     some_body : (o : Option (List PlainValue)) → IsSome o → (values : List PlainValue) × (o ≡ Some values)
     some_body None h = absurd cc

@@ -1,5 +1,5 @@
 -- A transaction commits, and goes; a basic session commits, and begins anew.
-use Rattle.std.proofs.Common.{◌≡◌, ℕ, ◌==◌, ◌&&◌, Bool, true, false, List, length, Option, Some, None, refl, sym, ap, ◌∙◌, subst, inl, inr}
+use Rattle.std.proofs.Common.{◌≡◌, ℕ, ◌==◌, ◌&&◌, Bool, true, false, List, Option, Some, None, refl, sym, ap, ◌∙◌, subst, inl, inr}
 use Rattle.std.specs.Prelude.{◌⊎◌, ◌||◌, is_some, not, if◌then◌else◌, find}
 use Rattle.std.specs.List.{list_any}
 use Rattle.std.specs.Option.{option_map}
@@ -8,7 +8,6 @@ use Rattle.std.specs.FinMap.{get, get-empty, entries}
 use Rattle.std.proofs.lemmas.Bool.{eqb-true, eq-eqb}
 use Rattle.pss_base.specs.declared.pid.Pid.{Pid}
 use Rattle.pss_base.specs.declared.owner.OwnerNo.{OwnerNo}
-use Rattle.pss_base.specs.declared.session.SessionNo.{SessionNo}
 use Rattle.type_layout.specs.Schemas.{given}
 use Rattle.pss_machine.specs.declared.session.View.{View}
 use Rattle.pss_machine.specs.declared.session.View.TheVariants.{Committed, Own, Kept as InCopy}
@@ -32,17 +31,17 @@ use Rattle.pss_session.proofs.Leaving.{leaves_then}
 use Rattle.incarnations.specs.declared.names.Slot.{Slot}
 use Rattle.incarnations.specs.declared.names.BodyName.{BodyName}
 use Rattle.incarnations.specs.declared.names.Entry.{Entry}
-use Rattle.incarnations.specs.Meaning.{Meaning, AreCopies, Leaves, loosened, both, of_session, in_view, body, same_body, stands_on}
+use Rattle.incarnations.specs.Meaning.{Meaning, AreCopies, Leaves, loosened, body, same_body, stands_on}
 use Rattle.incarnations.proofs.Keys.{slot_key, body_told}
 use Rattle.pss_copies.specs.declared.parts.Parts.{Parts}
 use Rattle.pss_copies.specs.Ruled.{AreOwned}
 use Rattle.pss_copies.specs.Seats.{IsSeat, Attends}
-use Rattle.pss_copies.specs.Settling.{MayCommit, MayFlush, on_bodies, on_committed, on_changed}
+use Rattle.pss_copies.specs.Settling.{MayCommit, MayFlush, on_bodies, on_committed}
 use Rattle.pss_copies.proofs.Holders.{Holder, holder}
 use Rattle.pss_copies.proofs.Associated.{view_owner, eq_back, finish_attends}
 use Rattle.pss_copies.proofs.Left.{kept_entry}
 use Rattle.pss_copies.proofs.Seated.{seat_owned}
-use Rattle.pss_copies.proofs.Settled.{Goes, none_passes, settled_is, settled_attends, and_false, and_true, none_any, on_view_of, on_committed_is, on_committed_own, on_committed_kept}
+use Rattle.pss_copies.proofs.Settled.{Goes, none_passes, settled_is, settled_attends, and_true, none_any, on_view_of, on_committed_is, on_committed_own, on_committed_kept}
 use Rattle.pss_copies.proofs.Changed.{own_among}
 
 -- an entry on an owner's own body is of a session that belongs to it
@@ -109,67 +108,30 @@ module _ (k : Kept) (old mid new : Parts) (n : OwnerNo) (pids : List Pid) (may :
 abbrev begins_anew : Owner → Owner
 begins_anew owner = new_owner owner.level
 
-module _ (k : Kept) (old new : Parts) (mid : Meaning) (s : SessionNo) (n : OwnerNo) (pids : List Pid) (changed : ℕ) (may : MayFlush k s n pids changed) (are : AreCopies old.copies) (are_new : AreCopies new.copies) (at : Attends k old) (stays : new.sessions ≡ old.sessions) (lasts : new.copies.lasts ≡ old.copies.lasts)
-    (first : Leaves (loosened (on_committed pids)) old.copies mid) (second : Leaves (loosened (on_changed s n pids changed)) mid new.copies) where
-  left : Leaves (loosened (λ x e. on_committed pids x e || on_changed s n pids changed x e)) old.copies new.copies
-  left = leaves_then (on_committed pids) (on_changed s n pids changed) old.copies mid new.copies first second
+module _ (k : Kept) (old new : Parts) (mid : Meaning) (n : OwnerNo) (pids own : List Pid) (may : MayFlush k n pids own) (are : AreCopies old.copies) (are_new : AreCopies new.copies) (at : Attends k old) (stays : new.sessions ≡ old.sessions) (lasts : new.copies.lasts ≡ old.copies.lasts)
+    (first : Leaves (loosened (on_committed pids)) old.copies mid) (second : Leaves (loosened (on_bodies (Own n) own)) mid new.copies) where
+  -- what leaves: the entries on the committed bodies of the first, and on the owner's own of the second
+  abbrev on_either : Slot → Entry → Bool
+  on_either x e = on_committed pids x e || on_bodies (Own n) own x e
 
-  of_it : owner_of may.session ≡ Some n
-  of_it = ap (λ q. owner_of (record { name = may.session.name; kind = q; access = may.session.access; association = may.session.association })) may.kind
-
-  basic_it : is_basic may.session ≡ true
-  basic_it = ap (λ q. is_basic (record { name = may.session.name; kind = q; access = may.session.access; association = may.session.association })) may.kind
-
-  -- no other session belongs to the owner
-  only_it : (t : ℕ) (session : Session) → get k.sessions t ≡ Some session → owner_of session ≡ Some n → t ≡ s.0
-  only_it t session there of = may.settles.own.apart t s.0 session may.session n there may.there (basic session of kind) may.kind
-    where
-      kind : is_basic session ≡ true
-      kind = kind_is k may.settles.own t session n may.settles.owner there of may.settles.there ∙ sym (kind_is k may.settles.own s.0 may.session n may.settles.owner may.there of_it may.settles.there) ∙ basic_it
-
-      basic : (session : Session) → owner_of session ≡ Some n → is_basic session ≡ true → session.kind ≡ Basic n
-      basic session of kind = by session.kind of kind
-        where
-          by : (q : Kind) → owner_of (record { name = session.name; kind = q; access = session.access; association = session.association }) ≡ Some n → is_basic (record { name = session.name; kind = q; access = session.access; association = session.association }) ≡ true → q ≡ Basic n
-          by (Basic m) of kind = ap Basic (same_some of)
-          by Transactional of kind = absurd (true_false kind refl)
-
-  -- by the session: its entries on own bodies, and there are no others
-  of_session_own : (x : Slot) (e : Entry) (m : OwnerNo) → get old.copies.entries x ≡ Some e → e.view ≡ Some (Own m) → both (of_session s) (in_view (Own n)) x e ≡ (m.0 == n.0)
-  of_session_own x e m was on = ap (λ o. (x.session.0 == s.0) && given o false (same_view (Own n))) on ∙ by (m.0 == n.0) refl
-    where
-      by : (b : Bool) → (m.0 == n.0) ≡ b → ((x.session.0 == s.0) && (n.0 == m.0)) ≡ b
-      by false is = ap (λ b. (x.session.0 == s.0) && b) (eq_back n.0 m.0 ∙ is) ∙ and_false (x.session.0 == s.0)
-      by true is =
-          let seat = own_seat k old at x e m n was on is in
-          ap (λ b. (x.session.0 == s.0) && b) (eq_back n.0 m.0 ∙ is) ∙ ap (λ b. b && true) (eq-eqb x.session.0 s.0 (only_it x.session.0 seat.0.session seat.0.there seat.1))
-
-  -- by the objects, where all that were changed are among them
-  of_objects_own : (length pids == changed) ≡ true → (x : Slot) (e : Entry) (m : OwnerNo) → get old.copies.entries x ≡ Some e → e.view ≡ Some (Own m) → on_bodies (Own n) pids x e ≡ (m.0 == n.0)
-  of_objects_own all x e m was on = on_view_of (Own n) pids x e (Own m) on ∙ by (m.0 == n.0) refl
-    where
-      by : (b : Bool) → (m.0 == n.0) ≡ b → list_any (λ p. same_pid p e.pid && (n.0 == m.0)) pids ≡ b
-      by false is = ap (λ b. list_any (λ p. same_pid p e.pid && b) pids) (eq_back n.0 m.0 ∙ is) ∙ none_any (λ p. same_pid p e.pid) pids
-      by true is =
-          ap (λ b. list_any (λ p. same_pid p e.pid && b) pids) (eq_back n.0 m.0 ∙ is) ∙ (λ i. list_any (λ p. and_true (same_pid p e.pid) i) pids)
-          ∙ own_among k old n pids may.settles (eqb-true (length pids) changed all ∙ may.changed_is) are at x e m was on (eqb-true m.0 n.0 is)
+  left : Leaves (loosened on_either) old.copies new.copies
+  left = leaves_then (on_committed pids) (on_bodies (Own n) own) old.copies mid new.copies first second
 
   -- on another's body, or on none of an owner's
-  off_own : (x : Slot) (e : Entry) (v : View) → e.view ≡ Some v → same_view (Own n) v ≡ false → on_changed s n pids changed x e ≡ false
-  off_own x e v on other = by (length pids == changed)
-    where
-      by : (b : Bool) → (if b then on_bodies (Own n) pids x e else both (of_session s) (in_view (Own n)) x e) ≡ false
-      by true = on_view_of (Own n) pids x e v on ∙ ap (λ b. list_any (λ p. same_pid p e.pid && b) pids) other ∙ none_any (λ p. same_pid p e.pid) pids
-      by false = ap (λ o. (x.session.0 == s.0) && given o false (same_view (Own n))) on ∙ ap (λ b. (x.session.0 == s.0) && b) other ∙ and_false (x.session.0 == s.0)
+  off_own : (x : Slot) (e : Entry) (v : View) → e.view ≡ Some v → same_view (Own n) v ≡ false → on_bodies (Own n) own x e ≡ false
+  off_own x e v on other = on_view_of (Own n) own x e v on ∙ ap (λ b. list_any (λ p. same_pid p e.pid && b) own) other ∙ none_any (λ p. same_pid p e.pid) own
 
-  none_own : (x : Slot) (e : Entry) (m : OwnerNo) → get old.copies.entries x ≡ Some e → e.view ≡ Some (Own m) → (on_committed pids x e || on_changed s n pids changed x e) ≡ (m.0 == n.0)
-  none_own x e m was on = ap (λ b. b || on_changed s n pids changed x e) (on_committed_own pids x e m on) ∙ by (length pids == changed) refl
+  -- each entry on the owner's own body of an object, since it gave this a value
+  none_own : (x : Slot) (e : Entry) (m : OwnerNo) → get old.copies.entries x ≡ Some e → e.view ≡ Some (Own m) → on_either x e ≡ (m.0 == n.0)
+  none_own x e m was on = ap (λ b. b || on_bodies (Own n) own x e) (on_committed_own pids x e m on) ∙ by (m.0 == n.0) refl
     where
-      by : (b : Bool) → (length pids == changed) ≡ b → (if b then on_bodies (Own n) pids x e else both (of_session s) (in_view (Own n)) x e) ≡ (m.0 == n.0)
-      by true all = of_objects_own all x e m was on
-      by false all = of_session_own x e m was on
+      by : (b : Bool) → (m.0 == n.0) ≡ b → on_bodies (Own n) own x e ≡ b
+      by false is = off_own x e (Own m) on (eq_back n.0 m.0 ∙ is)
+      by true is =
+          on_view_of (Own n) own x e (Own m) on ∙ ap (λ b. list_any (λ p. same_pid p e.pid && b) own) (eq_back n.0 m.0 ∙ is) ∙ (λ i. list_any (λ p. and_true (same_pid p e.pid) i) own)
+          ∙ own_among k old n may.settles.owner own may.settles.there may.covered are at x e m was on (eqb-true m.0 n.0 is)
 
-  goes_flushed : Goes old.copies n pids (λ x e. on_committed pids x e || on_changed s n pids changed x e)
+  goes_flushed : Goes old.copies n pids on_either
   goes_flushed = record {
     committed = λ x e on. ap (λ b. on_committed pids x e || b) (off_own x e Committed on refl) ∙ or_false (on_committed pids x e) ∙ on_committed_is pids x e on;
     own = none_own;
@@ -181,12 +143,12 @@ module _ (k : Kept) (old new : Parts) (mid : Meaning) (s : SessionNo) (n : Owner
       or_false false = refl
 
   flushed : Attends (with_commit k n (title_of k n) may.settles.owner.level (net k.catalog may.settles.owner)) new
-  flushed = settled_attends k old new n pids may.settles (λ x e. on_committed pids x e || on_changed s n pids changed x e) goes_flushed are are_new at stays lasts left
+  flushed = settled_attends k old new n pids may.settles on_either goes_flushed are are_new at stays lasts left
 
   -- no entry stands on the owner's own body of an object
   gone : (x : Slot) (e : Entry) (m : OwnerNo) → get new.copies.entries x ≡ Some e → e.view ≡ Some (Own m) → m.0 ≡ n.0 → ⊥
   gone x e m there on same =
-      let was = kept_entry (λ x e. on_committed pids x e || on_changed s n pids changed x e) old.copies new.copies left x e (Own m) there on in
+      let was = kept_entry on_either old.copies new.copies left x e (Own m) there on in
       true_false (none_own x e m was.0 on ∙ eq-eqb m.0 n.0 same) was.1
 
   owner_now : get (with_at k.owners n.0 begins_anew) n.0 ≡ Some (begins_anew may.settles.owner)
@@ -221,7 +183,7 @@ module _ (k : Kept) (old new : Parts) (mid : Meaning) (s : SessionNo) (n : Owner
 
   pub flush_attends : Attends (moved k (Flushes n)) new
   flush_attends =
-      subst (λ j. Attends (emptied j n) new) (sym (settled_is k old new n pids may.settles (λ x e. on_committed pids x e || on_changed s n pids changed x e) goes_flushed are are_new at stays lasts left))
+      subst (λ j. Attends (emptied j n) new) (sym (settled_is k old new n pids may.settles on_either goes_flushed are are_new at stays lasts left))
       (record {
         sessions = flushed.sessions;
         next = flushed.next;

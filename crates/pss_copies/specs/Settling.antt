@@ -1,21 +1,20 @@
 -- Commits of owners, as the sessions and their entries are left by them.
-use Rattle.std.specs.Prelude.{ℕ, ◌≡◌, ◌==◌, List, [], ◌∷◌, length, Some, None, Bool, false, if◌then◌else◌}
+use Rattle.std.specs.Prelude.{◌≡◌, List, [], ◌∷◌, Some, None, Bool, true, false}
 use Rattle.std.specs.List.{list_any}
-use Rattle.std.specs.FinMap.{get, len}
+use Rattle.std.specs.FinMap.{get}
 use Rattle.pss_base.specs.declared.pid.Pid.{Pid}
 use Rattle.pss_base.specs.declared.owner.OwnerNo.{OwnerNo}
-use Rattle.pss_base.specs.declared.session.SessionNo.{SessionNo}
 use Rattle.pss_catalog.specs.Catalog.{Object, Catalog}
 use Rattle.pss_catalog.specs.Changes.{Change}
-use Rattle.pss_machine.specs.declared.session.Kind.TheVariants.{Basic}
 use Rattle.pss_machine.specs.declared.session.View.{View}
-use Rattle.pss_machine.specs.declared.session.View.TheVariants.{Committed, Own}
+use Rattle.pss_machine.specs.declared.session.View.TheVariants.{Committed}
+use Rattle.pss_machine.specs.Same.{same_pid}
 use Rattle.pss_machine.specs.Owners.{Owner, net, is_basic}
-use Rattle.pss_machine.specs.Sessions.{Session, first_open}
+use Rattle.pss_machine.specs.Sessions.{first_open}
 use Rattle.pss_machine.specs.Kept.{Kept}
 use Rattle.incarnations.specs.declared.names.Slot.{Slot}
 use Rattle.incarnations.specs.declared.names.Entry.{Entry}
-use Rattle.incarnations.specs.Meaning.{body, on_body, both, of_session, in_view}
+use Rattle.incarnations.specs.Meaning.{body, on_body}
 use Rattle.pss_copies.specs.Ruled.{AreOwned}
 
 -- these are the objects of the changes, in the same order, each in the home in which it was committed where it was, and in
@@ -32,19 +31,20 @@ pub record Settles (k : Kept) (n : OwnerNo) (pids : List Pid) : Type 0 where
   pub pids_are : AreOf k.catalog (net k.catalog owner) pids
   pub own : AreOwned k.owners k.sessions k.next_owner
 
+-- each object to which the owner gave a value is among these
+abbrev pub HasAmong : Owner → List Pid → Type 0
+HasAmong owner pids = (pid : Pid) (x : Object) → get owner.changes pid.serial ≡ Some (Some x) → x.home.0 ≡ pid.home → list_any (λ p. same_pid p pid) pids ≡ true
+
 -- it is a transaction with which no session is active or suspended
 pub record MayCommit (k : Kept) (n : OwnerNo) (pids : List Pid) : Type 0 where
   pub settles : Settles k n pids
   pub transaction : is_basic settles.owner.level ≡ false
   pub closed : first_open k.sessions n ≡ None
 
--- it is a basic session, which has changed so many objects, some maybe back to what they were
-pub record MayFlush (k : Kept) (s : SessionNo) (n : OwnerNo) (pids : List Pid) (changed : ℕ) : Type 0 where
+-- it commits what it changed of the first objects, and each to which it gave a value is among the others
+pub record MayFlush (k : Kept) (n : OwnerNo) (pids own : List Pid) : Type 0 where
   pub settles : Settles k n pids
-  pub session : Session
-  pub there : get k.sessions s.0 ≡ Some session
-  pub kind : session.kind ≡ Basic n
-  pub changed_is : changed ≡ len settles.owner.changes
+  pub covered : HasAmong settles.owner own
 
 -- an entry on the body of one of the objects in a view
 abbrev pub on_bodies : View → List Pid → Slot → Entry → Bool
@@ -53,7 +53,3 @@ on_bodies view pids x e = list_any (λ pid. on_body (body pid view) x e) pids
 -- an entry on the committed body of one of the objects
 abbrev pub on_committed : List Pid → Slot → Entry → Bool
 on_committed pids x e = on_bodies Committed pids x e
-
--- an entry on an owner's own body: of one of the objects, where these are as many as it changed, else in its session
-abbrev pub on_changed : SessionNo → OwnerNo → List Pid → ℕ → Slot → Entry → Bool
-on_changed s n pids changed x e = if length pids == changed then on_bodies (Own n) pids x e else both (of_session s) (in_view (Own n)) x e

@@ -29,7 +29,7 @@ ghost use Rattle.pss_base.specs.declared.owner.OwnerNo.{OwnerNo as OwnerNumber};
 ghost use Rattle.pss_base.specs.declared.session.SessionNo.{SessionNo as SessionNumber};
 
 use crate::parts::Parts;
-use crate::settling::{detach_bodies, detach_changed};
+use crate::settling::detach_bodies;
 use incarnations::Incarnations;
 use pss_base::{Bytes, NoMemory, OwnerNo, Pid, SessionNo, Steps};
 use pss_machine::{Access, Kind, View};
@@ -340,22 +340,21 @@ impl Attended {
     }
 
     /// A basic session commits what it changed of these objects, and goes on: no entry stands on the committed body of one of
-    /// them, nor on a body that is the session's own for a change. It has changed so many objects: where these are as many, no
-    /// entry on another body is looked at, else each of the session that stands on a body. It takes no memory.
+    /// them, nor on a body that is the session's own for a change. Each object to which it gave a value is among `own`: no entry
+    /// on another body is looked at. It takes no memory.
     pub fn flush<L: Ledger>(
         &mut self,
-        session: SessionNo,
         owner: OwnerNo,
         pids: &[Pid],
-        changed: u32,
+        own: &[Pid],
         steps: &mut Steps<L>,
     )
-        ensures { (k : Kept) → MayFlush k session owner pids.now changed → Attends k self.old → Attends (moved k (Flushes owner)) self.new }
+        ensures { (k : Kept) → MayFlush k owner pids.now own.now → Attends k self.old → Attends (moved k (Flushes owner)) self.new }
     {
         let copies = &mut self.parts.copies;
         copies.copies_hold();
         detach_bodies(copies, pids, View::Committed, steps);
-        detach_changed(copies, session, owner, pids, changed, steps);
+        detach_bodies(copies, own, View::Own(owner), steps);
         copies.copies_hold();
     }
 

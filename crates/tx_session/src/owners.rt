@@ -13,6 +13,7 @@ ghost use Rattle.pss_machine.specs.Owners.{Owner, new_owner, has_changed, net, b
 ghost use Rattle.storage_home.specs.Applied.{AreChanges};
 ghost use Rattle.lock_table.specs.Agreement.{locks_of};
 ghost use Rattle.owner_view.specs.Net.{AreNet};
+ghost use Rattle.owner_view.specs.States.{AreValued};
 ghost use Rattle.tx_session.specs.Kept.{IsNew};
 ghost use Rattle.tx_session.specs.Owners.{owners_in, Under, MaySee, MayAct, step_of};
 ghost use Rattle.tx_session.specs.Following.{MayFollow};
@@ -196,6 +197,17 @@ impl Owners {
         match table::find(&self.parts.table, owner) {
             Some(owned) => owned.changed_count(),
             None => 0,
+        }
+    }
+
+    /// The pids of the objects that have a value from an owner, also where it is the one that was committed. They stand in no
+    /// stated order.
+    pub fn valued_pids(&self, owner: OwnerNo) -> Result<Vec<Pid>, NoMemory>
+        ensures { IfOk result (λ pids. (o : Owner) → get (owners_in self.now) owner.0 ≡ Some o → AreValued o.changes pids.items) }
+    {
+        match table::find(&self.parts.table, owner) {
+            Some(owned) => owned.valued_pids(),
+            None => Ok(Vec::new(self.parts.alloc)),
         }
     }
 

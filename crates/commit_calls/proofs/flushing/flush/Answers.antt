@@ -11,9 +11,9 @@ use Rattle.connector_parts.specs.Stands.{IsAt, Comes}
 use Rattle.connector_parts.proofs.Decisions.{no_session, found_as}
 use Rattle.connector_parts.proofs.Tellings.{if_ok}
 use Rattle.commit_calls.specs.Ready.{MayMakeReady}
-use Rattle.commit_calls.specs.Commits.{MayFlush, Follows}
+use Rattle.commit_calls.specs.Commits.{Follows}
 use Rattle.commit_calls.proofs.Commitments.{if_err}
-use Rattle.commit_calls.proofs.Outcomes.{basic_is, flush_of_other, flush_ready, follows_comes, may_flush}
+use Rattle.commit_calls.proofs.Outcomes.{basic_is, flush_of_other, flush_ready, follows_comes}
 use Rattle.commit_saving.specs.Saving.{BecomesSaved, IsSavedThroughout, StaysSaved, saved_by}
 use Rattle.commit_saving.proofs.Stored.{on_ok}
 use Rattle.commit_calls.proofs.flushing.flush.Goals as goal
@@ -41,9 +41,9 @@ returns-in-Basic g c =
     let decided : (k : Kept) → IsAt parts k → decision parts.schema parts.limits k (command.Flush name) ≡ unless_full parts.schema parts.limits k n (Flushes n) = λ k at. basic_is parts k at name found (is k at) n c.in-Basic.is in
     record {
       comes = if_ok
-          (λ (told : Reply). (m : MayMakeReady parts n) → MayFlush m.kept found.number n → Follows parts m.kept (unless_full parts.schema parts.limits m.kept n (Flushes n)) told new.parts)
+          (λ (told : Reply). (m : MayMakeReady parts n) → Follows parts m.kept (unless_full parts.schema parts.limits m.kept n (Flushes n)) told new.parts)
           (λ (told : Reply). (k : Kept) → IsAt parts k → Comes parts k (command.Flush name) told new.parts) result
-          (λ told h k at. follows_comes parts new.parts k (command.Flush name) (unless_full parts.schema parts.limits k n (Flushes n)) told (decided k at) (h (ready k at) (may_flush parts k at name found (is k at) n c.in-Basic.is)))
+          (λ told h k at. follows_comes parts new.parts k (command.Flush name) (unless_full parts.schema parts.limits k n (Flushes n)) told (decided k at) (h (ready k at)))
           c.flush_changes.ensures.follows;
       saved = on_ok result (λ made k at. subst (λ (d : Decision). BecomesSaved content parts.schema k d.effect c.args.store.now new.store c.args.station.now new.station) (sym (decided k at)) (made (ready k at))) c.flush_changes.ensures.saved;
       images = λ k at. subst (λ (d : Decision). IsSavedThroughout content history parts.schema k d.effect c.args.store.now c.args.station.now new.station) (sym (decided k at)) (c.flush_changes.ensures.images (ready k at));

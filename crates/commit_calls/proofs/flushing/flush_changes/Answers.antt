@@ -1,7 +1,7 @@
 use Rattle.std.proofs.Common.{sym, ap, ◌∙◌}
 use Rattle.std.specs.Prelude.{is_some}
 use Rattle.pss_machine.specs.Effects.{Flushes}
-use Rattle.connector_parts.proofs.Bounds.{commits_left}
+use Rattle.connector_parts.proofs.Bounds.{commits_left, own_at}
 use Rattle.commit_calls.proofs.Commitments.{flushes_net}
 use Rattle.commit_calls.proofs.Outcomes.{done_follows, full_follows}
 use Rattle.commit_calls.proofs.Readiness.{stay_on, ready_of}
@@ -20,10 +20,10 @@ returns-in-Some g c =
     let old = c.args.parts.now in
     let n = c.args.owner in
     record {
-      follows = λ m may.
+      follows = λ m.
           done_follows old c.apply.new.parts m.kept n m.owner m.there (Flushes n) (stay_on old c.store_changes.new.parts c.apply.new.parts c.in_ok-ready.ensures.rest c.apply.ensures.rest)
           (ap is_some (sym c.in-Some.is) ∙ c.in_ok-ready.ensures.full m)
-          (c.apply.ensures.flushed m.kept (c.in_ok-ready.ensures.stands m.kept m.at) (ready_of old c.store_changes.new.parts n c.in_ok-ready.field-0 c.in-Some.ready c.in-Some.is c.in_ok-ready.ensures.ready m) may);
+          (c.apply.ensures.flushed m.kept (c.in_ok-ready.ensures.stands m.kept m.at) (ready_of old c.store_changes.new.parts n c.in_ok-ready.field-0 c.in-Some.ready c.in-Some.is c.in_ok-ready.ensures.ready m) (own_at old m.kept m.at));
       saved = λ m. c.in_ok-ready.ensures.saved m (Flushes n) (flushes_net m.kept n m.owner m.there);
       images = λ m. c.store_changes.ensures.images m (Flushes n) (flushes_net m.kept n m.owner m.there);
       memory = tt;
@@ -38,7 +38,7 @@ returns-in-None g c =
     let old = c.args.parts.now in
     let n = c.args.owner in
     record {
-      follows = λ m may.
+      follows = λ m.
           full_follows old c.store_changes.new.parts m.kept n m.owner m.there (Flushes n) c.in_ok-ready.ensures.rest (ap is_some (sym c.in-None.is) ∙ c.in_ok-ready.ensures.full m) (c.in_ok-ready.ensures.stands m.kept m.at);
       saved = λ m. c.in_ok-ready.ensures.saved m (Flushes n) (flushes_net m.kept n m.owner m.there);
       images = λ m. c.store_changes.ensures.images m (Flushes n) (flushes_net m.kept n m.owner m.there);

@@ -1,5 +1,4 @@
-use Rattle.std.proofs.Common.{map, refl, ap, ◌∙◌}
-use Rattle.commit_calls.specs.Ready.{pid_of}
+use Rattle.std.proofs.Common.{refl, ◌∙◌}
 use Rattle.commit_calls.proofs.Readiness.{may_prepare_as, is_full, has_room, ready_as}
 use Rattle.commit_calls.proofs.ready.make_ready.Goals as goal
 
@@ -11,7 +10,8 @@ returns-in-Ok-clause-full c m = has_room c.args.parts.now c.args.owner c.schema.
 
 pub returns-in-Ok-clause-ready : goal.returns-in-Ok-clause-ready
 returns-in-Ok-clause-ready c m =
-    ready_as c.args.parts.now c.args.owner c.schema.result.now c.schema.ensures m _ _ refl c.in_ok-commit.field-0 c.in-Some.is c.in_ok-commit.ensures.prepared (c.in-Ok.ensures ∙ ap (map pid_of) (c.as_slice.ensures.items ∙ c.changes.ensures))
+    ready_as c.args.parts.now c.args.owner c.schema.result.now c.schema.ensures m _ _ refl c.in_ok-commit.field-0 c.in-Some.is c.in_ok-commit.ensures.prepared (c.in_ok-commit.ensures.kept c.args.parts.now.schema m.kept m.at.stands.accounts)
+    c.as_slice.result.now (c.as_slice.ensures.items ∙ c.changes.ensures) c.in-Ok.ensures.pids c.in-Ok.ensures.own
 
 pub returns-in-None-clause-full : goal.returns-in-None-clause-full
 returns-in-None-clause-full c m = is_full c.args.parts.now c.args.owner c.schema.result.now c.schema.ensures m c.in_ok-commit.field-0 c.in-None.is c.in_ok-commit.ensures.full

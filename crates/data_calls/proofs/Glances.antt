@@ -1,10 +1,9 @@
 -- What a body tells a basic session is its step, and what comes of it.
-use Rattle.std.proofs.Common.{◌≡◌, ℕ, Bool, true, false, List, [], ◌∷◌, Option, Some, None, length, ◌==◌, ◌-◌, ◌^◌, refl, sym, ap, ◌∙◌, subst}
+use Rattle.std.proofs.Common.{◌≡◌, ℕ, Bool, true, List, [], ◌∷◌, Option, Some, None, length, ◌==◌, ◌-◌, ◌^◌, refl, sym, ap, ◌∙◌, subst}
 use Rattle.std.specs.Prelude.{IsSomeAnd, Ok, ◌&&◌, nat_le}
 use Rattle.std.specs.List.{slice_get}
 use Rattle.std.specs.Option.{option_and_then}
 use Rattle.std.specs.FinMap.{get, len}
-use Rattle.pss_base.specs.declared.pid.Pid.{Pid}
 use Rattle.pss_base.specs.declared.owner.OwnerNo.{OwnerNo as OwnerNumber}
 use Rattle.pss_base.specs.declared.session.SessionNo.{SessionNo as SessionNumber}
 use Rattle.type_layout.specs.declared.schema.Schema.{Schema}
@@ -21,7 +20,7 @@ use Rattle.pss_machine.specs.Effects.{Decision}
 use Rattle.pss_machine.specs.Asking.{Asked, refused_where}
 use Rattle.pss_machine.specs.Stepping.{copied_values, told_by_copy, step_on_copy, copied_answer, changes_further, is_create, value_text}
 use Rattle.pss_machine.specs.Moving.{after_step}
-use Rattle.pss_machine.proofs.Logic.{none_some, same_some}
+use Rattle.pss_machine.proofs.Logic.{same_some}
 use Rattle.incarnations.specs.Meaning.{AreCopies, slot, body_under}
 use Rattle.owner_accounts.specs.Accounts.{AreAccounts}
 use Rattle.owner_accounts.specs.Steps.{HasSerial}

@@ -1,16 +1,14 @@
 -- What is seen of a value by the words of a get, and what comes of it.
-use Rattle.std.proofs.Common.{◌≡◌, ◌≤◌, ◌<◌, ℕ, Bool, true, List, [], ◌∷◌, ◌++◌, ◌+◌, ℤ, Option, Some, None, IfSome, length, drop, refl, sym, ap, ◌∙◌, subst, arith, inl, inr}
-use Rattle.std.specs.Prelude.{Result, Ok, Err, ok_or, position}
+use Rattle.std.proofs.Common.{◌≡◌, ◌<◌, ℕ, Bool, List, [], ◌++◌, ◌+◌, ℤ, Option, Some, None, length, drop, refl, sym, ap, ◌∙◌, subst, arith, inl, inr}
+use Rattle.std.specs.Prelude.{Result, Ok, ok_or, position}
 use Rattle.std.specs.Str.{bytes_eq}
-use Rattle.std.specs.List.{slice_get}
-use Rattle.std.specs.Option.{option_map, option_and_then}
+use Rattle.std.specs.Option.{option_map}
 use Rattle.std.specs.FinMap.{get}
 use Rattle.std.proofs.Math.Seq.{drop-append_seam}
 use Rattle.std.proofs.lemmas.Grind.{common_steps}
 use Rattle.std.proofs.lemmas.Option.{slice_get_cases}
 use Rattle.std.specs.Fmt.{signed_decimal}
 use Rattle.pss_base.specs.declared.pid.Pid.{Pid}
-use Rattle.pss_base.specs.declared.owner.OwnerNo.{OwnerNo}
 use Rattle.pss_base.specs.declared.session.SessionNo.{SessionNo}
 use Rattle.type_layout.specs.declared.schema.Schema.{Schema}
 use Rattle.type_layout.specs.declared.home.HomeNo.{HomeNo}
@@ -22,18 +20,17 @@ use Rattle.value_text.proofs.Printing.{number_prints}
 use Rattle.pss_machine.specs.declared.command.Command.TheVariants as command
 use Rattle.pss_machine.specs.declared.reply.Reply.{Reply}
 use Rattle.pss_machine.specs.declared.reply.Reply.TheVariants as reply
-use Rattle.pss_machine.specs.Operations.{Question, Get, Ask, Val}
+use Rattle.pss_machine.specs.Operations.{Get, Ask}
 use Rattle.pss_machine.specs.Homes.{home_of, member_at}
 use Rattle.pss_machine.specs.Names.{member_named}
 use Rattle.pss_machine.specs.Copies.{Copies, Entry, entry_numbered}
 use Rattle.pss_machine.specs.Kept.{Kept, copies_of}
-use Rattle.pss_machine.specs.Asking.{Asked, Place, ◌>>=◌, by_entry, read_entry, read_member, getting}
-use Rattle.pss_machine.specs.Stepping.{step_on_copy, value_text}
+use Rattle.pss_machine.specs.Asking.{Asked, ◌>>=◌, by_entry, read_member, getting}
+use Rattle.pss_machine.specs.Stepping.{value_text}
 use Rattle.pss_machine.specs.Effects.{Decision}
-use Rattle.pss_machine.specs.Moving.{moved, after_step}
+use Rattle.pss_machine.specs.Moving.{moved}
 use Rattle.pss_machine.proofs.Logic.{none_some}
-use Rattle.incarnations.specs.Meaning.{Meaning, AreCopies, slot, body_under, entry_at}
-use Rattle.owner_accounts.specs.Accounts.{AreAccounts}
+use Rattle.incarnations.specs.Meaning.{Meaning, AreCopies, entry_at}
 use Rattle.pss_copies.specs.Told.{AreTold}
 use Rattle.connector_parts.specs.declared.parts.Parts.{Parts}
 use Rattle.connector_parts.specs.Stands.{Stands, IsAt, Comes}
@@ -41,7 +38,7 @@ use Rattle.connector_parts.proofs.Tellings.{pid_told}
 use Rattle.data_calls.specs.declared.acting.Acting.{Acting}
 use Rattle.data_calls.specs.Asking.{Asks, MayTake, Follows, decision_on}
 use Rattle.data_calls.specs.Replying.{IsOfMember}
-use Rattle.data_calls.specs.Glances.{IsReading, IsGlance, IsSeen, PrintsIn, added, Tells}
+use Rattle.data_calls.specs.Glances.{IsReading, IsGlance, IsSeen, added}
 use Rattle.data_calls.proofs.Fair.{getting_right}
 use Rattle.data_calls.proofs.Words.{asks}
 use Rattle.data_calls.proofs.Taking.{told_as, told_decides}

@@ -1,5 +1,5 @@
 // What changes make of the sum of all objects' weights.
-ghost use Rattle.std.specs.Prelude.{◌≡◌, ◌+◌, ◌*◌, ◌<◌, ◌≤◌, ◌^◌, List, length, nat_lt};
+ghost use Rattle.std.specs.Prelude.{◌≡◌, ◌+◌, ◌<◌, ◌^◌, List, length, nat_lt};
 ghost use Rattle.type_layout.specs.declared.schema.Schema.{Schema};
 ghost use Rattle.type_layout.specs.Schemas.{given};
 ghost use Rattle.pss_catalog.specs.Catalog.{Catalog, weight_at, total};

@@ -1,5 +1,5 @@
 -- A demonstration that its store has stopped.
-use Rattle.std.proofs.Common.{ℕ, ◌≡◌, subst, sym, Bool, false, true, List, Option, Err}
+use Rattle.std.proofs.Common.{ℕ, ◌≡◌, subst, sym, false, true, List, Option, Err}
 use Rattle.pss_base.specs.Causes.{HasCauseIf}
 use Rattle.pss_base.specs.declared.stop.StoreStop.{StoreStop}
 use Rattle.pss_base.specs.declared.stop.StoreStop.TheVariants as store

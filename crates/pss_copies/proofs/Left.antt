@@ -25,10 +25,6 @@ use Rattle.pss_copies.specs.Told.{stand_told, entry_told, IsTold, AreTold}
 use Rattle.pss_copies.specs.Seats.{AreSeated, AreValued}
 use Rattle.pss_copies.proofs.Numbered.{let_go, numbered_detached}
 
-some_is : {A : Type 0} (o : Option A) → is_some o ≡ true → (x : A) × (o ≡ Some x)
-some_is None e = absurd cc
-some_is (Some x) e = (x, refl)
-
 -- an entry that stands on a body is told to be attached
 pub stands_attached : (m : Meaning) → AreCopies m → (x : Slot) (n : ℕ) (e : Entry) (v : View) → get m.entries x ≡ Some e → e.view ≡ Some v → is_attached (entry_told m n e) ≡ true
 stands_attached m are x n e v at view = ap (λ o. is_attached (record { number = n; pid = e.pid; count = e.count; stand = stand_told m e.pid o })) view ∙ by v (are.bodies x (body e.pid v) (ap (option_and_then body_of) at ∙ ap (option_map (body e.pid)) view))

@@ -27,14 +27,6 @@ abbrev pub EachOf : {A : Type 0} → (A → Type 0) → List A → Type 0
 EachOf P [] = Unit {0}
 EachOf P (x ∷ xs) = P x × EachOf P xs
 
-pub each_filtered : {A : Type 0} (P : A → Type 0) (t : A → Bool) (xs : List A) → EachOf P xs → EachOf (λ x. P x × (t x ≡ true)) (filter t xs)
-each_filtered P t [] each = tt
-each_filtered P t (x ∷ xs) each = by (t x) refl (each_filtered P t xs each.1)
-  where
-    by : (b : Bool) → t x ≡ b → EachOf (λ x. P x × (t x ≡ true)) (filter t xs) → EachOf (λ x. P x × (t x ≡ true)) (cond b (x ∷ filter t xs) (filter t xs))
-    by true is rest = ((each.0, is), rest)
-    by false is rest = rest
-
 pub map_each : {A B : Type 0} (f g : A → B) (xs : List A) → EachOf (λ x. f x ≡ g x) xs → map f xs ≡ map g xs
 map_each f g [] each = refl
 map_each f g (x ∷ xs) each = λ i. each.0 i ∷ map_each f g xs each.1 i

@@ -1,5 +1,5 @@
 -- One line over a store, by what a connector's call ensures.
-use Rattle.std.proofs.Common.{ℕ, ◌≡◌, ◌++◌, ◌∷◌, [], ◌∙◌, inl, List, Option, Some, None, IfSome, refl, ap, sym, subst}
+use Rattle.std.proofs.Common.{ℕ, ◌≡◌, ◌++◌, ◌∷◌, [], ◌∙◌, inl, List, Option, Some, IfSome, refl, ap, sym, subst}
 use Rattle.std.specs.Prelude.{codes}
 use Rattle.pss_base.specs.declared.lines.LineStep.{LineStep}
 use Rattle.pss_disk.specs.Images.{IsQuiet}

@@ -11,7 +11,6 @@ use Rattle.pss_machine.specs.Operations.{PlainOp, Busy, plain_answer}
 use Rattle.pss_machine.specs.Owners.{Owner, view, blocker, stepped}
 use Rattle.pss_machine.proofs.Refusing.{alone_free, is_busy}
 use Rattle.storage_home.specs.declared.parts.Parts.{Parts as Homes}
-use Rattle.lock_table.specs.Locks.{Held}
 use Rattle.lock_table.specs.Locks as table
 use Rattle.lock_table.specs.Agreement.{HaveLocks}
 use Rattle.lock_table.proofs.Owning.{same_blocker}

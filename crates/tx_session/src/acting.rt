@@ -1,6 +1,5 @@
 // An owner acts: the step of an operation on its view, room for it, and what becomes of locks and changes.
-ghost use Rattle.std.specs.Prelude.{◌≡◌, Some, None, IsSome, IfOk, OnOk, OnErr, length};
-ghost use Rattle.type_layout.specs.declared.schema.Schema.{Schema as PlainSchema};
+ghost use Rattle.std.specs.Prelude.{◌≡◌, Some, None, IsSome, IfOk, OnOk, OnErr};
 ghost use Rattle.pss_machine.specs.Maps.{with_at};
 ghost use Rattle.pss_machine.specs.Operations.{plain_op};
 ghost use Rattle.pss_machine.specs.Owners.{view};

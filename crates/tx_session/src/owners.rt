@@ -5,7 +5,6 @@ ghost use Rattle.std.specs.FinMap.{get, insert, remove, empty, len, entries};
 ghost use Rattle.std.specs.FinSet as set;
 ghost use Rattle.type_layout.specs.declared.schema.Schema.{Schema as PlainSchema};
 ghost use Rattle.pss_base.specs.declared.owner.OwnerNo.{OwnerNo as Number};
-ghost use Rattle.pss_machine.specs.declared.answer.Answer.{Answer as Told};
 ghost use Rattle.pss_machine.specs.declared.answer.Answer.TheVariants as told;
 ghost use Rattle.pss_machine.specs.Maps.{with_at};
 ghost use Rattle.pss_machine.specs.Operations.{plain_op, plain_answer};

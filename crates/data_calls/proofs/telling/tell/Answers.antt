@@ -1,4 +1,4 @@
-use Rattle.std.proofs.Common.{◌≡◌, Option, refl, subst}
+use Rattle.std.proofs.Common.{Option, refl, subst}
 use Rattle.pss_machine.specs.declared.reply.Reply.TheVariants as reply
 use Rattle.pss_machine.specs.Operations.{Val}
 use Rattle.data_calls.specs.declared.acting.Acting.{Acting}

@@ -1,4 +1,4 @@
-use Rattle.std.proofs.Common.{◌≡◌, ◌+◌, ◌≤◌, Bool, true, false, subst, arith, ◌∙◌}
+use Rattle.std.proofs.Common.{Bool, subst, arith, ◌∙◌}
 use Rattle.connector.specs.Lines.{Tells, IsTold}
 use Rattle.script_service.proofs.Lines.{value_line}
 use Rattle.script_service.proofs.getting.print_get.Goals as goal

@@ -1,4 +1,4 @@
-use Rattle.std.proofs.Common.{◌≡◌, Bool, true, false, refl, subst, ap, ◌∙◌}
+use Rattle.std.proofs.Common.{Bool, refl, subst}
 use Rattle.pss_machine.specs.declared.command.Command.TheVariants as command
 use Rattle.pss_machine.specs.declared.reply.Reply.TheVariants as reply
 use Rattle.data_calls.specs.Glances.{Tells, IsTold}

@@ -70,7 +70,7 @@ impl History {
         self.commits
     }
 
-    /// The texts of the last 64 commits, oldest first. They are spelled here.
+    /// The texts of the last 64 commits, oldest first. They are spelled here; `NoMemory` changes nothing.
     pub fn recent(&self) -> Result<Names, NoMemory>
         ensures { IfOk result (λ texts. texts ≡ self.now.recent) }
     {

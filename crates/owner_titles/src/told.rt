@@ -14,6 +14,7 @@ use pss_machine::Level;
 pub struct Told {
     /// The owner's name.
     pub name: Bytes,
+    /// The owner's level.
     pub level: Level,
     /// How many data commands the owner had done.
     pub commands: u32,
@@ -21,7 +22,7 @@ pub struct Told {
     pub changed: u32,
 }
 
-/// What is told of an owner's commit that changes so many objects.
+/// What is told of an owner's commit that changes so many objects. It takes memory for the name; `NoMemory` changes nothing.
 pub fn told_of(called: &Called, changed: u32) -> Result<Told, NoMemory>
     ensures { (changes : List Change) → length changes ≡ changed → IfOk result (λ told. told_text told ≡ commit_text (title_of called.now) called.now.level changes) }
 {

@@ -47,6 +47,16 @@ def homes_with_factories(size):
     return filled(size, front, lambda n: chain(n).replace(" : ", " of A : "), "")
 
 
+def factories_down_a_chain(size):
+    """Abstract homes in a chain, each with a factory of its own, and concrete homes that implement the last."""
+    chain = below("abstract storagehome b", "b", lambda n: f"factory f{n:x}();")
+    front = "abstract storagetype A {};\nstoragetype T implements A {};\nabstract storagehome b of A {};\n"
+    homes = filled(size - size // 320 * 48, front, lambda n: chain(n).replace(" : ", " of A : "), "").rstrip(" ")
+    last = homes.rsplit("storagehome ", 1)[1].split()[0]
+    heirs = "".join(f"storagehome h{n:x} of T implements {last} {{}};\n" for n in range(size // 320))
+    return f"{homes}{heirs}".ljust(size)
+
+
 def names_behind_implements(size):
     """Half of the text: types in a chain. The other half: one name again and again behind `implements`."""
     chain = below("abstract storagetype b", "b")
@@ -204,6 +214,7 @@ HOSTILE = [
     factories_under_homes,
     keys_under_homes,
     homes_with_factories,
+    factories_down_a_chain,
     names_behind_implements,
     types_with_members,
     long_member_names,

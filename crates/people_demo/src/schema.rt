@@ -7,7 +7,6 @@ ghost use Rattle.people_demo.specs.People as plain;
 
 use pss_base::{Bytes, NoMemory};
 use std::alloc::Global;
-use std::rc::Rc;
 use type_layout::{
     DeclaredFactories, DeclaredFactory, Factories, HeldFactories, Home, HomeList, HomeNo, HomeNos,
     Indexes, Key, KeyList, KeyNo, KeyNos, Layout, Member, Members, Names, PlacedNames, Provided,
@@ -114,9 +113,7 @@ fn held(alloc: Global) -> Result<HeldFactories, NoMemory>
 {
     let mut declared = Vec::new(alloc);
     declared.push(make(alloc)?)?;
-    let mut held = HeldFactories::new(alloc);
-    held.push(Rc::new(alloc, DeclaredFactories::new(alloc, declared)?)?)?;
-    Ok(held)
+    HeldFactories::alone(alloc, DeclaredFactories::new(alloc, declared)?)
 }
 
 fn factories(alloc: Global) -> Result<Factories, NoMemory>

@@ -1,10 +1,11 @@
 -- What is made of a home.
 use Rattle.std.proofs.Common.{◌≡◌, ℕ, ◌+◌, List, [], ◌∷◌, ◌++◌, Bool, true, false, not, ◌||◌, if◌then◌else◌, Option, length, map, refl, sym, ap, ◌∙◌, arith, length-append}
-use Rattle.std.specs.List.{flat_map, list_any, filter}
+use Rattle.std.specs.List.{flat_map, filter}
 use Rattle.std.specs.Option.{option_map}
 use Rattle.std.proofs.lemmas.Bool.{eq-eqb}
 use Rattle.std.proofs.lemmas.List.{append-nil, map-append}
 use Rattle.std.proofs.lemmas.List.Concat.{flat_map-append}
+use Rattle.type_layout.specs.declared.factories.DeclaredFactory.{DeclaredFactory}
 use Rattle.type_layout.specs.declared.home.HomeNo.{HomeNo}
 use Rattle.type_layout.specs.declared.key.KeyNo.{KeyNo}
 use Rattle.type_layout.specs.declared.schema.Factory.{Factory}
@@ -14,7 +15,7 @@ use Rattle.type_layout.specs.ShapeText.{home_line, member_line, base_number}
 use Rattle.type_layout.specs.Types.{PlainType, RefTo, PlainMember}
 use Rattle.psdl_directory.specs.Declarations.{Declaration}
 use Rattle.psdl_directory.specs.Lookup.{at}
-use Rattle.psdl_lineage.specs.Descent.{Listed, same_listed, without_known, without_repeats, base_home, home_factories, concrete_homes}
+use Rattle.psdl_lineage.specs.Descent.{Listed, base_home, home_factories, concrete_homes}
 use Rattle.psdl_standings.specs.Standings.{standings}
 use Rattle.psdl_standings.specs.TextLengths.{cut}
 use Rattle.psdl_check.specs.Schemas.{Introduced, introduced, all_introduced, home_no, scoped_name, home_layout, key_numbers, factory_of, home_of}
@@ -82,28 +83,13 @@ whole_lines all home front between result is_between is_result =
 
 -- ---- factories
 
-known_alike : (x : Listed) (known : List Listed) → list_any (same_declared (declared_as x)) (map declared_as known) ≡ list_any (same_listed x) known
-known_alike x [] = refl
-known_alike x (y ∷ known) = ap (λ (b : Bool). same_listed x y || b) (known_alike x known)
-
-first_are : (known xs : List Listed) → first_of_each same_declared (map declared_as known) (map declared_as xs) ≡ map declared_as (without_known same_listed known xs)
-first_are known [] = refl
-first_are known (x ∷ xs) = by (list_any (same_listed x) known) refl (first_are known xs) (first_are (x ∷ known) xs)
-  where
-    by : (b : Bool) → list_any (same_listed x) known ≡ b
-        → first_of_each same_declared (map declared_as known) (map declared_as xs) ≡ map declared_as (without_known same_listed known xs)
-        → first_of_each same_declared (map declared_as (x ∷ known)) (map declared_as xs) ≡ map declared_as (without_known same_listed (x ∷ known) xs)
-        → first_of_each same_declared (map declared_as known) (map declared_as (x ∷ xs)) ≡ map declared_as (if b then without_known same_listed known xs else x ∷ without_known same_listed (x ∷ known) xs)
-    by true e same more = rw (known_alike x known, e) same
-    by false e same more = rw (known_alike x known, e) (ap (λ l. declared_as x ∷ l) more)
-
 all_numbered : (vs : List PlainMember) (ls : List Listed) → map (numbered (map (λ (v : PlainMember). v.name) vs)) (map declared_as ls) ≡ map (factory_of vs) ls
 all_numbered vs [] = refl
 all_numbered vs (l ∷ ls) = λ i. record { name = l.name; members = numbers_are vs l.members i } ∷ all_numbered vs ls i
 
-pub factories_are : (vs : List PlainMember) (xs : List Listed) → factories_held (map (λ (v : PlainMember). v.name) vs) (map declared_as xs) ≡ map (factory_of vs) (without_repeats same_listed xs)
+pub factories_are : (vs : List PlainMember) (held : List DeclaredFactory) (xs : List Listed) → first_of_each same_declared [] held ≡ map declared_as xs → factories_held (map (λ (v : PlainMember). v.name) vs) held ≡ map (factory_of vs) xs
 unfolding factories_held
-factories_are vs xs = ap (map (numbered (map (λ (v : PlainMember). v.name) vs))) (first_are [] xs) ∙ all_numbered vs (without_repeats same_listed xs)
+factories_are vs held xs is = ap (map (numbered (map (λ (v : PlainMember). v.name) vs))) is ∙ all_numbered vs xs
 
 -- ---- the record
 

@@ -13,6 +13,7 @@ pub mod Marking
 pub mod KeyRowing
 pub mod Meant
 pub mod Laying
+pub mod Sourced
 pub mod Declared
 pub mod Gathering
 pub mod Holding

@@ -1,7 +1,6 @@
-// The factories that homes have. What one home declares is held once, by all homes that have it.
-ghost use Rattle.std.specs.Prelude.{◌≡◌, ◌++◌, [], length, map, is_some, IfOk, OnOk};
-ghost use Rattle.std.specs.List.{flat_map, range_with_len};
-ghost use Rattle.std.proofs.Common.{get_or};
+// The factories that homes have. What all homes of a text derive from and declare is held once.
+ghost use Rattle.std.specs.Prelude.{◌≡◌, ◌<◌, ◌++◌, [], length, map, IfOk, OnOk};
+ghost use Rattle.std.specs.List.{range_with_len};
 ghost use Rattle.type_layout.specs.Schemas.{given};
 ghost use Rattle.psdl_directory.specs.Directories.{all_of};
 ghost use Rattle.psdl_directory.specs.inner.Nodes.{what_view};
@@ -9,27 +8,27 @@ ghost use Rattle.psdl_lineage.specs.Descent.{names_of as names_in};
 ghost use Rattle.psdl_members.specs.Listings.{listed_view, listed_views};
 ghost use Rattle.psdl_members.specs.declared.list_kind.ListKind.TheVariants as kinds;
 ghost use Rattle.psdl_members.specs.inner.Listing.{listed_in, own_lists};
-ghost use Rattle.psdl_lineage.specs.Graph.{graph_of};
+ghost use Rattle.psdl_lineage.specs.Graph.{graph_of, parents_in};
 ghost use Rattle.psdl_lineage.specs.Lineages.{text_of};
 ghost use Rattle.psdl_check.specs.inner.Declaring.{declared_as, AreDeclared};
+ghost use Rattle.psdl_check.specs.inner.Rising.{IsRising};
 
 use psdl_directory::{DeclarationNo, Directory, What};
-use psdl_lineage::{Lineage, Sources};
+use psdl_lineage::{Graph, Lineage};
 use psdl_members::{ListKind, Listed, add_lists};
 use psdl_tree::Identifier;
 use pss_base::NoMemory;
 use std::alloc::Global;
 use std::rc::Rc;
-use type_layout::{DeclaredFactories, DeclaredFactory, HeldFactories, Names};
+use type_layout::{DeclaredFactories, DeclaredFactory, FactoryGraph, HeldFactories, Names};
 
-/// What the homes of a text declare, where that is something.
+/// From which others each declaration of a text derives, and which factories it declares.
 #[derive(Drop)]
 pub(crate) struct HomeFactories<'t, 'd> {
     lineage: &'t Lineage<'t, 'd>,
-    declared: Vec<Option<Rc<DeclaredFactories>>>,
-    sources: Sources<'t>,
-    ghost graphed: { sources.graph ≡ graph_of (text_of lineage.now) },
-    ghost had: { AreDeclared (text_of lineage.now) (map (λ o. given o [] (λ s. s.value)) declared.items) sources.own },
+    graph: Rc<FactoryGraph>,
+    ghost rising: { IsRising (graph_of (text_of lineage.now)) },
+    ghost had: { AreDeclared (text_of lineage.now) graph.value },
 }
 
 // Adds names.
@@ -73,8 +72,8 @@ fn declared_list(alloc: Global, lists: &[Listed<'_>]) -> Result<Vec<DeclaredFact
 }
 
 // What a body declares, where that is something.
-fn of_body(alloc: Global, what: What<'_>) -> Result<Option<Rc<DeclaredFactories>>, NoMemory>
-    ensures { IfOk result (λ r. given r [] (λ s. s.value) ≡ map declared_as (listed_in kinds.Factory (what_view what.entry))) }
+fn of_body(alloc: Global, what: What<'_>) -> Result<Option<Box<DeclaredFactories>>, NoMemory>
+    ensures { IfOk result (λ r. given r [] (λ b. b.value) ≡ map declared_as (listed_in kinds.Factory (what_view what.entry))) }
 {
     let mut lists = Vec::new(alloc);
     add_lists(&mut lists, ListKind::Factory, what)?;
@@ -82,16 +81,16 @@ fn of_body(alloc: Global, what: What<'_>) -> Result<Option<Rc<DeclaredFactories>
         return Ok(None);
     }
     let declared = declared_list(alloc, &lists)?;
-    let shared = Rc::new(alloc, DeclaredFactories::new(alloc, declared)?)?;
-    Ok(Some(shared))
+    let boxed = Box::new(alloc, DeclaredFactories::new(alloc, declared)?)?;
+    Ok(Some(boxed))
 }
 
 // What all bodies declare.
 fn of_bodies(
     alloc: Global,
     directory: &Directory<'_>,
-) -> Result<Vec<Option<Rc<DeclaredFactories>>>, NoMemory>
-    ensures { IfOk result (λ v. map (λ o. given o [] (λ s. s.value)) v.items ≡ map (λ n. map declared_as (own_lists kinds.Factory (all_of directory.now) n)) (range_with_len 0 (length (all_of directory.now)))) }
+) -> Result<Vec<Option<Box<DeclaredFactories>>>, NoMemory>
+    ensures { IfOk result (λ v. map (λ o. given o [] (λ b. b.value)) v.items ≡ map (λ n. map declared_as (own_lists kinds.Factory (all_of directory.now) n)) (range_with_len 0 (length (all_of directory.now)))) }
 {
     let mut all = Vec::new(alloc);
     for index in 0..directory.len() {
@@ -100,84 +99,64 @@ fn of_bodies(
     Ok(all)
 }
 
-// Which of them are something.
-fn flags(alloc: Global, declared: &[Option<Rc<DeclaredFactories>>]) -> Result<Vec<bool>, NoMemory>
-    ensures { IfOk result (λ v. v.items ≡ map (λ o. is_some o) declared.now) }
+// What a declaration derives from.
+fn bases_of(alloc: Global, graph: &Graph, number: usize) -> Result<Vec<usize>, NoMemory>
+    requires { number < length graph.now }
+    ensures { IfOk result (λ v. v.items ≡ parents_in graph.now number) }
 {
-    let mut flags = Vec::new(alloc);
-    for one in declared {
-        flags.push(one.is_some())?;
-    }
-    Ok(flags)
+    let bases = graph.parents(number).to_vec(alloc)?;
+    Ok(bases)
 }
 
-// Adds what a body declares.
-fn add_held(
-    held: &mut HeldFactories,
-    declared: &[Option<Rc<DeclaredFactories>>],
-    body: usize,
-) -> Result<(), NoMemory>
-    ensures { OnOk result (held.new ≡ held.old ++ get_or (map (λ o. given o [] (λ s. s.value)) declared.now) body []) }
+// What all declarations derive from.
+fn all_bases(alloc: Global, graph: &Graph) -> Result<Vec<Vec<usize>>, NoMemory>
+    ensures { IfOk result (λ v. map (λ r. r.items) v.items ≡ graph.now) }
 {
-    match declared.get(body) {
-        Some(Some(shared)) => held.push(shared.clone()?),
-        _ => Ok(()),
+    let mut all = Vec::new(alloc);
+    for number in 0..graph.len() {
+        all.push(bases_of(alloc, graph, number)?)?;
     }
+    Ok(all)
 }
 
-// What these bodies declare.
-fn held_of(
-    alloc: Global,
-    declared: &[Option<Rc<DeclaredFactories>>],
-    bodies: &[usize],
-) -> Result<HeldFactories, NoMemory>
-    ensures { IfOk result (λ held. held ≡ flat_map (λ n. get_or (map (λ o. given o [] (λ s. s.value)) declared.now) n []) bodies.now) }
+// The graph of a text.
+fn graph_with(alloc: Global, lineage: &Lineage) -> Result<Rc<FactoryGraph>, NoMemory>
+    ensures { IfOk result (λ r. AreDeclared (text_of lineage.now) r.value) }
 {
-    let mut held = HeldFactories::new(alloc);
-    for body in bodies {
-        add_held(&mut held, declared, *body)?;
-    }
-    Ok(held)
+    let bases = all_bases(alloc, lineage.graph())?;
+    let graph = FactoryGraph::new(alloc, bases, of_bodies(alloc, lineage.directory())?)?;
+    let shared = Rc::new(alloc, graph)?;
+    Ok(shared)
 }
 
 impl<'t, 'd> HomeFactories<'t, 'd> {
-    ghost use Rattle.std.specs.Prelude.{◌≡◌, map, IfOk};
-    ghost use Rattle.std.specs.List.{flat_map};
-    ghost use Rattle.psdl_directory.specs.Lookup.{at};
-    ghost use Rattle.psdl_directory.specs.Parts.{factories};
-    ghost use Rattle.psdl_lineage.specs.Descent.{ancestry, listed_factory};
+    ghost use Rattle.std.specs.Prelude.{◌≡◌, [], map, IfOk};
+    ghost use Rattle.type_layout.specs.Factories.{first_of_each, same_declared};
+    ghost use Rattle.psdl_lineage.specs.Descent.{home_factories};
+    ghost use Rattle.psdl_lineage.specs.Graph.{graph_of};
     ghost use Rattle.psdl_lineage.specs.Lineages.{text_of};
     ghost use Rattle.psdl_check.specs.inner.Declaring.{declared_as};
     ghost use Rattle.psdl_check.specs.inner.FactoryTexts.{factories_text};
+    ghost use Rattle.psdl_check.specs.inner.Rising.{IsRising};
 
-    /// What the homes of a text declare.
+    /// What the homes of a text derive from and declare.
     pub(crate) fn new(
         alloc: Global,
         lineage: &'t Lineage<'t, 'd>,
     ) -> Result<HomeFactories<'t, 'd>, NoMemory>
+        requires { IsRising (graph_of (text_of lineage.now)) }
         ensures { IfOk result (λ f. factories_text f ≡ text_of lineage.now) }
     {
-        let declared = of_bodies(alloc, lineage.directory())?;
-        let flags = flags(alloc, &declared)?;
-        let sources = Sources::new(alloc, lineage, flags)?;
-        Ok(HomeFactories {
-            lineage,
-            declared,
-            sources,
-        })
+        let graph = graph_with(alloc, lineage)?;
+        Ok(HomeFactories { lineage, graph })
     }
 
-    /// The factories of a home, as all homes declare them from which it has them.
-    pub(crate) fn of(
-        &mut self,
-        alloc: Global,
-        home: DeclarationNo,
-    ) -> Result<HeldFactories, NoMemory>
-        ensures same { factories_text self.new ≡ factories_text self.old }
-        ensures held { IfOk result (λ held. held ≡ map declared_as (flat_map (λ a. map listed_factory (factories (at (factories_text self.old) a).what)) (ancestry (factories_text self.old) home))) }
+    /// The factories of a home, as it and all homes declare them from which it has them. One that comes again may be there
+    /// again.
+    pub(crate) fn of(&self, home: DeclarationNo) -> Result<HeldFactories, NoMemory>
+        ensures { IfOk result (λ held. first_of_each same_declared [] held ≡ map declared_as (home_factories (factories_text self.now) home)) }
     {
-        let bodies = self.sources.of(alloc, home)?;
-        let held = held_of(alloc, &self.declared, &bodies)?;
-        Ok(held)
+        let graph = self.graph.clone()?;
+        Ok(HeldFactories::new(graph, home.index()))
     }
 }

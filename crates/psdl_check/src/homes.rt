@@ -112,15 +112,14 @@ fn with_laid(text: &Text, home: DeclarationNo, laid: &Laid<'_>, front: TextLengt
 // The factories of a home.
 fn factories_of(
     alloc: Global,
-    factories: &mut HomeFactories,
+    factories: &HomeFactories,
     members: &[TypedMember<'_>],
     home: DeclarationNo,
 ) -> Result<Factories, NoMemory>
-    ensures same { factories_text factories.new ≡ factories_text factories.old }
-    ensures factories { IfOk result (λ r. AreFactories (factories_text factories.old) home members.now r) }
+    ensures { IfOk result (λ r. AreFactories (factories_text factories.now) home members.now r) }
 {
     let names = member_names(alloc, members)?;
-    let held = factories.of(alloc, home)?;
+    let held = factories.of(home)?;
     Ok(Factories::new(names, held))
 }
 
@@ -128,15 +127,14 @@ fn factories_of(
 fn home_record(
     alloc: Global,
     text: &Text,
-    factories: &mut HomeFactories,
+    factories: &HomeFactories,
     home: DeclarationNo,
     laid: Laid<'_>,
     keys: KeyNos,
 ) -> Result<Home, NoMemory>
     requires laid { IsLaid (text_in text.now) (types_in text.now.standings.now) home laid }
-    requires factories { factories_text factories.old ≡ text_in text.now }
-    ensures same { factories_text factories.new ≡ factories_text factories.old }
-    ensures home { IfOk result (λ r. keys ≡ key_numbers (text_in text.now) home → r ≡ home_of (text_in text.now) (standings (text_in text.now)) home) }
+    requires factories { factories_text factories.now ≡ text_in text.now }
+    ensures { IfOk result (λ r. keys ≡ key_numbers (text_in text.now) home → r ≡ home_of (text_in text.now) (standings (text_in text.now)) home) }
 {
     let made = factories_of(alloc, factories, &laid.members, home)?;
     let members = member_list(
@@ -207,14 +205,7 @@ fn add_home(
     if length.is_over() {
         return Ok(length);
     }
-    let record = home_record(
-        alloc,
-        text,
-        &mut making.factories,
-        home,
-        laid,
-        numbered.numbers,
-    )?;
+    let record = home_record(alloc, text, &making.factories, home, laid, numbered.numbers)?;
     making.homes.push(record)?;
     Ok(length)
 }

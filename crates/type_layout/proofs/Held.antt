@@ -1,18 +1,14 @@
 -- The factories that a home holds.
-use Rattle.std.proofs.Common.{ℕ, ◌+◌, ◌≡◌, ◌<◌, List, [], ◌∷◌, ◌++◌, length, map, take, drop, find, get_or, Option, Some, None, Bool, true, false, cond, refl, sym, ap, ◌∙◌, ◌||◌, if◌then◌else◌}
-use Rattle.std.specs.List.{flat_map, list_any}
-use Rattle.std.specs.Option.{option_or, option_map}
+use Rattle.std.proofs.Common.{ℕ, ◌≡◌, List, [], ◌∷◌, map, find, Option, Some, None, Bool, true, false, cond, refl, sym, ap, ◌∙◌, ◌||◌, if◌then◌else◌}
+use Rattle.std.specs.List.{list_any}
+use Rattle.std.specs.Option.{option_map}
 use Rattle.std.specs.Str.{bytes_eq}
 use Rattle.std.specs.Cmp.Lexicographic.{pointwise}
 use Rattle.std.proofs.lemmas.Bool.{and_parts}
-use Rattle.std.proofs.lemmas.Grind.{flat_map-append}
-use Rattle.std.proofs.lemmas.List.{append-nil, take-append-drop}
-use Rattle.std.proofs.lemmas.List.Folds.{find-append}
 use Rattle.std.proofs.lemmas.Slice.Eq.{bytes_eq-Decides}
 use Rattle.type_layout.specs.declared.factories.DeclaredFactory.{DeclaredFactory}
 use Rattle.type_layout.specs.declared.schema.Factory.{Factory}
 use Rattle.type_layout.specs.Factories.{same_declared, first_of_each, numbers_among, numbered, factories_held}
-use Rattle.type_layout.proofs.Named.{taken_one_more}
 
 find-map : {X Y : Type 0} (test : Y → Bool) (f : X → Y) (xs : List X) → find test (map f xs) ≡ option_map f (find (λ x. test (f x)) xs)
 find-map test f [] = refl
@@ -59,29 +55,6 @@ unfolding factories_held
 found_held members held word =
     find-map (λ (f : Factory). bytes_eq word f.name) (numbered members) (first_of_each same_declared [] held)
     ∙ ap (option_map (numbered members)) (first_is_first same_declared (λ (f : DeclaredFactory). bytes_eq word f.name) (same_name word) [] held (λ x h. absurd (cc)))
-
-pub one_part_more : {X Y : Type 0} (f : X → List Y) (xs : List X) (x : X) → flat_map f (xs ++ x ∷ []) ≡ flat_map f xs ++ f x
-one_part_more {X} {Y} f xs x = flat_map-append f xs (x ∷ []) ∙ ap (λ (l : List Y). flat_map f xs ++ l) (append-nil (f x))
-
-module _ {X Y : Type 0} (f : X → List Y) (test : Y → Bool) (xs : List X) (i : ℕ) (x : X) (within : i < length xs) (is : get_or xs i x ≡ x) (before : find test (flat_map f (take i xs)) ≡ None) where
-  next : take (i + 1) xs ≡ take i xs ++ x ∷ []
-  next = taken_one_more xs i x within is
-
-  front : find test (flat_map f (take (i + 1) xs)) ≡ find test (f x)
-  front =
-      ap (λ l. find test (flat_map f l)) next ∙ ap (find test) (one_part_more f (take i xs) x) ∙ find-append test (flat_map f (take i xs)) (f x) ∙ ap (λ o. option_or o (find test (f x))) before
-
-  -- it is in none of these, and not in one more
-  pub not_here : find test (f x) ≡ None → find test (flat_map f (take (i + 1) xs)) ≡ None
-  not_here none = front ∙ none
-
-  -- it is in none of these, and in one more: that is what is found in all
-  pub found_here : (y : Y) → find test (f x) ≡ Some y → Some y ≡ find test (flat_map f xs)
-  found_here y here =
-      ap (λ o. option_or o (find test (flat_map f (drop (i + 1) xs)))) (sym (front ∙ here))
-      ∙ sym (find-append test (flat_map f (take (i + 1) xs)) (flat_map f (drop (i + 1) xs)))
-      ∙ ap (find test) (sym (flat_map-append f (take (i + 1) xs) (drop (i + 1) xs)))
-      ∙ ap (λ l. find test (flat_map f l)) (take-append-drop (i + 1) xs)
 
 -- the members of what is found
 pub members_held : (members : List (List ℕ)) (held : List DeclaredFactory) (word : List ℕ) (o : Option DeclaredFactory) → o ≡ find (λ f. bytes_eq word f.name) held

@@ -11,6 +11,8 @@ pub mod Lookups
 pub mod Places
 pub mod Named
 pub mod Held
+pub mod Firsts
+pub mod Searching
 pub mod Apart
 pub mod KeysTell
 pub mod Records

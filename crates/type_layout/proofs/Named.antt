@@ -12,7 +12,7 @@ use Rattle.std.proofs.lemmas.Map.Text.{is_eq-slice_cmp}
 use Rattle.std.proofs.lemmas.Slice.Eq.{bytes_eq-Decides}
 use Rattle.std.proofs.lemmas.List.{map-append}
 use Rattle.std.proofs.lemmas.Option.{slice_get_past, slice_get-get_or}
-use Rattle.type_layout.specs.NamePlaces.{place_in, place_among, Finds, IsEntered}
+use Rattle.type_layout.specs.NamePlaces.{place_in, Finds, IsEntered}
 
 same_bytes : (xs ys : List ℕ) → bytes_eq xs ys ≡ true → xs ≡ ys
 same_bytes xs ys h = (bytes_eq-Decides xs ys).0 h
@@ -67,15 +67,20 @@ map-length : {X Y : Type 0} (f : X → Y) (xs : List X) → length (map f xs) �
 map-length f [] = refl
 map-length f (x ∷ xs) = ap suc (map-length f xs)
 
+-- where one more stands is where one stood, or there
+pub one_further : {X Y : Type 0} (made : X → Y) (test : Y → Bool) (xs : List X) (i : ℕ) (x : X) → i < length xs → get_or xs i x ≡ x
+    → option_or (position_from test 0 (map made (take i xs))) (cond (test (made x)) (Some i) None) ≡ position_from test 0 (map made (take (i + 1) xs))
+one_further made test xs i x within there =
+    let front = map made (take i xs) in
+    let len : length front ≡ i = map-length made (take i xs) ∙ length-take-le i xs (omega (arith, within)) in
+    let here : i ≡ 0 + length front = omega (arith, len) in
+    sym (ap (λ l. position_from test 0 (map made l)) (taken_one_more xs i x within there) ∙ ap (position_from test 0) (map-append made (take i xs) (x ∷ [])) ∙ position-push test 0 i front (made x) here)
+
 module _ {X Z : Type 0} (name : X → List ℕ) (old new : BTreeMap (Vec ℕ Z) ℕ) (xs : List X) (i : ℕ) (x : X) where
   -- one more name was entered
   pub one_more : i < length xs → get_or xs i x ≡ x → Finds old (map name (take i xs)) → IsEntered old new (name x) i → Finds new (map name (take (i + 1) xs))
   one_more within there finds is q =
-      let front : List (List ℕ) = map name (take i xs) in
-      let len : length front ≡ i = map-length name (take i xs) ∙ length-take-le i xs (omega (arith, within)) in
-      let here : i ≡ 0 + length front = omega (arith, len) in
-      is q ∙ ap (λ o. option_or o (cond (bytes_eq q (name x)) (Some i) None)) (finds q)
-      ∙ sym (ap (λ l. place_among (map name l) q) (taken_one_more xs i x within there) ∙ ap (λ l. place_among l q) (map-append name (take i xs) (x ∷ [])) ∙ position-push (bytes_eq q) 0 i front (name x) here)
+      is q ∙ ap (λ o. option_or o (cond (bytes_eq q (name x)) (Some i) None)) (finds q) ∙ one_further name (bytes_eq q) xs i x within there
 
 -- ---- what stands at a place
 

@@ -16,3 +16,4 @@ pub mod Names
 pub mod Testing
 pub mod Laws
 pub mod People
+pub mod inner

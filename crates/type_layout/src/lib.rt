@@ -5,7 +5,11 @@
 mod defaults;
 mod descent;
 mod factories;
+mod factory_graph;
+mod factory_names;
+mod factory_search;
 mod home;
+mod home_factories;
 mod key;
 mod key_bytes;
 mod laws;
@@ -21,8 +25,10 @@ mod value;
 
 pub use defaults::default_of;
 pub use descent::descends;
-pub use factories::{DeclaredFactories, DeclaredFactory, Factories, HeldFactories};
+pub use factories::{DeclaredFactories, DeclaredFactory};
+pub use factory_graph::{FactoryGraph, HeldFactories};
 pub use home::{HomeNo, HomeNos};
+pub use home_factories::Factories;
 pub use key::{Indexes, Key, KeyList, KeyNo, KeyNos};
 pub use key_bytes::{key_of, key_of_values};
 pub use laws::{key_values_tell, keys_tell, no_spelling_begins, one_spelling};

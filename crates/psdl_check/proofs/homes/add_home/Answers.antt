@@ -27,7 +27,7 @@ returns-clause-made c homes more next fits =
     let made = c.in_ok-numbered.ensures.numbered homes more (ap typed_names c.deref.ensures.value ∙ c.in_ok-laid.ensures.laid.names) (record { whole = next.whole; made = record { keys = next.made.keys; homes_made = next.made.homes_made }; few = next.few }) in
     record {
       keys = made.known fits;
-      homes_made = homes_more (home_of all (standings all)) homes c.args.home c.args.making.now.homes c.number_keys.new.making.homes _ c.in_ok-record.record next.made.homes_made c.number_keys.ensures.homes c.in_ok-push.ensures.ok (c.in_ok-record.ensures.home (made.counted fits));
+      homes_made = homes_more (home_of all (standings all)) homes c.args.home c.args.making.now.homes c.number_keys.new.making.homes _ c.in_ok-record.record next.made.homes_made c.number_keys.ensures.homes c.in_ok-push.ensures.ok (c.in_ok-record.ensures (made.counted fits));
     }
 
 pub number_keys-requires-clause-few : goal.number_keys-requires-clause-few

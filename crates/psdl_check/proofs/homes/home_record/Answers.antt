@@ -17,9 +17,9 @@ member_list-requires-clause-small c =
     (sym (ap (λ (ts : List PlainType). typed_views ts homes c.deref-2.result.now) c.types.ensures ∙ ap (typed_views (types_in c.args.text.now.standings.now) homes) c.deref-2.ensures.value ∙ c.requires.laid.members))
     (c.args.text.now.small c.args.home)
 
-pub returns-clause-home : goal.returns-clause-home
-returns-clause-home c numbered =
+pub returns : goal.returns
+returns c numbered =
     let all = text_in c.args.text.now in
     let laid = c.args.laid in
-    let made = subst (λ (d : List Declaration). AreFactories d c.args.home c.deref.result.now c.in_ok-made.made) c.requires.factories c.in_ok-made.ensures.factories in
+    let made = subst (λ (d : List Declaration). AreFactories d c.args.home c.deref.result.now c.in_ok-made.made) c.requires.factories c.in_ok-made.ensures in
     home_is all c.args.home laid.name laid.base c.in_ok-members.members c.args.keys c.in_ok-made.made c.requires.laid.name c.requires.laid.base (c.in_ok-members.ensures ∙ ap (λ (ts : List PlainType). typed_views ts (homes_in laid.referents) c.deref-2.result.now) c.types.ensures ∙ ap (typed_views (types_in c.args.text.now.standings.now) (homes_in laid.referents)) c.deref-2.ensures.value ∙ c.requires.laid.members) numbered (made (ap typed_names c.deref.ensures.value ∙ c.requires.laid.names))

@@ -3,7 +3,7 @@ use Rattle.std.specs.Option.{option_map}
 use Rattle.std.specs.Str.{bytes_eq}
 use Rattle.type_layout.specs.declared.schema.Factory.{Factory}
 use Rattle.type_layout.proofs.Held.{members_held}
-use Rattle.type_layout.proofs.factories.Factories.members_of.Goals as goal
+use Rattle.type_layout.proofs.home_factories.Factories.members_of.Goals as goal
 
 pub returns-in_default : goal.returns-in_default
 returns-in_default c =

@@ -97,7 +97,7 @@ fn reference_of<L: Ledger>(
     ensures steps { Advances at (length bytes.now) steps.old steps.new result }
     ensures taken { Took steps.old steps.new result (pid_takes homes.now bytes.now at) }
 {
-    let (home, middle) = home_of(bytes, at, homes.as_slice(), steps)?;
+    let (home, middle) = home_of(bytes, at, homes, steps)?;
     let (serial, after) = serial_of(bytes, middle, home, steps)?;
     Ok((pid_from(home, serial), after))
 }

@@ -1,7 +1,7 @@
 // Each primitive but a string's octets: one step, and the test that it owes.
 ghost use Rattle.std.specs.Prelude.{◌≡◌, ◌≤◌, ◌<◌, ◌^◌, length, IfOk, Some};
 ghost use Rattle.type_layout.specs.Views.{plain_type, plain_value};
-ghost use Rattle.type_layout.specs.Values.{is_over as passes_bound, lists as lists_home};
+ghost use Rattle.type_layout.specs.Values.{is_over as passes_bound};
 ghost use Rattle.cdr_codec.specs.Primitives.{Flag, TextLength, ItemCount, Home, Serial};
 ghost use Rattle.cdr_codec.specs.Reading.{Gives, Advances, judged_at, value_at};
 ghost use Rattle.cdr_codec.specs.Taken.{Took, value_takes};
@@ -12,7 +12,7 @@ use crate::numbers::number_of;
 use crate::width::Width;
 use pss_base::Steps;
 use std::sync::ledger::Ledger;
-use type_layout::{HomeNo, Ty, Value};
+use type_layout::{HomeNos, Ty, Value};
 
 #[tactic(auto, unfolding(crate::specs::Reading::judged_at))]
 pub(crate) fn flag_of<L: Ledger>(
@@ -139,17 +139,11 @@ pub(crate) fn item_count_of<L: Ledger>(
     Ok((found.number, found.after))
 }
 
-fn lists(homes: &[HomeNo], home: u64) -> bool
-    ensures { result ≡ lists_home homes.now home }
-{
-    homes.iter().any(|listed| u64::from(listed.0) == home)
-}
-
 #[tactic(auto, unfolding(crate::specs::Reading::judged_at))]
 pub(crate) fn home_of<L: Ledger>(
     bytes: &[u8],
     at: usize,
-    homes: &[HomeNo],
+    homes: &HomeNos,
     steps: &mut Steps<L>,
 ) -> Result<(u64, usize), Stop>
     requires { at ≤ length bytes.now }
@@ -160,7 +154,7 @@ pub(crate) fn home_of<L: Ledger>(
     ensures taken { Took steps.old steps.new result 1 }
 {
     let found = number_of(bytes, Width::Four, at, steps)?;
-    if found.number != 0 && !lists(homes, found.number) {
+    if found.number != 0 && !homes.contains(found.number as u32) {
         return Err(Stop::Fault(RecordFault::BadRef(found.start as u64)));
     }
     Ok((found.number, found.after))

@@ -12,6 +12,7 @@ pub mod Places
 pub mod Named
 pub mod Held
 pub mod Firsts
+pub mod HomesFound
 pub mod Searching
 pub mod Apart
 pub mod KeysTell

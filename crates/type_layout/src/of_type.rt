@@ -2,11 +2,11 @@
 ghost use Rattle.std.specs.Prelude.{◌≡◌, ◌↔◌, map, true, IsTrue};
 ghost use Rattle.type_layout.specs.Views.{plain_type, plain_field, plain_value};
 ghost use Rattle.type_layout.specs.Types.{fields_of, values_of};
-ghost use Rattle.type_layout.specs.Values.{Of, IsRecord, layout_fields, is_over as passes_bound, has_zero as has_a_zero, are_bytes, lists as lists_home, count};
+ghost use Rattle.type_layout.specs.Values.{Of, IsRecord, layout_fields, is_over as passes_bound, has_zero as has_a_zero, are_bytes, count};
 ghost use Rattle.type_layout.specs.Members.{plain_member};
 ghost use Rattle.type_layout.specs.Testing as test;
 
-use crate::{Field, HomeNo, Layout, Member, PlacedNames, Record, Ty, Value};
+use crate::{Field, HomeNos, Layout, Member, PlacedNames, Record, Ty, Value};
 
 /// Whether a value is of a type: a number in its range, a text without a byte 0 and within its
 /// bound, a sequence within its bound, an array of exactly its number of elements, a struct of its
@@ -111,17 +111,11 @@ fn is_enumerator(value: &Value, names: &PlacedNames) -> bool
     }
 }
 
-fn lists(homes: &[HomeNo], home: u32) -> bool
-    ensures { result ≡ lists_home homes.now home }
-{
-    homes.iter().any(|listed| listed.0 == home)
-}
-
-fn is_reference(value: &Value, homes: &[HomeNo]) -> bool
+fn is_reference(value: &Value, homes: &HomeNos) -> bool
     ensures { result ≡ test.is_reference homes.now (plain_value value.now) }
 {
     match value {
-        Value::Ref(Some(pid)) => lists(homes, pid.home) && pid.serial > 0,
+        Value::Ref(Some(pid)) => homes.contains(pid.home) && pid.serial > 0,
         Value::Ref(None) => true,
         _ => false,
     }
@@ -146,7 +140,7 @@ fn passes(ty: &Ty, value: &Value) -> bool
         Ty::Arr(item, count) => is_array(item, *count, value),
         Ty::Struct(fields) => is_struct(&fields.fields, value),
         Ty::Enum(names) => is_enumerator(value, names),
-        Ty::Ref(homes) => is_reference(value, homes.as_slice()),
+        Ty::Ref(homes) => is_reference(value, homes),
     }
 }
 

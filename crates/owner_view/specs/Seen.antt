@@ -1,5 +1,5 @@
 -- Objects as owners see them.
-use Rattle.std.specs.Prelude.{ℕ, ◌≡◌, List, IsTrue, Option, Some, None}
+use Rattle.std.specs.Prelude.{ℕ, ◌≡◌, IsTrue, Option, Some, None}
 use Rattle.std.specs.List.{slice_get}
 use Rattle.type_layout.specs.declared.home.HomeNo.{HomeNo}
 use Rattle.type_layout.specs.declared.key.KeyNo.{KeyNo}
@@ -44,10 +44,6 @@ pub record IsShown (S : Schema) (seen : Sight) : Type 0 where
   pub object : Object
   pub fits : Fits S object
   pub is : IsSeen S seen object
-
--- the home has each of these keys
-abbrev pub HasKeys : Schema → HomeNo → List KeyNo → Type 0
-HasKeys S h keys = (i : ℕ) (k : KeyNo) → slice_get keys i ≡ Some k → HasKey S h k
 
 -- the object is there, and is of the home
 abbrev pub IsOfHome : Option Object → HomeNo → Type 0

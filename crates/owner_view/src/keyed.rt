@@ -1,69 +1,38 @@
 // The keys of objects with their bytes.
 ghost use Rattle.std.specs.Prelude.{◌≡◌, IfOk};
-ghost use Rattle.type_layout.specs.Schemas.{members_at};
 ghost use Rattle.type_layout.specs.Sound.{IsSoundSchema};
-ghost use Rattle.cdr_codec.specs.Spelled.{SpellsRecord};
-ghost use Rattle.owner_view.specs.Seen.{IsShown, home_seen, plain_object, Fits, HasKeys};
-ghost use Rattle.owner_view.specs.Keyed.{keyed, all_keyed};
+ghost use Rattle.owner_view.specs.Seen.{IsShown, plain_object, Fits};
+ghost use Rattle.owner_view.specs.Keyed.{all_keyed};
 
 use crate::object::Changed;
 use crate::seen::{Seen, home_of};
-use cdr_codec::MemberPlaces;
 use pss_base::{Bytes, NoMemory};
 use std::alloc::Global;
-use type_layout::{HomeNo, KeyNo, Schema, key_of, keys_at};
+use storage_home::keys_of_octets;
+use type_layout::{KeyNo, Schema, key_of, keys_at};
 
-// Octets are walked over once for all keys.
-fn keyed_by(
-    alloc: Global,
-    schema: &Schema,
-    seen: Seen<'_>,
-    keys: &[KeyNo],
-) -> Result<Vec<(KeyNo, Bytes)>, NoMemory>
+fn keyed_by(alloc: Global, schema: &Schema, seen: Seen<'_>) -> Result<Vec<(KeyNo, Bytes)>, NoMemory>
     requires sound { IsSoundSchema schema.now }
     requires shown { IsShown schema.now seen }
-    requires there { HasKeys schema.now (home_seen seen) keys.now }
-    ensures { IfOk result (λ pairs. (s : IsShown schema.now seen.entry) → pairs.items ≡ keyed schema.now s.object.values keys.now) }
+    ensures { IfOk result (λ pairs. (s : IsShown schema.now seen.entry) → pairs.items ≡ all_keyed schema.now s.object) }
 {
     match seen {
-        Seen::Stored(home, bytes) => {
-            let places = MemberPlaces::new(alloc, schema, home, bytes)?;
-            keyed_by_places(alloc, &places, keys)
-        }
-        Seen::Own(object) => keyed_own(alloc, schema, object, keys),
+        Seen::Stored(home, bytes) => Ok(keys_of_octets(alloc, schema, home, bytes)?.into_vec()),
+        Seen::Own(object) => keyed_own(alloc, schema, object),
     }
-}
-
-fn keyed_by_places(
-    alloc: Global,
-    places: &MemberPlaces<'_>,
-    keys: &[KeyNo],
-) -> Result<Vec<(KeyNo, Bytes)>, NoMemory>
-    requires sound { IsSoundSchema places.now.schema.now }
-    requires spelled { SpellsRecord (members_at places.now.schema.now places.now.home) places.now.bytes.now }
-    requires there { HasKeys places.now.schema.now places.now.home keys.now }
-    ensures { IfOk result (λ pairs. (s : SpellsRecord (members_at places.now.schema.now places.now.home) places.now.bytes.now) → pairs.items ≡ keyed places.now.schema.now s.values keys.now) }
-{
-    let mut pairs = Vec::new(alloc);
-    for key in keys {
-        pairs.push((*key, places.key_bytes(alloc, *key)?))?;
-    }
-    Ok(pairs)
 }
 
 fn keyed_own(
     alloc: Global,
     schema: &Schema,
     object: &Changed,
-    keys: &[KeyNo],
 ) -> Result<Vec<(KeyNo, Bytes)>, NoMemory>
     requires sound { IsSoundSchema schema.now }
     requires fits { Fits schema.now (plain_object object.now) }
-    requires there { HasKeys schema.now object.now.home keys.now }
-    ensures { IfOk result (λ pairs. pairs.items ≡ keyed schema.now object.now.record keys.now) }
+    ensures { IfOk result (λ pairs. pairs.items ≡ all_keyed schema.now (plain_object object.now)) }
 {
     let mut pairs = Vec::new(alloc);
-    for key in keys {
+    for key in keys_at(schema, object.home) {
         pairs.push((*key, key_of(alloc, schema, *key, &object.record)?))?;
     }
     Ok(pairs)
@@ -84,5 +53,5 @@ pub fn keyed_of(
     if keys.is_empty() {
         return Ok(Vec::new(alloc));
     }
-    keyed_by(alloc, schema, seen, keys)
+    keyed_by(alloc, schema, seen)
 }

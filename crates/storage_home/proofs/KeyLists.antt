@@ -16,7 +16,7 @@ use Rattle.type_layout.specs.Spelling.{record_spelling}
 use Rattle.type_layout.specs.Sound.{IsSoundSchema, are_distinct, key_name}
 use Rattle.cdr_codec.specs.Spelled.{SpellsRecordWith}
 use Rattle.storage_home.specs.Indexes.{lists, IsOnce}
-use Rattle.storage_home.specs.Applied.{AreKeysOf, SpellsObject}
+use Rattle.storage_home.specs.Applied.{AreKeysOf, SpellsObject, object_of}
 use Rattle.storage_home.proofs.Places.{by_test, same_number}
 use Rattle.storage_home.proofs.Holding.{same_bytes_turned}
 
@@ -80,6 +80,10 @@ module _ (S : Schema) (values : List PlainValue) where
 -- ---- the octets of one object
 
 module _ (S : Schema) (home : HomeNo) (bytes : List ℕ) (s : SpellsObject S home bytes) where
+  -- the pairs for the home's keys are the keys that the spelled object holds
+  pub keys_spelled : IsSoundSchema S → (pairs : List (KeyNo × List ℕ)) → pairs ≡ pairs_of S s.values (keys_in S home) → AreKeysOf S (Some (object_of s)) pairs
+  keys_spelled sound pairs are = subst (AreKeysOf S (Some (object_of s))) (sym are) (keys_of_home S s.values sound home s.is_sound.0)
+
   abbrev pub spells_with : (h : Home) → home_at S home ≡ Some h → (key : KeyNo) → IsTrue (has_key h key) → IsRecord h.layout.members s.values → bytes ≡ record_spelling h.layout.members s.values → SpellsRecordWith S key home bytes
   spells_with h is key keyed record_is spelled = record { home = h; there = is; keyed = keyed; whole = record { values = s.values; is_record = record_is; spelled = spelled } }
 

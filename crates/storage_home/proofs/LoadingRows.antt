@@ -7,6 +7,7 @@ use Rattle.pss_base.specs.declared.put.Put.{Put}
 use Rattle.type_layout.specs.declared.key.KeyNo.{KeyNo}
 use Rattle.type_layout.specs.declared.schema.Home.{Home}
 use Rattle.type_layout.specs.declared.schema.Schema.{Schema}
+use Rattle.type_layout.specs.Schemas.{keys_at}
 use Rattle.type_layout.specs.ShapeText.{base_number}
 use Rattle.type_layout.specs.Sound.{IsSoundSchema}
 use Rattle.pss_catalog.specs.Catalog.{Object, Catalog, object_spelling, pid_of, weight, total, IsUnique}
@@ -19,10 +20,11 @@ use Rattle.storage_home.specs.Extents.{is_held_in}
 use Rattle.storage_home.specs.Counts.{bases_in, number_at}
 use Rattle.storage_home.specs.Indexes.{found_at, AreKeysReserved}
 use Rattle.storage_home.specs.Kept.{most, IsSound, IsKept, IsReserved, stored, is_of, is_object_of}
-use Rattle.storage_home.specs.Applied.{IsState, AreKeysOf, AreRows, MayLoad, SpellsObject, object_of}
+use Rattle.storage_home.specs.Applied.{IsState, AreKeysOf, AreRows, MayLoad, SpellsObject}
 use Rattle.storage_home.specs.inner.Steps.{AreApart, AreFresh, MayPutObject, MayLoadOne, MayLoadAll}
 use Rattle.storage_home.proofs.Places.{no_items}
 use Rattle.storage_home.proofs.Taking.{some_there}
+use Rattle.storage_home.proofs.KeyLists.{pairs_of, keys_spelled}
 use Rattle.storage_home.proofs.Stepping.{NoneAt, fresh_where_none, grows_heavier, unique_before}
 
 -- ---- nothing
@@ -178,9 +180,9 @@ module _ (S : Schema) (homes : Parts) (serial : ℕ) (row : Stored) (m : MayLoad
     spelled = same ∙ ap (λ (r : Stored). r.bytes) m.is ∙ ap (λ h. object_spelling S (record { home = h; values = m.object.values })) (sym home_is);
   }
 
-  pub loaded_keys : (bytes : List ℕ) → bytes ≡ row.bytes → (pairs : List (KeyNo × List ℕ)) → ((s : SpellsObject S row.home bytes) → AreKeysOf S (Some (object_of s)) pairs) → AreKeysOf S (Some m.object) pairs
+  pub loaded_keys : (bytes : List ℕ) → bytes ≡ row.bytes → (pairs : List (KeyNo × List ℕ)) → ((s : SpellsObject S row.home bytes) → pairs ≡ pairs_of S s.values (keys_at S row.home)) → AreKeysOf S (Some m.object) pairs
   unfolding spells_at
-  loaded_keys bytes same pairs keys = subst (λ h. AreKeysOf S (Some (record { home = h; values = m.object.values })) pairs) home_is (keys (spells_at bytes same))
+  loaded_keys bytes same pairs keys = subst (λ h. AreKeysOf S (Some (record { home = h; values = m.object.values })) pairs) home_is (let s = spells_at bytes same in keys_spelled S row.home bytes s m.kept.sound pairs (keys s))
 
   pub loaded_home : row.home.0 ≤ length homes.extents.items
   loaded_home = subst (λ (r : Stored). r.home.0 ≤ length homes.extents.items) (sym m.is) (subst (λ (n : ℕ). m.object.home.0 ≤ n) (sym m.kept.extents_size) (some_there S.homes m.object.home.0 m.is_sound.0).1)

@@ -53,6 +53,13 @@ impl KeyValues {
     {
         &self.pairs
     }
+
+    /// All of them, without a copy.
+    pub fn into_vec(self) -> Vec<(KeyNo, Bytes)>
+        ensures { result.items ≡ self }
+    {
+        self.pairs
+    }
 }
 
 /// What a commit leaves of one object, and what its keys were and are.

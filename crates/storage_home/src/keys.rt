@@ -1,9 +1,9 @@
 // The keys of a home, and of the objects in it.
-ghost use Rattle.std.specs.Prelude.{◌≡◌, Some, IfOk, map};
+ghost use Rattle.std.specs.Prelude.{◌≡◌, IfOk, map};
 ghost use Rattle.type_layout.specs.Keys.{key_bytes};
 ghost use Rattle.type_layout.specs.Schemas.{keys_at as keys_in};
 ghost use Rattle.type_layout.specs.Sound.{IsSoundSchema};
-ghost use Rattle.storage_home.specs.Applied.{AreKeysOf, SpellsObject, object_of};
+ghost use Rattle.storage_home.specs.Applied.{SpellsObject};
 
 use crate::change::KeyValues;
 use cdr_codec::MemberPlaces;
@@ -11,7 +11,7 @@ use pss_base::NoMemory;
 use std::alloc::Global;
 use type_layout::{HomeNo, KeyNo, Schema, keys_at};
 
-/// The keys of an object of a home, with the bytes that its record, in these octets, gives each. The octets
+/// The keys of a home, in its order, with the bytes that an object's record, in these octets, gives each. The octets
 /// are walked over once for all keys. Most homes have none, and then the octets are not looked at.
 pub fn keys_of_octets(
     alloc: Global,
@@ -21,7 +21,7 @@ pub fn keys_of_octets(
 ) -> Result<KeyValues, NoMemory>
     requires sound { IsSoundSchema schema.now }
     requires spells { SpellsObject schema.now home octets.now }
-    ensures { IfOk result (λ pairs. (s : SpellsObject schema.now home octets.now) → AreKeysOf schema.now (Some (object_of s)) pairs) }
+    ensures { IfOk result (λ pairs. (s : SpellsObject schema.now home octets.now) → pairs ≡ map (λ k. (k, key_bytes schema.now k s.values)) (keys_in schema.now home)) }
 {
     let keys = keys_at(schema, home);
     if keys.is_empty() {

@@ -22,13 +22,13 @@ pid_of change = record { home = change.put.home; serial = change.put.serial }
 abbrev pub pids_in : Pids → List Pid
 pids_in (One pid) = pid ∷ []
 pids_in (Many pids) = pids.items
-pids_in (Fewer net own) = net.items
+pids_in (Fewer pids) = pids.value.net.items
 
 -- those among which are all of which the owner has a value
 abbrev pub own_in : Pids → List Pid
 own_in (One pid) = pid ∷ []
 own_in (Many pids) = pids.items
-own_in (Fewer net own) = own.items
+own_in (Fewer pids) = pids.value.own.items
 
 -- an owner that is there, of what the parts stand for
 pub record MayMakeReady (c : Parts) (n : OwnerNo) : Type 0 where

@@ -14,6 +14,15 @@ use std::alloc::Global;
 use std::slice;
 use storage_home::Change;
 
+/// The objects that a commit changes, where its owner changed others too, which came to nothing.
+#[derive(Drop)]
+pub struct FewerPids {
+    /// Those that it changes, in the order of its changes.
+    pub net: Vec<Pid>,
+    /// Those of which the owner has a value.
+    pub own: Vec<Pid>,
+}
+
 /// The objects that a commit changes, in the order of its changes, and those of which the owner has a value.
 #[derive(Drop)]
 pub enum Pids {
@@ -21,9 +30,8 @@ pub enum Pids {
     One(Pid),
     /// The owner changed no other objects than these.
     Many(Vec<Pid>),
-    /// The owner changed others too, which came to nothing. The objects of which it has a value stand beside those that the
-    /// commit changes.
-    Fewer { net: Vec<Pid>, own: Vec<Pid> },
+    /// The owner changed others too.
+    Fewer(Box<FewerPids>),
 }
 
 impl Pids {
@@ -34,7 +42,7 @@ impl Pids {
         match self {
             Pids::One(pid) => slice::from_ref(pid),
             Pids::Many(pids) => pids.as_slice(),
-            Pids::Fewer { net, own: _ } => net.as_slice(),
+            Pids::Fewer(pids) => pids.net.as_slice(),
         }
     }
 
@@ -45,7 +53,7 @@ impl Pids {
         match self {
             Pids::One(pid) => slice::from_ref(pid),
             Pids::Many(pids) => pids.as_slice(),
-            Pids::Fewer { net: _, own } => own.as_slice(),
+            Pids::Fewer(pids) => pids.own.as_slice(),
         }
     }
 }
@@ -95,10 +103,9 @@ fn fewer_of(
     ensures own { IfOk result (λ pids. (S : Schema) (k : Kept) (o : Owner) → AreAccounts S accounts.now k → get k.owners owner.0 ≡ Some o → HasAmong o (own_in pids)) }
 {
     let net = list_of(alloc, changes)?;
-    match accounts.valued_pids(owner) {
-        Ok(own) => Ok(Pids::Fewer { net, own }),
-        Err(NoMemory) => Err(NoMemory),
-    }
+    let own = accounts.valued_pids(owner)?;
+    let pids = Box::new(alloc, FewerPids { net, own })?;
+    Ok(Pids::Fewer(pids))
 }
 
 /// The objects of an owner's net changes. Those of which it has a value are listed only where it changed others too.

@@ -73,6 +73,8 @@ impl Owned {
 
     /// The pids of the objects that have a value from the owner, also where it is the one that was committed. They stand in no
     /// stated order.
+    ///
+    /// `NoMemory`: there was no room for the list.
     pub fn valued_pids(&self) -> Result<Vec<Pid>, NoMemory>
         ensures { IfOk result (λ pids. AreValued (changed_by self.now) pids.items) }
     {

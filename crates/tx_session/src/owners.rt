@@ -201,6 +201,8 @@ impl Owners {
 
     /// The pids of the objects that have a value from an owner, also where it is the one that was committed. They stand in no
     /// stated order.
+    ///
+    /// `NoMemory`: there was no room for the list.
     pub fn valued_pids(&self, owner: OwnerNo) -> Result<Vec<Pid>, NoMemory>
         ensures { IfOk result (λ pids. (o : Owner) → get (owners_in self.now) owner.0 ≡ Some o → AreValued o.changes pids.items) }
     {

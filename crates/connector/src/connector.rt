@@ -1,5 +1,5 @@
 // Every command of a script as one call.
-ghost use Rattle.std.specs.Prelude.{◌≡◌, ◌+◌, ◌-◌, ◌<◌, ◌^◌, Bool, true, false, IfErr, IfOk, IfSome, OnOk, OnErr};
+ghost use Rattle.std.specs.Prelude.{◌≡◌, ◌+◌, ◌-◌, ◌<◌, ◌^◌, true, false, IfErr, IfOk, IfSome, OnOk, OnErr};
 ghost use Rattle.pss_base.specs.Causes.{HasCauseIf};
 ghost use Rattle.pss_base.specs.declared.stop.StoreStop.TheVariants as stop;
 ghost use Rattle.pss_disk.specs.Moments.{IsSettled};

@@ -1,5 +1,5 @@
 // Commands from what they ask to their replies.
-ghost use Rattle.std.specs.Prelude.{◌≡◌, Result, Ok, IfOk};
+ghost use Rattle.std.specs.Prelude.{Result, Ok, IfOk};
 ghost use Rattle.pss_machine.specs.declared.reply.Reply.{Reply as PlainReply};
 ghost use Rattle.pss_machine.specs.Operations.{plain_answer};
 ghost use Rattle.pss_machine.specs.Asking.{Asked as PlainAsked};

@@ -1,5 +1,5 @@
 // Entries that come to stand on bodies.
-ghost use Rattle.std.specs.Prelude.{◌≡◌, OnOk, Option};
+ghost use Rattle.std.specs.Prelude.{◌≡◌, OnOk};
 ghost use Rattle.pss_base.specs.declared.pid.Pid.{Pid as PlainPid};
 ghost use Rattle.type_layout.specs.declared.schema.Schema.{Schema};
 ghost use Rattle.pss_machine.specs.Kept.{Kept};

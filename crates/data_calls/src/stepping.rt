@@ -1,5 +1,5 @@
 // Steps of owners.
-ghost use Rattle.std.specs.Prelude.{◌≡◌, IfOk};
+ghost use Rattle.std.specs.Prelude.{IfOk};
 ghost use Rattle.type_layout.specs.Views.{plain_value};
 ghost use Rattle.pss_machine.specs.Operations.{Val, plain_answer};
 ghost use Rattle.pss_asking.specs.Telling.{plain_asked};

@@ -1,5 +1,5 @@
 // Entries come to stand on no body.
-ghost use Rattle.std.specs.Prelude.{◌≡◌, Some, None, IsSome, IsSomeAnd};
+ghost use Rattle.std.specs.Prelude.{◌≡◌, Some, None};
 ghost use Rattle.std.specs.FinMap.{get};
 ghost use Rattle.incarnations.specs.Meaning.{with_view};
 ghost use Rattle.incarnations.specs.Stock.{IsSound, IsSet, IsPassed, KeepsCols, KeepsRows, meaning_of, asks, turned_entry};

@@ -1,5 +1,5 @@
 // A node goes into another row, and to an end of its column.
-ghost use Rattle.std.specs.Prelude.{◌≡◌, IsSome};
+ghost use Rattle.std.specs.Prelude.{IsSome};
 ghost use Rattle.std.specs.FinMap as map;
 ghost use Rattle.link_pool.specs.Meaning.{AreRings};
 ghost use Rattle.incarnations.specs.Stock.{First, Last, IsMoved};

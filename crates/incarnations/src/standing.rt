@@ -1,5 +1,5 @@
 // Entries come to stand on bodies.
-ghost use Rattle.std.specs.Prelude.{◌≡◌, Some, None, IsSome, IsSomeAnd, OnOk, OnErr};
+ghost use Rattle.std.specs.Prelude.{◌≡◌, Some, None, IsSome, OnOk, OnErr};
 ghost use Rattle.std.specs.FinMap.{get};
 ghost use Rattle.incarnations.specs.Meaning.{body, with_entry, with_view, attached};
 ghost use Rattle.incarnations.specs.Stock.{IsSound, meaning_of};

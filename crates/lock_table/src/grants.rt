@@ -1,5 +1,5 @@
 // Locks come in: copies and rings first, where memory may lack, and then the nodes.
-ghost use Rattle.std.specs.Prelude.{◌≡◌, ◌+◌, ◌-◌, ◌^◌, ◌≤◌, ◌<◌, ◌++◌, ◌∷◌, [], List, length, map, min, true, false, Some, None, IsSome, IfOk, OnOk, OnErr, IfSome, IfNone, Contains};
+ghost use Rattle.std.specs.Prelude.{◌≡◌, ◌+◌, ◌-◌, ◌^◌, ◌≤◌, ◌<◌, ◌++◌, ◌∷◌, [], List, length, map, min, false, Some, None, IsSome, IfOk, OnOk, OnErr, IfSome, IfNone, Contains};
 ghost use Rattle.pss_machine.specs.declared.lock.Resource.{Resource};
 ghost use Rattle.pss_base.specs.declared.owner.OwnerNo.{OwnerNo};
 ghost use Rattle.lock_table.specs.declared.links.Lock.{Lock};

@@ -1,5 +1,5 @@
 // Where the locks on each resource stand.
-ghost use Rattle.std.specs.Prelude.{ℕ, ◌≡◌, ◌<◌, [], Some, None, IfNone, IfSome, OnOk, OnErr};
+ghost use Rattle.std.specs.Prelude.{ℕ, ◌≡◌, ◌<◌, [], Some, None, IfNone, IfSome, OnOk};
 ghost use Rattle.indexmap.specs.IndexMap.{spare};
 ghost use Rattle.pss_machine.specs.Needs.{same_resource};
 ghost use Rattle.pss_machine.specs.declared.lock.Resource.{Resource};

@@ -1,10 +1,10 @@
 // Locks go out: from the front of an owner's column, each with one step.
-ghost use Rattle.std.specs.Prelude.{◌≡◌, ◌+◌, ◌-◌, ◌≤◌, ◌∷◌, [], Some, None, IsSome, MatchOption, true, false, if◌then◌else◌};
+ghost use Rattle.std.specs.Prelude.{◌≡◌, ◌+◌, ◌-◌, ◌≤◌, [], Some, None, IsSome, MatchOption, true, false, if◌then◌else◌};
 ghost use Rattle.std.specs.FinMap as map;
 ghost use Rattle.std.specs.FinSet as set;
 ghost use Rattle.lock_table.specs.Locks.{held_by, released};
 ghost use Rattle.lock_table.specs.inner.Nodes.{held_in};
-ghost use Rattle.lock_table.specs.inner.Links.{IsLinked, IsWhole, IsReleasing, IsFound, SameNodes, Recounts, Unlinks, place_at, col_at};
+ghost use Rattle.lock_table.specs.inner.Links.{IsLinked, IsWhole, IsReleasing, IsFound, Recounts, Unlinks, place_at};
 
 use crate::links::{Links, Lock};
 use crate::places::{self, Found, Place};

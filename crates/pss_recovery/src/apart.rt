@@ -1,5 +1,5 @@
 // Whether changes leave each key at most one holder.
-ghost use Rattle.std.specs.Prelude.{ℕ, ◌≡◌, ◌↔◌, List, IfOk, IsTrue};
+ghost use Rattle.std.specs.Prelude.{◌≡◌, ◌↔◌, List, IfOk, IsTrue};
 ghost use Rattle.pss_catalog.specs.Catalog.{IsUnique};
 ghost use Rattle.pss_catalog.specs.Changes.{Change as Step, over};
 ghost use Rattle.storage_home.specs.Applied.{AreChanges};

@@ -1,5 +1,5 @@
 // The changes of a body over the objects that are there.
-ghost use Rattle.std.specs.Prelude.{ℕ, ◌≡◌, List, IfOk, IfSome, IsNone};
+ghost use Rattle.std.specs.Prelude.{◌≡◌, List, IfOk, IfSome, IsNone};
 ghost use Rattle.pss_catalog.specs.Catalog.{Catalog};
 ghost use Rattle.pss_catalog.specs.Changes.{Change as Step};
 ghost use Rattle.storage_home.specs.Kept.{IsKept};

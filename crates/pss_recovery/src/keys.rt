@@ -1,5 +1,5 @@
 // Keys that objects hold.
-ghost use Rattle.std.specs.Prelude.{ℕ, ◌≡◌, ◌↔◌, IsTrue, Some};
+ghost use Rattle.std.specs.Prelude.{◌↔◌, IsTrue, Some};
 ghost use Rattle.pss_catalog.specs.Catalog.{Object};
 ghost use Rattle.storage_home.specs.Applied.{AreKeysOf};
 ghost use Rattle.storage_home.specs.Kept.{Keeping};

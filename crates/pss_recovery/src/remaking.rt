@@ -1,5 +1,5 @@
 // A body's changes are made of the objects.
-ghost use Rattle.std.specs.Prelude.{ℕ, ◌≡◌, ◌↔◌, List, Ok, false, true, IfOk, IsTrue};
+ghost use Rattle.std.specs.Prelude.{◌≡◌, ◌↔◌, List, Ok, false, true, IfOk, IsTrue};
 ghost use Rattle.type_layout.specs.declared.schema.Schema.{Schema as Scheme};
 ghost use Rattle.pss_catalog.specs.Catalog.{Catalog};
 ghost use Rattle.pss_catalog.specs.Changes.{Change as Step};

@@ -1,5 +1,5 @@
 // The serials of a body's changes.
-ghost use Rattle.std.specs.Prelude.{◌≡◌, ◌↔◌, IsTrue};
+ghost use Rattle.std.specs.Prelude.{◌↔◌, IsTrue};
 ghost use Rattle.pss_recovery.specs.Replaying.{Rise};
 
 use pss_base::Put;

@@ -1,5 +1,5 @@
 // Where two shapes differ first.
-ghost use Rattle.std.specs.Prelude.{ℕ, ◌≡◌, ◌≢◌, ◌⊎◌, ◌↔◌, ◌+◌, ◌-◌, ◌<◌, ◌≤◌, IsTrue, List, length, take, drop, true, IfSome, IsNone, MatchOption};
+ghost use Rattle.std.specs.Prelude.{◌≡◌, ◌↔◌, ◌+◌, ◌-◌, ◌<◌, ◌≤◌, IsTrue, length, true, MatchOption};
 ghost use Rattle.pss_recovery.specs.Shapes.{DifferAt, begins_home};
 ghost use Rattle.pss_recovery.specs.inner.Lines.{EndsAt, IsNext, line_at, starts_at};
 

@@ -1,5 +1,5 @@
 // The sum over the objects, once changes are made.
-ghost use Rattle.std.specs.Prelude.{ℕ, ◌≡◌, ◌↔◌, ◌+◌, ◌^◌, ◌≤◌, List, IsTrue};
+ghost use Rattle.std.specs.Prelude.{◌≡◌, ◌↔◌, ◌+◌, ◌^◌, ◌≤◌, List, IsTrue};
 ghost use Rattle.pss_catalog.specs.Catalog.{total, weight_at};
 ghost use Rattle.pss_catalog.specs.Changes.{Change as Step, over};
 ghost use Rattle.storage_home.specs.Applied.{AreChanges};

@@ -1,11 +1,10 @@
 // Entries leave their bodies, session by session.
-ghost use Rattle.std.specs.Prelude.{◌≡◌, ◌+◌, ◌*◌, ◌≤◌, ◌==◌, ◌&&◌, length};
+ghost use Rattle.std.specs.Prelude.{◌≡◌, ◌+◌, ◌*◌, ◌≤◌, ◌==◌, length};
 ghost use Rattle.incarnations.specs.Meaning.{Leaves, loosened, both, of_session};
 ghost use Rattle.pss_session.specs.Meaning.{on_unchanged};
 ghost use Rattle.pss_session.specs.inner.Rows.{session_of};
 ghost use Rattle.pss_session.specs.inner.Walks.{numbered, some_row};
 ghost use Rattle.pss_session.specs.Meaning.{is_in, belongs_to};
-ghost use Rattle.pss_machine.specs.Sessions.{is_owner};
 
 use crate::register::SessionRecord;
 use crate::rows::Rows;

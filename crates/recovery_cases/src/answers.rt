@@ -1,5 +1,4 @@
 // The answers to the lines of commands.
-ghost use Rattle.std.specs.Prelude.{◌≡◌};
 ghost use Rattle.type_layout.specs.Sound.{IsSoundSchema};
 
 use crate::crashes::{Plan, append_crashes, append_end, append_store};

@@ -1,5 +1,5 @@
 // What stands behind names.
-ghost use Rattle.std.specs.Prelude.{◌≡◌, [], OnOk, IfOk, IfSome};
+ghost use Rattle.std.specs.Prelude.{◌≡◌, [], OnOk, IfSome};
 ghost use Rattle.schema_names.specs.Tables.{value_at, IsEntered};
 
 use indexmap::IndexMap;

@@ -1,5 +1,5 @@
 // What a line says is done, and its reply is told.
-ghost use Rattle.std.specs.Prelude.{◌≡◌, ◌≤◌, length, ℕ, IfErr, IfOk, IfSome, OnOk};
+ghost use Rattle.std.specs.Prelude.{◌≡◌, ◌≤◌, length, IfErr, IfOk, IfSome, OnOk};
 ghost use Rattle.pss_base.specs.Causes.{HasCauseIf};
 ghost use Rattle.pss_base.specs.declared.stop.StoreStop.TheVariants as stop;
 ghost use Rattle.pss_disk.specs.Moments.{IsSettled};

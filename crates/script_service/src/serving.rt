@@ -1,5 +1,5 @@
 // A script is served over a store.
-ghost use Rattle.std.specs.Prelude.{◌≡◌, ◌⊎◌, is_some};
+ghost use Rattle.std.specs.Prelude.{◌⊎◌, is_some};
 ghost use Rattle.pss_base.specs.Causes.{HasCauseIf};
 ghost use Rattle.pss_disk.specs.Moments.{IsSettled, Through};
 ghost use Rattle.type_layout.specs.Sound.{IsSoundSchema};

@@ -1,5 +1,5 @@
 // The texts of replies.
-ghost use Rattle.std.specs.Prelude.{◌≡◌, ◌++◌, ◌∷◌, IfOk, OnOk, codes, map};
+ghost use Rattle.std.specs.Prelude.{◌≡◌, ◌++◌, IfOk, OnOk, codes, map};
 ghost use Rattle.pss_base.specs.PidText.{pid_text};
 ghost use Rattle.script_text.specs.Replies as spec;
 ghost use Rattle.script_text.specs.Replies.{text, behind, numbered};

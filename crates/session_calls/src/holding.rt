@@ -1,5 +1,4 @@
 // Entries are counted, and let go.
-ghost use Rattle.std.specs.Prelude.{◌≡◌};
 ghost use Rattle.pss_machine.specs.declared.command.Command.TheVariants as command;
 ghost use Rattle.pss_machine.specs.Kept.{Kept};
 ghost use Rattle.connector_parts.specs.Stands.{AnyAt, IsAt, Comes};

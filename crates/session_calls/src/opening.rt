@@ -1,5 +1,5 @@
 // Sessions are opened, and transactions begun.
-ghost use Rattle.std.specs.Prelude.{◌≡◌, Bool, IfOk, OnOk};
+ghost use Rattle.std.specs.Prelude.{◌≡◌, IfOk, OnOk};
 ghost use Rattle.pss_machine.specs.declared.command.Command.TheVariants as command;
 ghost use Rattle.pss_machine.specs.Kept.{Kept, is_in_use};
 ghost use Rattle.pss_machine.specs.Deciding.{access_of, level_of};

@@ -1,5 +1,5 @@
 // The line that is spoken of a store that is refused.
-ghost use Rattle.std.specs.Prelude.{◌≡◌, ◌++◌, codes, decimal, IfOk, OnOk};
+ghost use Rattle.std.specs.Prelude.{◌≡◌, ◌++◌, IfOk, OnOk};
 ghost use Rattle.store_refusals.specs.Lines.{damaged_line, kind_text, refusal_of, shape_line};
 
 use itoa::Buffer;

@@ -1,16 +1,16 @@
 -- A search for a factory finds the first of its name.
 use Rattle.std.proofs.Common.{◌≡◌, ℕ, zero, suc, ◌+◌, ◌<◌, ◌≤◌, List, [], ◌∷◌, ◌++◌, Bool, true, false, cond, not, nat_lt, ◌&&◌, ◌==◌, length, drop, find, get_or, Option, Some, None, refl, sym, ap, subst, ◌∙◌, arith, ⊎_elim, append_assoc}
-use Rattle.std.proofs.Math.ListN.{set}
 use Rattle.std.specs.List.{flat_map, slice_get}
 use Rattle.std.specs.Option.{option_or}
-use Rattle.std.proofs.lemmas.Bool.{and_parts, cases_Bool, eq-eqb, eqb-true, ltb-true, ltb-false}
+use Rattle.std.proofs.lemmas.Bool.{cases_Bool, eq-eqb, eqb-true, ltb-true, ltb-false}
 use Rattle.std.proofs.lemmas.Grind.{flat_map-append}
-use Rattle.std.proofs.lemmas.List.{append-nil, get_or-set_other}
+use Rattle.std.proofs.lemmas.List.{append-nil}
 use Rattle.std.proofs.lemmas.List.Folds.{find-append}
 use Rattle.type_layout.specs.declared.factories.DeclaredFactory.{DeclaredFactory}
 use Rattle.type_layout.specs.declared.factory_search.Step.{Step}
 use Rattle.type_layout.specs.Factories.{FactoryLines, bases_of, declared_by, sources_below, sources_of, held_in}
-use Rattle.type_layout.specs.inner.Searches.{taken, IsMarked}
+use Rattle.type_layout.specs.inner.Marks.{IsMarkedToo}
+use Rattle.type_layout.specs.inner.Searches.{taken}
 use Rattle.type_layout.proofs.Lookups.{drop_got}
 
 -- ---- sources
@@ -66,8 +66,8 @@ module _ (g : FactoryLines) (s : Step) (steps : List Step) (p : ℕ) (here : sli
   ahead_of : ahead g s ≡ sources_below g s.number p ++ ahead g (record { number = s.number; next = s.next + 1 })
   ahead_of = ap (flat_map (sources_below g s.number)) onwards
 
-  pub less : (left : List Bool) → work g (taken left s p steps) < work g (s ∷ steps)
-  less left = by (nat_lt p s.number) (not (get_or left p false)) refl
+  pub less : (left : ℕ → Bool) → work g (taken left s p steps) < work g (s ∷ steps)
+  less left = by (nat_lt p s.number) (not (left p)) refl
     where
       rest : ℕ
       rest = length (drop (s.next + 1) (bases_of g s.number))
@@ -124,8 +124,8 @@ module _ (g : FactoryLines) (test : DeclaredFactory → Bool) where
   Fits sought o (s ∷ steps) = (found s.number ≡ option_or o (seen s)) × Fits sought (found s.number) steps
 
   -- those that were left have none
-  abbrev pub AreLeft : List Bool → Type 0
-  AreLeft left = (n : ℕ) → get_or left n false ≡ true → found n ≡ None
+  abbrev pub AreLeft : (ℕ → Bool) → Type 0
+  AreLeft left = (n : ℕ) → left n ≡ true → found n ≡ None
 
   seen_first : (n : ℕ) → seen (record { number = n; next = 0 }) ≡ found n
   seen_first n = ap within (sym (sources_are g n))
@@ -140,9 +140,9 @@ module _ (g : FactoryLines) (test : DeclaredFactory → Bool) where
       ∙ ap within (append_assoc (sources_below g s.number p) (ahead g s') (s.number ∷ []))
       ∙ within-append (sources_below g s.number p) (ahead g s' ++ s.number ∷ [])
 
-  pub takes : (sought : Option DeclaredFactory) (left : List Bool) (s : Step) (p : ℕ) (steps : List Step) → slice_get (bases_of g s.number) s.next ≡ Some p → AreLeft left → Fits sought None (s ∷ steps)
+  pub takes : (sought : Option DeclaredFactory) (left : ℕ → Bool) (s : Step) (p : ℕ) (steps : List Step) → slice_get (bases_of g s.number) s.next ≡ Some p → AreLeft left → Fits sought None (s ∷ steps)
       → Fits sought None (taken left s p steps)
-  takes sought left s p steps here none fits = by (nat_lt p s.number) (get_or left p false) refl refl
+  takes sought left s p steps here none fits = by (nat_lt p s.number) (left p) refl refl
     where
       s' : Step
       s' = record { number = s.number; next = s.next + 1 }
@@ -153,7 +153,7 @@ module _ (g : FactoryLines) (test : DeclaredFactory → Bool) where
       skips : within (sources_below g s.number p) ≡ None → Fits sought None (s' ∷ steps)
       skips e = (next ∙ ap (λ o. option_or o (seen s')) e, fits.1)
 
-      by : (a b : Bool) → nat_lt p s.number ≡ a → get_or left p false ≡ b → Fits sought None (cond (a && not b) (record { number = p; next = 0 } ∷ s' ∷ steps) (s' ∷ steps))
+      by : (a b : Bool) → nat_lt p s.number ≡ a → left p ≡ b → Fits sought None (cond (a && not b) (record { number = p; next = 0 } ∷ s' ∷ steps) (s' ∷ steps))
       by false b lower gone = skips (ap within (past_limit g s.number p (ltb-false p s.number lower)))
       by true true lower gone = skips (ap within (below_limit g s.number p (ltb-true p s.number lower)) ∙ none p gone)
       by true false lower gone = (sym (seen_first p), (next ∙ ap (λ ns. option_or (within ns) (seen s')) (below_limit g s.number p (ltb-true p s.number lower)), fits.1))
@@ -175,13 +175,10 @@ module _ (g : FactoryLines) (test : DeclaredFactory → Bool) where
   pub leaves : (sought : Option DeclaredFactory) (s : Step) (steps : List Step) → slice_get (bases_of g s.number) s.next ≡ None → None ≡ find test (declared_by g s.number) → Fits sought None (s ∷ steps) → Fits sought None steps
   leaves sought s steps over none fits = subst (λ o. Fits sought o steps) (own s sought steps over fits ∙ sym none) fits.1
 
-  pub one_left : (sought : Option DeclaredFactory) (left : List Bool) (s : Step) (steps : List Step) → slice_get (bases_of g s.number) s.next ≡ None → None ≡ find test (declared_by g s.number) → Fits sought None (s ∷ steps) → AreLeft left
-      → AreLeft (set left s.number true)
-  one_left sought left s steps over none fits are n gone =
-      ⊎_elim
-      (λ t. ap found (eqb-true n s.number t) ∙ own s sought steps over fits ∙ sym none)
-      (λ f. are n (sym (get_or-set_other left s.number n true false (λ e. cc (eq-eqb n s.number e))) ∙ gone))
-      (cases_Bool (n == s.number))
+  pub one_left : (sought : Option DeclaredFactory) (left after : ℕ → Bool) (s : Step) (steps : List Step) → slice_get (bases_of g s.number) s.next ≡ None → None ≡ find test (declared_by g s.number) → Fits sought None (s ∷ steps) → AreLeft left
+      → IsMarkedToo left after s.number → AreLeft after
+  one_left sought left after s steps over none fits are marked n gone =
+      ⊎_elim (λ same. are n (sym same ∙ gone)) (λ it. ap found it ∙ own s sought steps over fits ∙ sym none) (marked n)
 
   module _ (first : ℕ) (none : (n : ℕ) → n < first → find test (declared_by g n) ≡ None) where
     nor_theirs : (limit : ℕ) → ((n : ℕ) → within (sources_below g limit n) ≡ None) → (ns : List ℕ) → within (flat_map (sources_below g limit) ns) ≡ None
@@ -216,11 +213,11 @@ module _ (g : FactoryLines) (test : DeclaredFactory → Bool) where
 
   -- ---- the turns of a search
 
-  pub record IsSearch (sought : Option DeclaredFactory) (left : List Bool) (steps : List Step) : Type 0 where
+  pub record IsSearch (sought : Option DeclaredFactory) (left : ℕ → Bool) (steps : List Step) : Type 0 where
     pub fits : Fits sought None steps
     pub are_left : AreLeft left
 
-  pub goes_on : (sought : Option DeclaredFactory) (left before after : List Bool) (old steps new : List Step) (s : Step) (p : ℕ) (bases : List ℕ) → IsSearch sought left old → old ≡ s ∷ steps → before ≡ left
+  pub goes_on : (sought : Option DeclaredFactory) (left before after : ℕ → Bool) (old steps new : List Step) (s : Step) (p : ℕ) (bases : List ℕ) → IsSearch sought left old → old ≡ s ∷ steps → before ≡ left
       → Some p ≡ slice_get bases s.next → bases ≡ bases_of g s.number → new ≡ taken before s p steps → after ≡ before → IsSearch sought after new
   goes_on sought left before after old steps new s p bases on is kept next own_bases went same =
       let are : AreLeft before = subst AreLeft (sym kept) on.are_left in
@@ -229,31 +226,31 @@ module _ (g : FactoryLines) (test : DeclaredFactory → Bool) where
         are_left = subst AreLeft (sym same) are;
       }
 
-  pub goes_back : (sought : Option DeclaredFactory) (left before after : List Bool) (old steps new : List Step) (s : Step) (bases : List ℕ) → IsSearch sought left old → old ≡ s ∷ steps → before ≡ left
-      → None ≡ slice_get bases s.next → bases ≡ bases_of g s.number → None ≡ find test (declared_by g s.number) → new ≡ steps → after ≡ set before s.number true → IsSearch sought after new
+  pub goes_back : (sought : Option DeclaredFactory) (left before after : ℕ → Bool) (old steps new : List Step) (s : Step) (bases : List ℕ) → IsSearch sought left old → old ≡ s ∷ steps → before ≡ left
+      → None ≡ slice_get bases s.next → bases ≡ bases_of g s.number → None ≡ find test (declared_by g s.number) → new ≡ steps → IsMarkedToo before after s.number → IsSearch sought after new
   goes_back sought left before after old steps new s bases on is kept over own_bases none went marked =
       let last : slice_get (bases_of g s.number) s.next ≡ None = sym (over ∙ ap (λ l. slice_get l s.next) own_bases) in
       let fits : Fits sought None (s ∷ steps) = subst (Fits sought None) is on.fits in
       record {
         fits = subst (Fits sought None) (sym went) (leaves sought s steps last none fits);
-        are_left = subst AreLeft (sym marked) (one_left sought before s steps last none fits (subst AreLeft (sym kept) on.are_left));
+        are_left = one_left sought before after s steps last none fits (subst AreLeft (sym kept) on.are_left) marked;
       }
 
-  pub told : (sought : Option DeclaredFactory) (left : List Bool) (old steps : List Step) (s : Step) (bases : List ℕ) (f : DeclaredFactory) → IsSearch sought left old → old ≡ s ∷ steps → None ≡ slice_get bases s.next → bases ≡ bases_of g s.number
+  pub told : (sought : Option DeclaredFactory) (left : ℕ → Bool) (old steps : List Step) (s : Step) (bases : List ℕ) (f : DeclaredFactory) → IsSearch sought left old → old ≡ s ∷ steps → None ≡ slice_get bases s.next → bases ≡ bases_of g s.number
       → Some f ≡ find test (declared_by g s.number) → Some f ≡ sought
   told sought left old steps s bases f on is over own_bases here =
       sym (found_here sought s steps f (sym (over ∙ ap (λ l. slice_get l s.next) own_bases)) here (subst (Fits sought None) is on.fits))
 
-  pub nothing_left : (sought : Option DeclaredFactory) (left : List Bool) (old : List Step) → IsSearch sought left old → old ≡ [] → None ≡ sought
+  pub nothing_left : (sought : Option DeclaredFactory) (left : ℕ → Bool) (old : List Step) → IsSearch sought left old → old ≡ [] → None ≡ sought
   nothing_left sought left old on is = sym (subst (Fits sought None) is on.fits)
 
-  pub first_turn : (n : ℕ) (left : List Bool) (steps : List Step) (first : ℕ) → steps ≡ record { number = n; next = 0 } ∷ [] → ((m : ℕ) → m < first → find test (declared_by g m) ≡ None) → IsMarked first n left → IsSearch (found n) left steps
+  pub first_turn : (n : ℕ) (left : ℕ → Bool) (steps : List Step) (first : ℕ) → steps ≡ record { number = n; next = 0 } ∷ [] → ((m : ℕ) → m < first → find test (declared_by g m) ≡ None) → ((m : ℕ) → left m ≡ nat_lt m first) → IsSearch (found n) left steps
   first_turn n left steps first is none marked = record {
     fits = subst (Fits (found n) None) (sym is) (begins n);
-    are_left = λ m gone. in_front first none m (ltb-true m first (and_parts (nat_lt m first) (nat_lt m n) (sym (marked m) ∙ gone)).0);
+    are_left = λ m gone. in_front first none m (ltb-true m first (sym (marked m) ∙ gone));
   }
 
-pub smaller : (g : FactoryLines) (left : List Bool) (old steps new : List Step) (s : Step) (p : ℕ) (bases : List ℕ) → old ≡ s ∷ steps → Some p ≡ slice_get bases s.next → bases ≡ bases_of g s.number → new ≡ taken left s p steps → work g new < work g old
+pub smaller : (g : FactoryLines) (left : ℕ → Bool) (old steps new : List Step) (s : Step) (p : ℕ) (bases : List ℕ) → old ≡ s ∷ steps → Some p ≡ slice_get bases s.next → bases ≡ bases_of g s.number → new ≡ taken left s p steps → work g new < work g old
 smaller g left old steps new s p bases is next own_bases went =
     subst (λ l. work g l < work g old) (sym went) (subst (λ l. work g (taken left s p steps) < work g l) (sym is) (less g s steps p (sym (next ∙ ap (λ l. slice_get l s.next) own_bases)) left))
 

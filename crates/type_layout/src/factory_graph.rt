@@ -41,7 +41,7 @@ impl FactoryGraph {
     ghost use Rattle.type_layout.specs.Schemas.{given};
     ghost use Rattle.type_layout.specs.inner.Searches.{NoneInFront};
 
-    /// By the lists of all declarations.
+    /// By the lists of all declarations. `NoMemory`: their names had no room, and the lists are gone.
     pub fn new(
         alloc: Global,
         bases: Vec<Vec<usize>>,

@@ -1,4 +1,5 @@
 // A search for a factory: a walk over those from which a home derives, each behind those from which it derives itself.
+use crate::factory_marks::Marks;
 use pss_base::NoMemory;
 use std::alloc::Global;
 
@@ -25,24 +26,23 @@ impl Step {
 #[derive(Drop)]
 pub(crate) struct Search {
     way: Vec<Step>,
-    left: Vec<bool>,
+    left: Marks,
 }
 
 impl Search {
-    ghost use Rattle.std.specs.Prelude.{◌≡◌, ◌∷◌, ◌<◌, [], false, true, IfOk, OnOk, slice_index_or, slice_set};
+    ghost use Rattle.std.specs.Prelude.{◌≡◌, ◌∷◌, ◌<◌, [], ℕ, nat_lt, IfOk, OnOk};
     ghost use Rattle.type_layout.specs.Schemas.{given};
-    ghost use Rattle.type_layout.specs.inner.Searches.{steps_of, is_entered, taken, IsMarked};
+    ghost use Rattle.type_layout.specs.inner.Marks.{is_marked, IsMarkedToo};
+    ghost use Rattle.type_layout.specs.inner.Searches.{steps_of, is_entered, taken};
 
-    /// Begins at a home, with room to mark all in front of it. Those in front of the first have no such factory.
+    /// Begins at a home, where those in front of the first have no such factory.
     pub(crate) fn new(alloc: Global, number: usize, first: usize) -> Result<Search, NoMemory>
         ensures way { IfOk result (λ s. steps_of s ≡ record { number = number; next = 0 } ∷ []) }
-        ensures left { IfOk result (λ s. IsMarked first number s.left.items) }
+        ensures left { IfOk result (λ s. (n : ℕ) → is_marked s.left n ≡ nat_lt n first) }
     {
-        let mut left = vec![in alloc; true; first.min(number)]?;
-        left.resize(number, false)?;
         let mut search = Search {
             way: Vec::new(alloc),
-            left,
+            left: Marks::new(alloc, first, number)?,
         };
         search.way.push(Step { number, next: 0 })?;
         Ok(search)
@@ -51,29 +51,23 @@ impl Search {
     /// Takes the innermost step.
     pub(crate) fn next(&mut self) -> Option<Step>
         ensures way { steps_of self.old ≡ given result [] (λ s. s ∷ steps_of self.new) }
-        ensures left { self.new.left.items ≡ self.old.left.items }
+        ensures left { self.new.left ≡ self.old.left }
     {
         self.way.pop()
     }
 
     // Whether one that a step takes is still to be walked.
     fn is_entered(&self, step: Step, base: usize) -> bool
-        ensures { result ≡ is_entered self.now.left.items step base }
+        ensures { result ≡ is_entered (is_marked self.now.left) step base }
     {
-        base < step.number && !self.is_left(base)
-    }
-
-    fn is_left(&self, number: usize) -> bool
-        ensures { result ≡ slice_index_or self.now.left.items number false }
-    {
-        matches!(self.left.get(number), Some(true))
+        base < step.number && !self.left.has(base)
     }
 
     /// Goes on from a step to the next from which it derives.
     pub(crate) fn take(&mut self, step: Step, base: usize) -> Result<(), NoMemory>
         requires { step.next < usize.MAX }
-        ensures way { OnOk result (steps_of self.new ≡ taken self.old.left.items step base (steps_of self.old)) }
-        ensures left { self.new.left.items ≡ self.old.left.items }
+        ensures way { OnOk result (steps_of self.new ≡ taken (is_marked self.old.left) step base (steps_of self.old)) }
+        ensures left { self.new.left ≡ self.old.left }
     {
         let is_entered = self.is_entered(step, base);
         self.way.push(Step {
@@ -92,10 +86,8 @@ impl Search {
     /// Leaves one that has no such factory.
     pub(crate) fn leave(&mut self, number: usize)
         ensures way { steps_of self.new ≡ steps_of self.old }
-        ensures left { self.new.left.items ≡ slice_set self.old.left.items number true }
+        ensures left { IsMarkedToo (is_marked self.old.left) (is_marked self.new.left) number }
     {
-        if number < self.left.len() {
-            self.left[number] = true;
-        }
+        self.left.put(number);
     }
 }

@@ -19,18 +19,6 @@ pub struct HomeNos {
     rise: bool,
 }
 
-// Whether a home is listed, where their numbers rise.
-fn is_among_rising(homes: &[HomeNo], number: u32) -> bool
-    requires { IsNonDecreasingBy (λ h. h.0) homes.now }
-    ensures { result ≡ lists homes.now number }
-{
-    let place = homes.partition_point(|home| home.0 < number);
-    match homes.get(place) {
-        Some(home) => home.0 == number,
-        None => false,
-    }
-}
-
 impl Model for HomeNos {
     ghost use Rattle.std.specs.Prelude.{List, ◌≡◌, true};
     ghost use Rattle.std.specs.List.Sorted.{IsNonDecreasingBy};
@@ -41,6 +29,18 @@ impl Model for HomeNos {
     ghost view = { λ h. h.homes.items };
 
     ghost invariant = { λ h. h.rise ≡ true → IsNonDecreasingBy (λ n. n.0) h.homes.items };
+}
+
+// Whether a home is listed, where their numbers rise.
+fn is_among_rising(homes: &[HomeNo], number: u32) -> bool
+    requires { IsNonDecreasingBy (λ h. h.0) homes.now }
+    ensures { result ≡ lists homes.now number }
+{
+    let place = homes.partition_point(|home| home.0 < number);
+    match homes.get(place) {
+        Some(home) => home.0 == number,
+        None => false,
+    }
 }
 
 impl HomeNos {
@@ -88,6 +88,7 @@ impl HomeNos {
         }
     }
 
+    /// All of them, in the order in which they were put.
     pub fn as_slice(&self) -> &[HomeNo]
         ensures { result.now ≡ self.now }
     {

@@ -6,6 +6,7 @@ mod defaults;
 mod descent;
 mod factories;
 mod factory_graph;
+mod factory_marks;
 mod factory_names;
 mod factory_search;
 mod home;

@@ -1,6 +1,5 @@
 -- The steps of a search for a factory.
-use Rattle.std.specs.Prelude.{ℕ, ◌+◌, ◌≡◌, ◌<◌, List, ◌∷◌, Bool, false, not, nat_lt, ◌&&◌, reverse, find, Some, None, cond, is_some, if◌then◌else◌}
-use Rattle.std.proofs.Common.{get_or}
+use Rattle.std.specs.Prelude.{ℕ, ◌+◌, ◌≡◌, ◌<◌, List, ◌∷◌, Bool, not, nat_lt, ◌&&◌, reverse, find, Some, None, cond, is_some, if◌then◌else◌}
 use Rattle.std.specs.BTreeMap.{BTreeMap}
 use Rattle.std.specs.List.{position_from}
 use Rattle.std.specs.Option.{option_or}
@@ -29,20 +28,16 @@ module _ {Z : Type 0} where
 abbrev pub NoneInFront : FactoryLines → List ℕ → ℕ → Type 0
 NoneInFront lines word first = (n : ℕ) → n < first → find (λ f. bytes_eq word f.name) (declared_by lines n) ≡ None
 
--- what is in front of the first is marked, where there is room
-abbrev pub IsMarked : ℕ → ℕ → List Bool → Type 0
-IsMarked first room left = (n : ℕ) → get_or left n false ≡ nat_lt n first && nat_lt n room
-
 -- the innermost first
 abbrev pub steps_of : Search → List Step
 steps_of s = reverse s.way.items
 
 -- what a step takes is walked where it is lower and was not left
-abbrev pub is_entered : List Bool → Step → ℕ → Bool
-is_entered left step base = nat_lt base step.number && not (get_or left base false)
+abbrev pub is_entered : (ℕ → Bool) → Step → ℕ → Bool
+is_entered left step base = nat_lt base step.number && not (left base)
 
 -- the steps with the next one that a step takes
-abbrev pub taken : List Bool → Step → ℕ → List Step → List Step
+abbrev pub taken : (ℕ → Bool) → Step → ℕ → List Step → List Step
 taken left step base steps =
     if is_entered left step base
     then record { number = base; next = 0 } ∷ record { number = step.number; next = step.next + 1 } ∷ steps

@@ -7,7 +7,6 @@ ghost use Rattle.type_layout.specs.Sound.{IsSoundLayout, IsSoundSchema};
 ghost use Rattle.type_layout.specs.Spelling.{record_spelling};
 ghost use Rattle.type_layout.specs.Values.{IsRecord};
 ghost use Rattle.storage_home.specs.Applied.{AreKeysOf};
-ghost use Rattle.storage_home.specs.Kept.{IsSound};
 ghost use Rattle.pss_recovery.specs.declared.checking.RowStop.TheVariants.{Wrong};
 ghost use Rattle.pss_recovery.specs.Loading.{IsStored, RefersBelow};
 ghost use Rattle.pss_recovery.specs.inner.Checks.{AreNoRecord, IsShapeRefusal, IsWrongAlone, object_of};
@@ -18,8 +17,8 @@ use crate::shapes::first_difference;
 use cdr_codec::{RecordFault, decode};
 use pss_base::{DamageKind, NoMemory, Put};
 use std::alloc::Global;
-use storage_home::KeyValues;
-use type_layout::{Home, HomeNo, KeyNo, Record, Schema, home_at, key_of, keys_at, shape_of};
+use storage_home::{KeyValues, keys_of_record};
+use type_layout::{Home, HomeNo, Record, Schema, home_at, shape_of};
 
 /// Tests that the shape of a store is that of the schema.
 pub fn test_shape(alloc: Global, schema: &Schema, shape: &[u8]) -> Result<(), MountFault>
@@ -91,24 +90,6 @@ fn values_of(alloc: Global, schema: &Schema, row: &Put, next: u64) -> Result<Rec
     }
 }
 
-// The keys that the record of an object of a home holds.
-fn keys_of(
-    alloc: Global,
-    schema: &Schema,
-    home: HomeNo,
-    values: &Record,
-) -> Result<KeyValues, NoMemory>
-    requires sound { IsSoundSchema schema.now }
-    requires object { IsSound schema.now (record { home = home; values = values.now }) }
-    ensures { IfOk result (λ keys. AreKeysOf schema.now (Some (record { home = home; values = values.now })) keys) }
-{
-    let mut keys = KeyValues::new(alloc);
-    for key in keys_at(schema, home) {
-        keys.push((*key, key_of(alloc, schema, *key, values)?))?;
-    }
-    Ok(keys)
-}
-
 /// Tests a row by itself, in this order: its home, its record, what the record refers to.
 pub fn check_row(alloc: Global, schema: &Schema, row: &Put, next: u64) -> Result<Checked, RowStop>
     requires sound { IsSoundSchema schema.now }
@@ -122,7 +103,7 @@ pub fn check_row(alloc: Global, schema: &Schema, row: &Put, next: u64) -> Result
         Ok(values) => values,
         Err(stop) => return Err(stop),
     };
-    match keys_of(alloc, schema, HomeNo(row.home), &values) {
+    match keys_of_record(alloc, schema, HomeNo(row.home), &values) {
         Ok(keys) => Ok(Checked { values, keys }),
         Err(_) => Err(RowStop::NoMemory),
     }

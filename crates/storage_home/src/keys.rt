@@ -4,12 +4,13 @@ ghost use Rattle.type_layout.specs.Keys.{key_bytes};
 ghost use Rattle.type_layout.specs.Schemas.{keys_at as keys_in};
 ghost use Rattle.type_layout.specs.Sound.{IsSoundSchema};
 ghost use Rattle.storage_home.specs.Applied.{SpellsObject};
+ghost use Rattle.storage_home.specs.Kept.{IsSound};
 
 use crate::change::KeyValues;
 use cdr_codec::MemberPlaces;
 use pss_base::NoMemory;
 use std::alloc::Global;
-use type_layout::{HomeNo, KeyNo, Schema, keys_at};
+use type_layout::{HomeNo, KeyNo, Record, Schema, key_of, keys_at};
 
 /// The keys of a home, in its order, with the bytes that an object's record, in these octets, gives each. The octets
 /// are walked over once for all keys. Most homes have none, and then the octets are not looked at.
@@ -46,4 +47,22 @@ fn keys_by_places(
         values.push((*key, places.key_bytes(alloc, *key)?))?;
     }
     Ok(values)
+}
+
+/// The keys of a home, in its order, with the bytes that these values of an object give each.
+pub fn keys_of_record(
+    alloc: Global,
+    schema: &Schema,
+    home: HomeNo,
+    values: &Record,
+) -> Result<KeyValues, NoMemory>
+    requires sound { IsSoundSchema schema.now }
+    requires object { IsSound schema.now (record { home = home; values = values.now }) }
+    ensures { IfOk result (λ pairs. pairs ≡ map (λ k. (k, key_bytes schema.now k values.now)) (keys_in schema.now home)) }
+{
+    let mut pairs = KeyValues::new(alloc);
+    for key in keys_at(schema, home) {
+        pairs.push((*key, key_of(alloc, schema, *key, values)?))?;
+    }
+    Ok(pairs)
 }

@@ -22,4 +22,4 @@ mod rows;
 
 pub use change::{Change, Changes, KeyValues};
 pub use homes::Homes;
-pub use keys::keys_of_octets;
+pub use keys::{keys_of_octets, keys_of_record};

@@ -1,6 +1,0 @@
-use Rattle.std.proofs.Common.{◌≡◌, map, take}
-use Rattle.type_layout.specs.Keys.{key_bytes}
-use Rattle.pss_recovery.proofs.checking.keys_of.Given as goal
-
-abbrev pub invariant-loop-key : goal.invariant-loop-key
-invariant-loop-key l = l.keys ≡ map (λ k. (k, key_bytes l.schema k l.values)) (take l.key-index l.key-items)

@@ -15,6 +15,7 @@ pub mod Following
 pub mod Taking
 pub mod Finding
 pub mod Stepping
+pub mod Replacements
 pub mod Naming
 pub mod KeyLists
 pub mod LoadingRows

@@ -23,7 +23,7 @@ use Rattle.storage_home.specs.declared.extents.Block.{Block}
 use Rattle.storage_home.specs.Blocks.{block_at}
 use Rattle.storage_home.specs.Extents.{is_held_at, is_entered_at, is_held_in, is_entered_in, TurnsHeldIn, KeepsHeldIn}
 use Rattle.storage_home.specs.Counts.{bases_in, number_at, AreLower, AreRaised, comes}
-use Rattle.storage_home.specs.Indexes.{found_at, is_key_reserved, lists, is_pair, TurnsFound, MayPut, IsOnce, AreKeysReserved, KeepsFound}
+use Rattle.storage_home.specs.Indexes.{KeyIndexes, found_at, is_key_reserved, lists, is_pair, TurnsFound, MayPut, IsOnce, AreKeysReserved, KeepsFound}
 use Rattle.storage_home.specs.Kept.{most, IsSound, IsKept, stored, is_of, is_object_of}
 use Rattle.storage_home.specs.Applied.{AreKeysOf}
 use Rattle.storage_home.specs.inner.Steps.{MayPutObject}
@@ -31,7 +31,7 @@ use Rattle.storage_home.proofs.Places.{by_test}
 use Rattle.storage_home.proofs.Marking.{held_enters}
 use Rattle.storage_home.proofs.Descending.{lower_bases, as_many_bases, comes_is}
 use Rattle.storage_home.proofs.Keeping.{was_there, come, others, same_or_not, passing_without, passing_with, number_without, number_with, sum_without, sum_with, fewer, fewer_pass}
-use Rattle.storage_home.proofs.Following.{rows_without, rows_with, extents_without, extents_with, keys_without, keys_with}
+use Rattle.storage_home.proofs.Following.{KeysAre, rows_without, rows_with, extents_without, extents_with, keys_without, keys_with}
 
 pub some_there : {A : Type 0} (xs : List A) (h : ℕ) → IsSome (nth xs h) → (0 < h) × (h ≤ length xs)
 some_there xs zero there = cc
@@ -189,25 +189,25 @@ listed_first pair pairs = ap (λ b. b || lists pairs pair.0.0 pair.1) (pair_same
 listed_more : (pair : KeyNo × List ℕ) (pairs : List (KeyNo × List ℕ)) (key : ℕ) (bytes : List ℕ) → lists pairs key bytes ≡ true → lists (pair ∷ pairs) key bytes ≡ true
 listed_more pair pairs key bytes more = by_test (λ b. (b || lists pairs key bytes) ≡ true) (is_pair pair key bytes) (λ _. refl) (λ _. more)
 
-module _ (S : Schema) (M : Catalog) (homes : Parts) (kept : IsKept S M homes) where
+module _ (S : Schema) (M : Catalog) (indexes : KeyIndexes) (are : KeysAre S M indexes) where
   module _ (s : ℕ) (object : Object) (none : get M s ≡ None) (unique : IsUnique S (insert M s object)) where
-    free : (key : KeyNo) (bytes : List ℕ) → holds S key bytes object ≡ true → found_at homes.keys.entries key.0 bytes ≡ None
-    free key bytes held = by (found_at homes.keys.entries key.0 bytes) refl
+    free : (key : KeyNo) (bytes : List ℕ) → holds S key bytes object ≡ true → found_at indexes key.0 bytes ≡ None
+    free key bytes held = by (found_at indexes key.0 bytes) refl
       where
-        by : (o : Option ℕ) → found_at homes.keys.entries key.0 bytes ≡ o → found_at homes.keys.entries key.0 bytes ≡ None
+        by : (o : Option ℕ) → found_at indexes key.0 bytes ≡ o → found_at indexes key.0 bytes ≡ None
         by None is = is
         by (Some t) is =
-            let holder = (kept.keys key bytes t).0 is in
+            let holder = (are key bytes t).0 is in
             let other : t ≡ s → ⊥ = λ same. (let one : Some holder.0 ≡ None = sym holder.1 ∙ ap (λ (k : ℕ). get M k) same ∙ none in cc) in
             absurd (other (unique key bytes t s holder.0 object (others M s object t other ∙ holder.1) (come M s object s refl) holder.2 held))
 
-    may_each : (pairs : List (KeyNo × List ℕ)) → IsOnce pairs → ((key : KeyNo) (bytes : List ℕ) → lists pairs key.0 bytes ≡ true → (holds S key bytes object ≡ true) × (is_key_reserved homes.keys.entries key.0 bytes ≡ true)) → MayPut homes.keys.entries pairs
+    may_each : (pairs : List (KeyNo × List ℕ)) → IsOnce pairs → ((key : KeyNo) (bytes : List ℕ) → lists pairs key.0 bytes ≡ true → (holds S key bytes object ≡ true) × (is_key_reserved indexes key.0 bytes ≡ true)) → MayPut indexes pairs
     may_each [] once each = tt
     may_each (pair ∷ pairs) once each =
         let here = each pair.0 pair.1 (listed_first pair pairs) in
         (here.1, free pair.0 pair.1 here.0, once.0, may_each pairs once.1 (λ key bytes more. each key bytes (listed_more pair pairs key.0 bytes more)))
 
-    pub may_put_keys : (pairs : List (KeyNo × List ℕ)) → AreKeysOf S (Some object) pairs → AreKeysReserved homes.keys.entries pairs → MayPut homes.keys.entries pairs
+    pub may_put_keys : (pairs : List (KeyNo × List ℕ)) → AreKeysOf S (Some object) pairs → AreKeysReserved indexes pairs → MayPut indexes pairs
     may_put_keys pairs keys reserved = may_each pairs keys.once (λ key bytes has. (sym (keys.listed key bytes) ∙ has, reserved key.0 bytes has))
 
 -- ---- the object behind a row
@@ -260,7 +260,7 @@ module _ (homes : Parts) (s : ℕ) (row : Stored) (pairs : List (KeyNo × List �
   row_counts_fit to = subst (λ (r : Stored). number_at homes.counts.items to + comes (bases_in homes.counts.items) r.home.0 to ≤ most) (sym may.is) (counts_fit may.schema may.catalog homes may.kept s may.object may.none may.is_sound may.bounded to)
 
   pub may_put_row : MayPut homes.keys.entries pairs
-  may_put_row = may_put_keys may.schema may.catalog homes may.kept s may.object may.none may.unique pairs may.keys may.keys_reserved
+  may_put_row = may_put_keys may.schema may.catalog homes.keys.entries may.kept.keys s may.object may.none may.unique pairs may.keys may.keys_reserved
 
   pub row_with :
       (new : Parts) → new.families ≡ homes.families → TurnsObject homes.rows.chunks.entries new.rows.chunks.entries s (Some row)

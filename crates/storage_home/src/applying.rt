@@ -26,14 +26,20 @@ impl Homes {
     /// The changes tell the keys that each object held before and holds afterwards. They leave keys unique, and the sum over
     /// the objects of 16 and the length of the record at most 2^64 - 1.
     ///
-    /// All that changes is taken out first, and then the new records are put: so a key may go from one
-    /// object to another, and the sum of the octets is never above that of all objects before or after.
+    /// A new record that comes alone takes the place of the one that its object had. Of several changes all that changes is
+    /// taken out first, and then the new records are put: so a key may go from one object to another, and the sum of the
+    /// octets is never above that of all objects before or after.
     pub fn apply_reserved(&mut self, changes: Changes)
         requires { MayApply self.old changes }
         ensures { (m : MayApply self.old changes) → IsKept m.schema (over m.catalog m.steps) self.new }
     {
-        self.parts.take_changed(changes.as_slice());
-        self.parts.put_changed(changes.into_vec());
+        let changes = changes.into_vec();
+        if self.parts.replaces_one(&changes) {
+            self.parts.replace_one(changes);
+        } else {
+            self.parts.take_changed(&changes);
+            self.parts.put_changed(changes);
+        }
     }
 }
 

@@ -17,6 +17,7 @@ mod listing;
 mod loading;
 mod marks;
 mod parts;
+mod replacing;
 mod reserving;
 mod rows;
 

@@ -81,7 +81,7 @@ pub fn reserve(alloc: Global, rows: &mut Rows, serial: u64) -> Result<(), NoMemo
     }
 }
 
-/// Puts an object in the place of a reservation.
+/// Puts an object in the place of a reservation. The one that was there goes.
 pub fn put(rows: &mut Rows, serial: u64, object: Stored)
     requires { is_reserved_at serial rows.old.chunks.entries ≡ true }
     ensures objects { TurnsObject rows.old.chunks.entries rows.new.chunks.entries serial (Some object) }

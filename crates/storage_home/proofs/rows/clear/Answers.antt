@@ -1,4 +1,4 @@
-use Rattle.std.proofs.Common.{Some, None}
+use Rattle.std.proofs.Common.{None}
 use Rattle.storage_home.proofs.Chunks.{cell_there, row_put, none_stands}
 use Rattle.storage_home.proofs.rows.clear.Goals as goal
 

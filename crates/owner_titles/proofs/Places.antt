@@ -1,5 +1,5 @@
 -- What stands at a place of a table by number.
-use Rattle.std.proofs.Common.{ℕ, zero, suc, ◌≡◌, List, [], ◌∷◌, Option, Some, None, cond, slice_get, sym, ap, ◌∙◌, eqb-true}
+use Rattle.std.proofs.Common.{ℕ, zero, suc, ◌≡◌, List, [], ◌∷◌, Some, None, cond, slice_get, sym, ap, ◌∙◌, eqb-true}
 use Rattle.std.specs.Prelude.{nat_eq}
 use Rattle.std.specs.Cmp.{nat_eq_equiv}
 use Rattle.std.specs.Option.{option_map, unwrap_or}

@@ -1,5 +1,5 @@
 // Owners as they are called, by number.
-ghost use Rattle.std.specs.Prelude.{◌≡◌, ◌-◌, ◌<◌, ◌^◌, Some, true, IsSome, IsSomeAnd, OnOk, OnErr, option_copied};
+ghost use Rattle.std.specs.Prelude.{◌≡◌, ◌-◌, ◌<◌, ◌^◌, Some, true, IsSome, IsSomeAnd, IfSome, OnOk, OnErr, option_copied};
 ghost use Rattle.std.specs.FinMap as map;
 ghost use Rattle.incarnations.specs.Maps.{IsWith};
 ghost use Rattle.owner_titles.specs.Meaning.{marked, one_more, unspent};
@@ -35,6 +35,16 @@ impl Model for TitleTable {
     ghost coded = { code coded_ℕ called_code };
 
     ghost view = { λ t. from_entries t.table.entries };
+}
+
+// How the owner at a place is called, where this one stands there.
+fn called_there(table: &Table, place: usize, owner: u32) -> Option<&Called>
+    ensures { IfSome result (λ called. called_at owner table.now.entries ≡ Some called.now) }
+{
+    match table.get_index(place) {
+        Some((there, called)) if *there == owner => Some(called),
+        _ => None,
+    }
 }
 
 // Whether an owner stands at a place of the table.
@@ -84,7 +94,10 @@ impl TitleTable {
     pub fn get(&self, owner: OwnerNo) -> Option<&Called>
         ensures { option_copied result ≡ map.get self.now owner.0 }
     {
-        self.table.get(&owner.0)
+        match called_there(&self.table, self.last, owner.0) {
+            Some(called) => Some(called),
+            None => self.table.get(&owner.0),
+        }
     }
 
     /// `NoMemory`: the table is as before.
@@ -123,7 +136,8 @@ impl TitleTable {
         requires { IsSome (map.get self.old owner.0) }
         ensures { IsWith self.old self.new owner.0 unspent }
     {
-        match self.table.get_mut(&owner.0) {
+        let place = place_of(&self.table, self.last, owner.0);
+        match self.table.get_index_mut(place) {
             Some(called) => called.commands = 0,
             None => unreachable!(),
         }

@@ -1,4 +1,4 @@
-use Rattle.std.proofs.Common.{◌-◌, ◌<◌, ◌^◌, ap, ◌∙◌, sym, arith}
+use Rattle.std.proofs.Common.{◌-◌, ◌<◌, ◌^◌, ◌∙◌, sym, arith}
 use Rattle.std.specs.Cmp.{unsigned_tied}
 use Rattle.owner_titles.specs.Meaning.{one_more}
 use Rattle.incarnations.proofs.Hashed.{told, written, there}

@@ -46,7 +46,7 @@ module _ (M : Catalog) (s : ℕ) where
 
 -- ---- how many pass a test
 
-counted : (test : Object → Bool) (es : List (ℕ × Object)) → length (map pid_of (filter (λ e. test e.1) es)) ≡ sum_by (λ e. cond (test e.1) 1 0) es
+pub counted : (test : Object → Bool) (es : List (ℕ × Object)) → length (map pid_of (filter (λ e. test e.1) es)) ≡ sum_by (λ e. cond (test e.1) 1 0) es
 counted test [] = refl
 counted test (e ∷ es) =
     by_test (λ b. length (map pid_of (cond b (e ∷ filter (λ x. test x.1) es) (filter (λ x. test x.1) es))) ≡ cond b 1 0 + sum_by (λ x. cond (test x.1) 1 0) es) (test e.1)

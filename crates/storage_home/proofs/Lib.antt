@@ -8,9 +8,9 @@ pub mod Raising
 pub mod Holding
 pub mod Indexing
 pub mod Entering
-pub mod Descending
 pub mod Keeping
 pub mod Few
+pub mod Heirs
 pub mod Following
 pub mod Taking
 pub mod Finding

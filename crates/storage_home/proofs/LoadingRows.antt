@@ -1,14 +1,13 @@
 -- Rows, one after the other.
-use Rattle.std.proofs.Common.{ℕ, zero, suc, ◌≡◌, ◌≤◌, List, [], ◌∷◌, length, map, filter, sum, Option, Some, None, false, refl, sym, ap, subst, ◌∙◌, arith}
+use Rattle.std.proofs.Common.{ℕ, zero, suc, ◌≡◌, ◌≤◌, List, [], ◌∷◌, length, map, filter, replicate, sum, Option, Some, None, false, refl, sym, ap, subst, ◌∙◌, arith}
 use Rattle.std.specs.Option.{option_map}
+use Rattle.std.proofs.lemmas.List.{length-replicate}
 use Rattle.std.specs.FinMap.{get, insert, empty, entries, get-empty, len-empty, len-entries}
 use Rattle.std.specs.Ordering.{nat_cmp}
 use Rattle.pss_base.specs.declared.put.Put.{Put}
 use Rattle.type_layout.specs.declared.key.KeyNo.{KeyNo}
-use Rattle.type_layout.specs.declared.schema.Home.{Home}
 use Rattle.type_layout.specs.declared.schema.Schema.{Schema}
 use Rattle.type_layout.specs.Schemas.{keys_at}
-use Rattle.type_layout.specs.ShapeText.{base_number}
 use Rattle.type_layout.specs.Sound.{IsSoundSchema}
 use Rattle.pss_catalog.specs.Catalog.{Object, Catalog, object_spelling, pid_of, weight, total, IsUnique}
 use Rattle.pss_catalog.specs.Changes.{Change as Step, over, with_state}
@@ -17,9 +16,9 @@ use Rattle.storage_home.specs.declared.parts.Parts.{Parts}
 use Rattle.storage_home.specs.declared.rows.Stored.{Stored}
 use Rattle.storage_home.specs.Rows.{object_at}
 use Rattle.storage_home.specs.Extents.{is_held_in}
-use Rattle.storage_home.specs.Counts.{bases_in, number_at}
+use Rattle.storage_home.specs.Counts.{number_at}
 use Rattle.storage_home.specs.Indexes.{found_at, AreKeysReserved}
-use Rattle.storage_home.specs.Kept.{most, IsSound, IsKept, IsReserved, stored, is_of, is_object_of}
+use Rattle.storage_home.specs.Kept.{most, IsSound, IsKept, IsReserved, stored, is_own, is_object_of}
 use Rattle.storage_home.specs.Applied.{IsState, AreKeysOf, AreRows, MayLoad, SpellsObject}
 use Rattle.storage_home.specs.inner.Steps.{AreApart, AreFresh, MayPutObject, MayLoadOne, MayLoadAll}
 use Rattle.storage_home.proofs.Places.{no_items}
@@ -32,20 +31,16 @@ use Rattle.storage_home.proofs.Stepping.{NoneAt, fresh_where_none, grows_heavier
 no_entries : entries (empty {X = Object} {R = nat_cmp}) ≡ []
 no_entries = no_items _ (sym (len-entries (empty {X = Object} {R = nat_cmp})) ∙ len-empty nat_cmp Object)
 
-starting_number : (homes : List Home) (h : ℕ) → number_at (map (λ (home : Home). record { base = base_number home.base; objects = 0 }) homes) h ≡ 0
-starting_number homes zero = refl
-starting_number [] (suc h) = refl
-starting_number (x ∷ xs) (suc zero) = refl
-starting_number (x ∷ xs) (suc (suc h)) = starting_number xs (suc h)
-
-starting_bases : (homes : List Home) → bases_in (map (λ (home : Home). record { base = base_number home.base; objects = 0 }) homes) ≡ map (λ (home : Home). base_number home.base) homes
-starting_bases [] = refl
-starting_bases (x ∷ xs) = ap (λ bs. base_number x.base ∷ bs) (starting_bases xs)
+starting_number : (n h : ℕ) → number_at (replicate n 0) h ≡ 0
+starting_number n zero = refl
+starting_number zero (suc h) = refl
+starting_number (suc n) (suc zero) = refl
+starting_number (suc n) (suc (suc h)) = starting_number n (suc h)
 
 pub nothing_kept :
     (S : Schema) → IsSoundSchema S → (homes : Parts) → homes.families ≡ bases_of S → homes.rows.chunks.entries ≡ [] → homes.total ≡ 0 → homes.objects ≡ 0
     → ((h s : ℕ) → is_held_in homes.extents.items h s ≡ false) → length homes.extents.items ≡ length S.homes
-    → homes.counts.items ≡ map (λ home. record { base = base_number home.base; objects = 0 }) S.homes
+    → homes.counts.items ≡ replicate (length S.homes) 0
     → ((key : ℕ) (bytes : List ℕ) → found_at homes.keys.entries key bytes ≡ None) → IsKept S empty homes
 nothing_kept S sound homes families rows sum_is number held size counts found = record {
   sound = sound;
@@ -57,8 +52,8 @@ nothing_kept S sound homes families rows sum_is number held size counts found = 
   count_is = number ∙ ap length (sym no_entries);
   extents = λ h s. held h s ∙ ap (is_object_of h) (sym (get-empty nat_cmp s));
   extents_size = size;
-  counts = λ home. ap (λ l. number_at l home.0) counts ∙ starting_number S.homes home.0 ∙ ap (λ es. length (map pid_of (filter (λ e. is_of S home e.1) es))) (sym no_entries);
-  bases = ap bases_in counts ∙ starting_bases S.homes;
+  counts = λ home. ap (λ l. number_at l home) counts ∙ starting_number (length S.homes) home ∙ ap (λ es. length (map pid_of (filter (λ e. is_own home e.1) es))) (sym no_entries);
+  counts_size = ap length counts ∙ length-replicate (length S.homes) 0;
   keys = λ key bytes s. (λ at. absurd (let no : None ≡ Some s = sym (found key.0 bytes) ∙ at in cc), λ holder. absurd (let no : None ≡ Some holder.0 = sym (get-empty nat_cmp s) ∙ holder.1 in cc));
 }
 

@@ -6,7 +6,6 @@ use Rattle.std.specs.FinMap.{get, insert, remove, entries, same_map, nat_cmp-IsA
 use Rattle.type_layout.specs.declared.home.HomeNo.{HomeNo}
 use Rattle.type_layout.specs.declared.key.KeyNo.{KeyNo}
 use Rattle.type_layout.specs.declared.schema.Schema.{Schema}
-use Rattle.type_layout.specs.Schemas.{descends}
 use Rattle.pss_catalog.specs.Catalog.{Object, Catalog, object_spelling, pids_where, total, IsUnique}
 use Rattle.pss_catalog.specs.Changes.{Change as Step, over, with_state}
 use Rattle.storage_home.specs.declared.change.Change.{Change}
@@ -14,9 +13,9 @@ use Rattle.storage_home.specs.declared.rows.Stored.{Stored}
 use Rattle.storage_home.specs.declared.parts.Parts.{Parts}
 use Rattle.storage_home.specs.Rows.{object_at, TurnsObject}
 use Rattle.storage_home.specs.Extents.{is_held_in}
-use Rattle.storage_home.specs.Counts.{bases_in, number_at}
+use Rattle.storage_home.specs.Counts.{number_at}
 use Rattle.storage_home.specs.Indexes.{KeyIndexes, KeepsKeysReserved, TurnsFound, MayPut}
-use Rattle.storage_home.specs.Kept.{most, IsSound, IsKept, stored, is_of, is_object_of}
+use Rattle.storage_home.specs.Kept.{most, IsSound, IsKept, stored, is_own, is_object_of}
 use Rattle.storage_home.specs.Applied.{IsState, AreKeysOf, IsChange, AreChanges, MayApply}
 use Rattle.storage_home.specs.inner.Replacements.{Replaces, ReplacesOne, MayReplace, alone}
 use Rattle.storage_home.proofs.Keeping.{same_or_not, gone, stays, come, others, passing_without, passing_with, number_without, number_with, sum_without, sum_with}
@@ -86,15 +85,12 @@ module _ (homes : Parts) (s : ℕ) (row : Stored) (had has : List (KeyNo × List
 
   -- ---- all
 
-  same_of : (home : HomeNo) → is_of S home may.before ≡ is_of S home may.object
-  same_of home = ap (λ h. descends S h home) may.of_home
-
-  same_count : (home : HomeNo) → length (pids_where (is_of S home) (insert M s may.object)) ≡ length (pids_where (is_of S home) M)
+  same_count : (home : ℕ) → length (pids_where (is_own home) (insert M s may.object)) ≡ length (pids_where (is_own home) M)
   same_count home =
-      let less = passing_without (is_of S home) M s may.before may.there in
-      let more = passing_with (is_of S home) (remove M s) s may.object (gone M s s refl) in
-      let same = ap (λ N. length (pids_where (is_of S home) N)) same_map_after in
-      let one = ap (λ b. cond {A = ℕ} b 1 0) (same_of home) in
+      let less = passing_without (is_own home) M s may.before may.there in
+      let more = passing_with (is_own home) (remove M s) s may.object (gone M s s refl) in
+      let same = ap (λ N. length (pids_where (is_own home) N)) same_map_after in
+      let one = ap (λ (h : HomeNo). cond {A = ℕ} (h.0 == home) 1 0) may.of_home in
       omega (arith, less, more, same, one)
 
   pub kept_replaced :
@@ -122,8 +118,8 @@ module _ (homes : Parts) (s : ℕ) (row : Stored) (had has : List (KeyNo × List
         omega (arith, number, less, more, same, whole));
     extents = λ h t. ap (λ l. is_held_in l h t) extents ∙ may.kept.extents h t ∙ held_at h t (same_or_not t s);
     extents_size = ap length extents ∙ may.kept.extents_size;
-    counts = λ home. ap (λ l. number_at l home.0) counts ∙ may.kept.counts home ∙ sym (same_count home);
-    bases = ap bases_in counts ∙ may.kept.bases;
+    counts = λ home. ap (λ l. number_at l home) counts ∙ may.kept.counts home ∙ sym (same_count home);
+    counts_size = ap length counts ∙ may.kept.counts_size;
     keys = keys_after between new.keys.entries taken put;
   }
     where

@@ -11,7 +11,7 @@ use Rattle.std.specs.Str.{bytes_eq}
 use Rattle.std.specs.FinMap.{get, insert, remove}
 use Rattle.std.specs.BTreeMap.{BTreeMap}
 use Rattle.std.proofs.lemmas.Option.{slice_get_within}
-use Rattle.std.proofs.lemmas.List.{length-map}
+use Rattle.type_layout.specs.declared.home.HomeNo.{HomeNo}
 use Rattle.type_layout.specs.declared.key.KeyNo.{KeyNo}
 use Rattle.type_layout.specs.declared.schema.Schema.{Schema}
 use Rattle.type_layout.specs.Schemas.{given, nth, home_at}
@@ -22,14 +22,13 @@ use Rattle.storage_home.specs.Rows.{object_at, TurnsObject, KeepsObjects}
 use Rattle.storage_home.specs.declared.extents.Block.{Block}
 use Rattle.storage_home.specs.Blocks.{block_at}
 use Rattle.storage_home.specs.Extents.{is_held_at, is_entered_at, is_held_in, is_entered_in, TurnsHeldIn, KeepsHeldIn}
-use Rattle.storage_home.specs.Counts.{bases_in, number_at, AreLower, AreRaised, comes}
+use Rattle.storage_home.specs.Counts.{number_at, IsRaised}
 use Rattle.storage_home.specs.Indexes.{KeyIndexes, found_at, is_key_reserved, lists, is_pair, TurnsFound, MayPut, IsOnce, AreKeysReserved, KeepsFound}
-use Rattle.storage_home.specs.Kept.{most, IsSound, IsKept, stored, is_of, is_object_of}
+use Rattle.storage_home.specs.Kept.{most, IsSound, IsKept, stored, is_own, is_object_of}
 use Rattle.storage_home.specs.Applied.{AreKeysOf}
 use Rattle.storage_home.specs.inner.Steps.{MayPutObject}
 use Rattle.storage_home.proofs.Places.{by_test}
 use Rattle.storage_home.proofs.Marking.{held_enters}
-use Rattle.storage_home.proofs.Descending.{lower_bases, as_many_bases, comes_is}
 use Rattle.storage_home.proofs.Keeping.{was_there, come, others, same_or_not, passing_without, passing_with, number_without, number_with, sum_without, sum_with, fewer, fewer_pass}
 use Rattle.storage_home.proofs.Following.{KeysAre, rows_without, rows_with, extents_without, extents_with, keys_without, keys_with}
 
@@ -49,12 +48,6 @@ held_entered extents h s held = by (nth extents h) held
     by (Some e) is = held_enters (block_at (s / 64) e.entries) (s % 64) is
 
 module _ (S : Schema) (M : Catalog) (homes : Parts) (kept : IsKept S M homes) where
-  pub lower_kept : AreLower (bases_in homes.counts.items)
-  lower_kept = subst AreLower (sym kept.bases) (lower_bases S kept.sound)
-
-  as_many_counts : length homes.counts.items ≡ length S.homes
-  as_many_counts = sym (length-map homes.counts.items (λ c. c.base)) ∙ ap length kept.bases ∙ as_many_bases S kept.sound
-
   -- the object behind a row
   pub object_behind : (s : ℕ) (row : Stored) → object_at s homes.rows.chunks.entries ≡ Some row → (object : Object) × (get M s ≡ Some object) × (row ≡ stored S object)
   object_behind s row is = by (get M s) refl (sym (kept.objects s) ∙ is)
@@ -70,12 +63,8 @@ module _ (S : Schema) (M : Catalog) (homes : Parts) (kept : IsKept S M homes) wh
       by None there e = there
       by (Some object) there e = cc
 
-  module _ (object : Object) (there : IsSome (home_at S object.home)) where
-    pub home_within : object.home.0 ≤ length homes.counts.items
-    home_within = subst (λ (n : ℕ). object.home.0 ≤ n) (sym as_many_counts) (some_there S.homes object.home.0 there).1
-
-    pub comes_one : (to : ℕ) → comes (bases_in homes.counts.items) object.home.0 to ≡ cond (is_of S (record { 0 = to }) object) 1 0
-    comes_one to = ap (λ b. comes b object.home.0 to) kept.bases ∙ comes_is S kept.sound (record { 0 = to }) object.home (some_there S.homes object.home.0 there).0 (some_there S.homes object.home.0 there).1
+  pub home_within : (home : HomeNo) → IsSome (home_at S home) → home.0 ≤ length homes.counts.items
+  home_within home there = subst (λ (n : ℕ). home.0 ≤ n) (sym kept.counts_size) (some_there S.homes home.0 there).1
 
   -- ---- taking
 
@@ -86,12 +75,12 @@ module _ (S : Schema) (M : Catalog) (homes : Parts) (kept : IsKept S M homes) wh
     pub one_there : 1 ≤ homes.objects
     one_there = let sum = number_without M s object is in let whole = kept.count_is in omega (arith, sum, whole)
 
-    pub some_counted : (to : ℕ) → comes (bases_in homes.counts.items) object.home.0 to ≤ number_at homes.counts.items to
-    some_counted to =
-        let comes_is = comes_one object (kept.each s object is).0 to in
-        let number = kept.counts (record { 0 = to }) in
-        let less = passing_without (is_of S (record { 0 = to })) M s object is in
-        omega (arith, comes_is, number, less)
+    pub own_counted : 0 < number_at homes.counts.items object.home.0
+    own_counted =
+        let number = kept.counts object.home.0 in
+        let less = passing_without (is_own object.home.0) M s object is in
+        let own = ap (λ b. cond {A = ℕ} b 1 0) (eq-eqb object.home.0 object.home.0 refl) in
+        omega (arith, number, less, own)
 
     pub entered_there : is_entered_in homes.extents.items object.home.0 s ≡ true
     entered_there = held_entered homes.extents.items object.home.0 s (kept.extents object.home.0 s ∙ ap (is_object_of object.home.0) is ∙ grind arith)
@@ -101,10 +90,10 @@ module _ (S : Schema) (M : Catalog) (homes : Parts) (kept : IsKept S M homes) wh
         (new : Parts) (pairs : List (KeyNo × List ℕ)) → AreKeysOf S (Some object) pairs → new.families ≡ homes.families → TurnsObject homes.rows.chunks.entries new.rows.chunks.entries s None
         → new.total ≡ homes.total - weight S object → new.objects ≡ homes.objects - 1
         → TurnsHeldIn homes.extents.items new.extents.items object.home.0 s false → length new.extents.items ≡ length homes.extents.items
-        → AreRaised new.counts.items homes.counts.items object.home.0 → bases_in new.counts.items ≡ bases_in homes.counts.items
+        → IsRaised new.counts.items homes.counts.items object.home.0 → length new.counts.items ≡ length homes.counts.items
         → TurnsFound homes.keys.entries new.keys.entries pairs None
         → IsKept S (remove M s) new
-    kept_without new pairs keys families rows sum number held size counted bases found = record {
+    kept_without new pairs keys families rows sum number held size counted long found = record {
       sound = kept.sound;
       each = λ t x found. kept.each t x (was_there M s t x found).0;
       families = families ∙ kept.families;
@@ -116,11 +105,10 @@ module _ (S : Schema) (M : Catalog) (homes : Parts) (kept : IsKept S M homes) wh
       extents_size = size ∙ kept.extents_size;
       counts = λ home. (
           let before = kept.counts home in
-          let less = passing_without (is_of S home) M s object is in
-          let change = counted home.0 in
-          let one_is = ap (λ b. comes b object.home.0 home.0) bases ∙ comes_one object (kept.each s object is).0 home.0 in
-          omega (arith, before, less, change, one_is));
-      bases = bases ∙ kept.bases;
+          let less = passing_without (is_own home) M s object is in
+          let change = counted home in
+          omega (arith, before, less, change));
+      counts_size = long ∙ kept.counts_size;
       keys = keys_without S M s object is pairs keys.listed _ new.keys.entries kept.keys found;
     }
 
@@ -137,24 +125,23 @@ module _ (S : Schema) (M : Catalog) (homes : Parts) (kept : IsKept S M homes) wh
         let less = fewer S (insert M s object) in
         omega (arith, more, whole, less, bounded)
 
-    pub counts_fit : (to : ℕ) → number_at homes.counts.items to + comes (bases_in homes.counts.items) object.home.0 to ≤ most
-    counts_fit to =
-        let comes_is = comes_one object is_sound.0 to in
-        let number = kept.counts (record { 0 = to }) in
-        let more = passing_with (is_of S (record { 0 = to })) M s object none in
-        let pass = fewer_pass (is_of S (record { 0 = to })) (insert M s object) in
+    pub counts_fit : number_at homes.counts.items object.home.0 < most
+    counts_fit =
+        let number = kept.counts object.home.0 in
+        let pass = fewer_pass (is_own object.home.0) M in
+        let more = number_with M s object none in
         let less = fewer S (insert M s object) in
-        omega (arith, comes_is, number, more, pass, less, bounded)
+        omega (arith, number, pass, more, less, bounded)
 
     -- the object is there, and all else is as it was
     pub kept_with :
         (new : Parts) (pairs : List (KeyNo × List ℕ)) → AreKeysOf S (Some object) pairs → IsUnique S (insert M s object) → new.families ≡ homes.families → TurnsObject homes.rows.chunks.entries new.rows.chunks.entries s (Some (stored S object))
         → new.total ≡ homes.total + weight S object → new.objects ≡ homes.objects + 1
         → TurnsHeldIn homes.extents.items new.extents.items object.home.0 s true → length new.extents.items ≡ length homes.extents.items
-        → AreRaised homes.counts.items new.counts.items object.home.0 → bases_in new.counts.items ≡ bases_in homes.counts.items
+        → IsRaised homes.counts.items new.counts.items object.home.0 → length new.counts.items ≡ length homes.counts.items
         → TurnsFound homes.keys.entries new.keys.entries pairs (Some s)
         → IsKept S (insert M s object) new
-    kept_with new pairs keys unique families rows sum number held size counted bases found = record {
+    kept_with new pairs keys unique families rows sum number held size counted long found = record {
       sound = kept.sound;
       each = λ t x found. by t x found (same_or_not t s);
       families = families ∙ kept.families;
@@ -166,11 +153,10 @@ module _ (S : Schema) (M : Catalog) (homes : Parts) (kept : IsKept S M homes) wh
       extents_size = size ∙ kept.extents_size;
       counts = λ home. (
           let before = kept.counts home in
-          let more = passing_with (is_of S home) M s object none in
-          let change = counted home.0 in
-          let one_is = comes_one object is_sound.0 home.0 in
-          omega (arith, before, more, change, one_is));
-      bases = bases ∙ kept.bases;
+          let more = passing_with (is_own home) M s object none in
+          let change = counted home in
+          omega (arith, before, more, change));
+      counts_size = long ∙ kept.counts_size;
       keys = keys_with S M s object none unique pairs keys.listed _ new.keys.entries kept.keys found;
     }
       where
@@ -223,10 +209,10 @@ module _ (S : Schema) (M : Catalog) (homes : Parts) (kept : IsKept S M homes) (s
   row_counts = one_there S M homes kept s behind.0 behind.1
 
   pub row_home : row.home.0 ≤ length homes.counts.items
-  row_home = subst (λ (r : Stored). r.home.0 ≤ length homes.counts.items) (sym behind.2) (home_within S M homes kept behind.0 (kept.each s behind.0 behind.1).0)
+  row_home = subst (λ (r : Stored). r.home.0 ≤ length homes.counts.items) (sym behind.2) (home_within S M homes kept behind.0.home (kept.each s behind.0 behind.1).0)
 
-  pub row_counted : (to : ℕ) → comes (bases_in homes.counts.items) row.home.0 to ≤ number_at homes.counts.items to
-  row_counted to = subst (λ (r : Stored). comes (bases_in homes.counts.items) r.home.0 to ≤ number_at homes.counts.items to) (sym behind.2) (some_counted S M homes kept s behind.0 behind.1 to)
+  pub row_counted : 0 < number_at homes.counts.items row.home.0
+  row_counted = subst (λ (r : Stored). 0 < number_at homes.counts.items r.home.0) (sym behind.2) (own_counted S M homes kept s behind.0 behind.1)
 
   pub row_entered : is_entered_in homes.extents.items row.home.0 s ≡ true
   row_entered = subst (λ (r : Stored). is_entered_in homes.extents.items r.home.0 s ≡ true) (sym behind.2) (entered_there S M homes kept s behind.0 behind.1)
@@ -235,14 +221,14 @@ module _ (S : Schema) (M : Catalog) (homes : Parts) (kept : IsKept S M homes) (s
       (new : Parts) (pairs : List (KeyNo × List ℕ)) → AreKeysOf S (get M s) pairs → new.families ≡ homes.families → TurnsObject homes.rows.chunks.entries new.rows.chunks.entries s None
       → new.total ≡ homes.total - (16 + length row.bytes) → new.objects ≡ homes.objects - 1
       → TurnsHeldIn homes.extents.items new.extents.items row.home.0 s false → length new.extents.items ≡ length homes.extents.items
-      → AreRaised new.counts.items homes.counts.items row.home.0 → bases_in new.counts.items ≡ bases_in homes.counts.items
+      → IsRaised new.counts.items homes.counts.items row.home.0 → length new.counts.items ≡ length homes.counts.items
       → TurnsFound homes.keys.entries new.keys.entries pairs None
       → IsKept S (remove M s) new
-  row_without new pairs keys families rows sum number held size counted bases found =
+  row_without new pairs keys families rows sum number held size counted long found =
       kept_without S M homes kept s behind.0 behind.1 new pairs (subst (λ o. AreKeysOf S o pairs) behind.1 keys) families rows
       (sum ∙ ap (λ (r : Stored). homes.total - (16 + length r.bytes)) behind.2) number
       (subst (λ (r : Stored). TurnsHeldIn homes.extents.items new.extents.items r.home.0 s false) behind.2 held) size
-      (subst (λ (r : Stored). AreRaised new.counts.items homes.counts.items r.home.0) behind.2 counted) bases found
+      (subst (λ (r : Stored). IsRaised new.counts.items homes.counts.items r.home.0) behind.2 counted) long found
 
 -- ---- an object that is put
 
@@ -253,11 +239,14 @@ module _ (homes : Parts) (s : ℕ) (row : Stored) (pairs : List (KeyNo × List �
   pub row_number_fits : homes.objects + 1 ≤ most
   row_number_fits = number_fits may.schema may.catalog homes may.kept s may.object may.none may.is_sound may.bounded
 
-  pub row_home_there : row.home.0 ≤ length homes.counts.items
-  row_home_there = subst (λ (r : Stored). r.home.0 ≤ length homes.counts.items) (sym may.is) (home_within may.schema may.catalog homes may.kept may.object may.is_sound.0)
+  pub row_home_some : 0 < row.home.0
+  row_home_some = subst (λ (r : Stored). 0 < r.home.0) (sym may.is) (some_there may.schema.homes may.object.home.0 may.is_sound.0).0
 
-  pub row_counts_fit : (to : ℕ) → number_at homes.counts.items to + comes (bases_in homes.counts.items) row.home.0 to ≤ most
-  row_counts_fit to = subst (λ (r : Stored). number_at homes.counts.items to + comes (bases_in homes.counts.items) r.home.0 to ≤ most) (sym may.is) (counts_fit may.schema may.catalog homes may.kept s may.object may.none may.is_sound may.bounded to)
+  pub row_home_there : row.home.0 ≤ length homes.counts.items
+  row_home_there = subst (λ (r : Stored). r.home.0 ≤ length homes.counts.items) (sym may.is) (home_within may.schema may.catalog homes may.kept may.object.home may.is_sound.0)
+
+  pub row_counts_fit : number_at homes.counts.items row.home.0 < most
+  row_counts_fit = subst (λ (r : Stored). number_at homes.counts.items r.home.0 < most) (sym may.is) (counts_fit may.schema may.catalog homes may.kept s may.object may.none may.is_sound may.bounded)
 
   pub may_put_row : MayPut homes.keys.entries pairs
   may_put_row = may_put_keys may.schema may.catalog homes.keys.entries may.kept.keys s may.object may.none may.unique pairs may.keys may.keys_reserved
@@ -266,15 +255,15 @@ module _ (homes : Parts) (s : ℕ) (row : Stored) (pairs : List (KeyNo × List �
       (new : Parts) → new.families ≡ homes.families → TurnsObject homes.rows.chunks.entries new.rows.chunks.entries s (Some row)
       → new.total ≡ homes.total + (16 + length row.bytes) → new.objects ≡ homes.objects + 1
       → TurnsHeldIn homes.extents.items new.extents.items row.home.0 s true → length new.extents.items ≡ length homes.extents.items
-      → AreRaised homes.counts.items new.counts.items row.home.0 → bases_in new.counts.items ≡ bases_in homes.counts.items
+      → IsRaised homes.counts.items new.counts.items row.home.0 → length new.counts.items ≡ length homes.counts.items
       → TurnsFound homes.keys.entries new.keys.entries pairs (Some s)
       → IsKept may.schema (insert may.catalog s may.object) new
-  row_with new families rows sum number held size counted bases found =
+  row_with new families rows sum number held size counted long found =
       kept_with may.schema may.catalog homes may.kept s may.object may.none may.is_sound may.bounded new pairs may.keys may.unique families
       (subst (λ (r : Stored). TurnsObject homes.rows.chunks.entries new.rows.chunks.entries s (Some r)) may.is rows)
       (sum ∙ ap (λ (r : Stored). homes.total + (16 + length r.bytes)) may.is) number
       (subst (λ (r : Stored). TurnsHeldIn homes.extents.items new.extents.items r.home.0 s true) may.is held) size
-      (subst (λ (r : Stored). AreRaised homes.counts.items new.counts.items r.home.0) may.is counted) bases found
+      (subst (λ (r : Stored). IsRaised homes.counts.items new.counts.items r.home.0) may.is counted) long found
 
 -- what was lent as a slice and came back as long
 pub lent_items : {X Z : Type 0} (v : Vec X Z) (old new : List X) → old ≡ v.items → length new ≡ length old → (with_items v new).items ≡ new
@@ -297,7 +286,7 @@ kept_same S M old new families rows sum number held size counts found kept = rec
   count_is = number ∙ kept.count_is;
   extents = λ h s. held h s ∙ kept.extents h s;
   extents_size = size ∙ kept.extents_size;
-  counts = λ home. ap (λ l. number_at l home.0) counts ∙ kept.counts home;
-  bases = ap bases_in counts ∙ kept.bases;
+  counts = λ home. ap (λ l. number_at l home) counts ∙ kept.counts home;
+  counts_size = ap length counts ∙ kept.counts_size;
   keys = λ key bytes s. (λ at. (kept.keys key bytes s).0 (sym (found key.0 bytes) ∙ at), λ holder. found key.0 bytes ∙ (kept.keys key bytes s).1 holder);
 }

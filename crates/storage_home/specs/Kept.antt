@@ -14,7 +14,7 @@ use Rattle.storage_home.specs.declared.rows.Stored.{Stored}
 use Rattle.storage_home.specs.declared.parts.Parts.{Parts}
 use Rattle.storage_home.specs.Rows.{object_at, is_reserved_at}
 use Rattle.storage_home.specs.Extents.{is_held_in, is_entered_in}
-use Rattle.storage_home.specs.Counts.{bases_in, number_at}
+use Rattle.storage_home.specs.Counts.{number_at}
 use Rattle.storage_home.specs.Indexes.{found_at}
 
 -- the greatest sum that is kept
@@ -33,16 +33,20 @@ stored S object = record { home = object.home; bytes = object_spelling S object 
 abbrev pub is_of : Schema → HomeNo → Object → Bool
 is_of S home object = descends S object.home home
 
+-- an object is of a home itself
+abbrev pub is_own : ℕ → Object → Bool
+is_own home object = object.home.0 == home
+
 -- the object with this serial holds the key with these bytes
 abbrev pub IsHolder : Schema → Catalog → KeyNo → List ℕ → ℕ → Type 0
 IsHolder S M key bytes serial = (object : Object) × (get M serial ≡ Some object) × (holds S key bytes object ≡ true)
 
 -- an object is there, and is of this home
 abbrev pub is_object_of : ℕ → Option Object → Bool
-is_object_of home object = given object false (λ o. o.home.0 == home)
+is_object_of home object = given object false (is_own home)
 
 -- these homes keep the catalog: each object with the octets of its record, the sum and the number of all, for each home its
--- own objects by serial and how many there are with those of its heirs, and for each key its holders
+-- own objects by serial and how many they are, and for each key its holders
 pub record IsKept (S : Schema) (M : Catalog) (homes : Parts) : Type 0 where
   pub sound : IsSoundSchema S
   pub each : EachObject M (λ serial object. IsSound S object)
@@ -53,8 +57,8 @@ pub record IsKept (S : Schema) (M : Catalog) (homes : Parts) : Type 0 where
   pub count_is : homes.objects ≡ length (entries M)
   pub extents : (home serial : ℕ) → is_held_in homes.extents.items home serial ≡ is_object_of home (get M serial)
   pub extents_size : length homes.extents.items ≡ length S.homes
-  pub counts : (home : HomeNo) → number_at homes.counts.items home.0 ≡ length (pids_where (is_of S home) M)
-  pub bases : bases_in homes.counts.items ≡ bases_of S
+  pub counts : (home : ℕ) → number_at homes.counts.items home ≡ length (pids_where (is_own home) M)
+  pub counts_size : length homes.counts.items ≡ length S.homes
   pub keys : (key : KeyNo) (bytes : List ℕ) (serial : ℕ) → (found_at homes.keys.entries key.0 bytes ≡ Some serial) ↔ IsHolder S M key bytes serial
 
 -- room is kept for an object of this home with this serial

@@ -21,7 +21,7 @@ use pss_base::{Bytes, Put};
 use type_layout::{HomeNo, KeyNo};
 
 impl Homes {
-    /// Makes changes for which all is reserved. It takes no memory, and time in the changes and in the bases of their homes.
+    /// Makes changes for which all is reserved. It takes no memory, and time in the changes.
     ///
     /// The changes tell the keys that each object held before and holds afterwards. They leave keys unique, and the sum over
     /// the objects of 16 and the length of the record at most 2^64 - 1.

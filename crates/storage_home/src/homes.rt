@@ -7,7 +7,7 @@ ghost use Rattle.pss_catalog.specs.Catalog.{object_spelling, holders, pids_where
 ghost use Rattle.pss_catalog.specs.Families.{bases_of};
 ghost use Rattle.storage_home.specs.Kept.{Keeping, is_of};
 
-use crate::counts::count_of;
+use crate::counts::sum_of;
 use crate::indexes::find;
 use crate::parts::Parts;
 use crate::rows::object_of;
@@ -75,13 +75,13 @@ impl Homes {
         self.parts.objects
     }
 
-    /// The number of the objects of a home and of the homes that derive from it, 0 where the home is not there. It is
-    /// kept, and read off.
+    /// The number of the objects of a home and of the homes that derive from it, 0 where the home is not there. It takes
+    /// time in the number of these homes.
     pub fn count(&self, home: HomeNo) -> u64
         ensures objects { Keeping self.now (λ S M. result ≡ length (pids_where (is_of S home) M)) }
         ensures few { result < 2 ^ 60 }
     {
-        count_of(&self.parts.counts, home)
+        sum_of(&self.parts.counts, self.parts.families.heirs(home))
     }
 
     /// Which homes derive from which.

@@ -12,10 +12,10 @@ ghost use Rattle.storage_home.specs.Extents.{is_held_in};
 
 use crate::extents::Extent;
 use crate::homes::Homes;
+use crate::indexes;
 use crate::keys::keys_of_octets;
 use crate::parts::Parts;
 use crate::rows::{self, Stored};
-use crate::{counts, indexes};
 use pss_base::{Bytes, NoMemory, Put, Puts};
 use pss_catalog::Families;
 use std::alloc::Global;
@@ -96,7 +96,7 @@ fn none(alloc: Global, schema: &Schema) -> Result<Parts, NoMemory>
         total: 0,
         objects: 0,
         extents: no_extents(alloc, homes.len())?,
-        counts: counts::none(alloc, homes)?,
+        counts: vec![in alloc; 0; homes.len()]?,
         keys: indexes::none(alloc),
     })
 }

@@ -1,12 +1,11 @@
 // What is kept of the objects of a store.
-use crate::counts::Count;
 use crate::extents::Extent;
 use crate::indexes::KeyIndexes;
 use crate::rows::Rows;
 use pss_catalog::Families;
 use std::alloc::Global;
 
-/// Objects by serial, their sum and their number, the serials of each home and how many there are, and the holders of keys.
+/// Objects by serial, their sum and their number, the serials of each home and how many they are, and the holders of keys.
 #[derive(Drop)]
 pub struct Parts {
     pub alloc: Global,
@@ -18,6 +17,7 @@ pub struct Parts {
     pub objects: u64,
     /// For each home, from number 1.
     pub extents: Vec<Extent>,
-    pub counts: Vec<Count>,
+    /// The number of each home's own objects, from number 1.
+    pub counts: Vec<u64>,
     pub keys: KeyIndexes,
 }

@@ -1,11 +1,10 @@
-use Rattle.std.proofs.Common.{ℕ, ◌+◌, ◌-◌, ◌≡◌, ◌≤◌, List, true, false, length, refl, sym, ap, subst, ◌∙◌}
+use Rattle.std.proofs.Common.{ℕ, ◌+◌, ◌-◌, ◌≡◌, ◌<◌, ◌≤◌, List, true, false, length, refl, sym, ap, subst, ◌∙◌}
 use Rattle.std.specs.Vec.{with_items}
-use Rattle.storage_home.specs.declared.counts.Count.{Count}
 use Rattle.storage_home.specs.Extents.{is_entered_in, TurnsHeldIn}
-use Rattle.storage_home.specs.Counts.{bases_in, number_at, AreLower, AreRaised, comes}
+use Rattle.storage_home.specs.Counts.{number_at, IsRaised}
 use Rattle.storage_home.specs.Kept.{IsKept}
 use Rattle.storage_home.proofs.Keeping.{without_none}
-use Rattle.storage_home.proofs.Taking.{lent_items, nothing_behind, lower_kept, row_weighs, row_counts, row_home, row_counted, row_entered, row_without}
+use Rattle.storage_home.proofs.Taking.{lent_items, nothing_behind, row_weighs, row_counts, row_home, row_counted, row_entered, row_without}
 use Rattle.storage_home.proofs.parts.Parts.take_object.Goals as goal
 
 pub returns-in_default-clause-kept : goal.returns-in_default-clause-kept
@@ -20,16 +19,13 @@ overflow_sub-self c =
 pub overflow_sub-self-2 : goal.overflow_sub-self-2
 overflow_sub-self-2 c = row_counts c.requires.schema c.requires.catalog c.args.self.now c.requires.kept c.args.serial c.in-Some.object.now (sym c.in-Some.ensures)
 
-pub lower-requires-clause-lower : goal.lower-requires-clause-lower
-lower-requires-clause-lower c = subst (λ l. AreLower (bases_in l)) (sym c.deref_mut.ensures.value) (lower_kept c.requires.schema c.requires.catalog c.args.self.now c.requires.kept)
-
 pub lower-requires-clause-there : goal.lower-requires-clause-there
 lower-requires-clause-there c =
-    subst (λ (l : List Count). c.in-Some.object.now.home.0 ≤ length l) (sym c.deref_mut.ensures.value) (row_home c.requires.schema c.requires.catalog c.args.self.now c.requires.kept c.args.serial c.in-Some.object.now (sym c.in-Some.ensures))
+    subst (λ (l : List ℕ). c.in-Some.object.now.home.0 ≤ length l) (sym c.deref_mut.ensures.value) (row_home c.requires.schema c.requires.catalog c.args.self.now c.requires.kept c.args.serial c.in-Some.object.now (sym c.in-Some.ensures))
 
 pub lower-requires-clause-some : goal.lower-requires-clause-some
-lower-requires-clause-some c to =
-    subst (λ l. comes (bases_in l) c.in-Some.object.now.home.0 to ≤ number_at l to) (sym c.deref_mut.ensures.value) (row_counted c.requires.schema c.requires.catalog c.args.self.now c.requires.kept c.args.serial c.in-Some.object.now (sym c.in-Some.ensures) to)
+lower-requires-clause-some c =
+    subst (λ l. 0 < number_at l c.in-Some.object.now.home.0) (sym c.deref_mut.ensures.value) (row_counted c.requires.schema c.requires.catalog c.args.self.now c.requires.kept c.args.serial c.in-Some.object.now (sym c.in-Some.ensures))
 
 pub release_in-requires : goal.release_in-requires
 release_in-requires c =
@@ -45,6 +41,6 @@ returns-clause-kept c m =
     (ap (λ (b : List ℕ). c.args.self.now.total - (16 + length b)) c.as_slice.ensures) refl
     (subst (λ l. TurnsHeldIn c.args.self.now.extents.items l c.in-Some.object.now.home.0 c.args.serial false) (sym extents) (subst (λ l. TurnsHeldIn l c.release_in.new.extents c.in-Some.object.now.home.0 c.args.serial false) c.deref_mut-2.ensures.value c.release_in.ensures.held))
     (ap length extents ∙ c.release_in.ensures.size ∙ ap length c.deref_mut-2.ensures.value)
-    (subst (λ l. AreRaised l c.args.self.now.counts.items c.in-Some.object.now.home.0) (sym counts) (subst (λ l. AreRaised c.lower.new.counts l c.in-Some.object.now.home.0) c.deref_mut.ensures.value c.lower.ensures.lowered))
-    (ap bases_in counts ∙ c.lower.ensures.bases ∙ ap bases_in c.deref_mut.ensures.value)
+    (subst (λ l. IsRaised l c.args.self.now.counts.items c.in-Some.object.now.home.0) (sym counts) (subst (λ l. IsRaised c.lower.new.counts l c.in-Some.object.now.home.0) c.deref_mut.ensures.value c.lower.ensures))
+    (ap length counts ∙ c.lower.auto.counts ∙ ap length c.deref_mut.ensures.value)
     c.take_all.ensures.found

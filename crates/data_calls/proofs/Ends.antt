@@ -1,6 +1,6 @@
 -- From the steps that were taken to the replies.
 use Rattle.std.proofs.Common.{arith, ◌≡◌, ℕ, ◌==◌, false, List, Option, Some, None, refl, sym, ap, ◌∙◌, subst, inl, inr}
-use Rattle.std.specs.Prelude.{◌⊎◌, IsSomeAnd, unwrap_or}
+use Rattle.std.specs.Prelude.{◌⊎◌, IsSomeAnd, IfSome, unwrap_or}
 use Rattle.std.specs.List.{slice_get}
 use Rattle.std.specs.FinMap.{get}
 use Rattle.pss_base.specs.declared.pid.Pid.{Pid}
@@ -12,7 +12,8 @@ use Rattle.type_layout.specs.Schemas.{given, members_at}
 use Rattle.pss_catalog.specs.Catalog.{Catalog}
 use Rattle.pss_machine.specs.declared.limits.Limits.{Limits}
 use Rattle.pss_machine.specs.declared.reply.Reply.{Reply}
-use Rattle.pss_machine.specs.Operations.{FindKey, FindPid, FindShort, Exists, Get, Follow, Count, ListOf, PlainOp, Create, Set, Destroy, Ask, PlainAnswer, Val, Busy}
+use Rattle.pss_machine.specs.declared.reply.Reply.TheVariants as reply
+use Rattle.pss_machine.specs.Operations.{Question, FindKey, FindPid, FindShort, Exists, Get, Follow, Count, ListOf, PlainOp, Create, Set, Destroy, Ask, PlainAnswer, Done, Found, IsThere, Val, Number, Listing, NotFound, Gone, Nil, Duplicate, TooLarge, Busy}
 use Rattle.pss_machine.specs.Homes.{home_of}
 use Rattle.pss_machine.specs.Alone.{followed, alone}
 use Rattle.pss_machine.specs.Owners.{view, Step, step_on_view}
@@ -20,7 +21,7 @@ use Rattle.pss_machine.specs.Copies.{Copied, Entry, Copies, no_copies, entry_num
 use Rattle.pss_machine.specs.Kept.{Kept, copies_of}
 use Rattle.pss_machine.specs.Asking.{Asked}
 use Rattle.pss_machine.specs.Effects.{Decision}
-use Rattle.pss_machine.specs.Stepping.{told_by_copy, step_on_copy, step_of, reply_to}
+use Rattle.pss_machine.specs.Stepping.{told_by_copy, step_on_copy, step_of, value_text, reply_to}
 use Rattle.pss_machine.specs.Moving.{moved}
 use Rattle.pss_machine.proofs.Refusing.{is_busy, alone_free}
 use Rattle.pss_machine.proofs.Logic.{none_some, same_some, true_false}
@@ -32,12 +33,12 @@ use Rattle.connector_parts.specs.declared.parts.Parts.{Parts}
 use Rattle.connector_parts.specs.Stands.{Stands}
 use Rattle.data_calls.specs.declared.acting.Acting.{Acting}
 use Rattle.data_calls.specs.Asking.{IsStep, after, object_in, Takes, Follows}
-use Rattle.data_calls.specs.Ways.{IsOnWay, MayName, MayFind, IsFoundNow}
+use Rattle.data_calls.specs.Ways.{IsOnWay, HasValues, MayName, MayFind, IsFoundNow}
 use Rattle.data_calls.specs.Leaving.{MayLeave, IsLeft}
 use Rattle.data_calls.specs.Replying.{MayPrint, CanReply, MayReply}
-use Rattle.data_calls.specs.Finishing.{AnyTaken, AreSeated, IsFinished}
+use Rattle.data_calls.specs.Finishing.{AnyTaken, AreSeated, IsFinished, made_in, without_record, asked_without}
 use Rattle.data_calls.proofs.Steps.{OfMember, IsOnCopy, either}
-use Rattle.data_calls.proofs.Named.{acting_after, can_name}
+use Rattle.data_calls.proofs.Named.{acting_after, made_seen, can_name}
 use Rattle.data_calls.proofs.Obtained.{named_now, found_same, can_find, stands_after}
 use Rattle.data_calls.proofs.Printing.{IsRecordOf, copies_are_records, value_in, told_value}
 
@@ -139,6 +140,34 @@ module _ {S : Schema} {limits : Limits} {k : Kept} {acting : Acting} {asked : As
           let read : slice_get is.2.values i ≡ Some value = copy_value (view k.catalog t.is.owner) is.2.values p i value (ap (told_by_copy (view k.catalog t.is.owner) is.2.values) (sym op) ∙ is.2.told ∙ ap Some (sym (of_copy is.0 is.1) ∙ told)) in
           value_in S p is.2.values i value (record_copied p (ap object_in op) is.2.values copied.0 copied.1 copied.2) read member at
 
+-- ---- a reply asks nothing of a record
+
+asks_same : (op : PlainOp) (question : Question) → without_record op ≡ Ask question → op ≡ Ask question
+asks_same (Create serial object) question is = absurd (cc)
+asks_same (Set p member value) question is = is
+asks_same (Destroy p) question is = is
+asks_same (Ask other) question is = is
+
+text_same : (S : Schema) (op : PlainOp) (v : PlainValue) → value_text S (without_record op) v ≡ value_text S op v
+text_same S (Create serial object) v = refl
+text_same S (Set p member value) v = refl
+text_same S (Destroy p) v = refl
+text_same S (Ask question) v = refl
+
+reply_same : (S : Schema) (k : Kept) (copies : Copies) (asked : Asked) (answer : PlainAnswer) → reply_to S k copies (asked_without asked) answer ≡ reply_to S k copies asked answer
+reply_same S k copies asked (Val v) = ap reply.Val (text_same S asked.op v)
+reply_same S k copies asked Done = refl
+reply_same S k copies asked (Found p) = refl
+reply_same S k copies asked (IsThere b) = refl
+reply_same S k copies asked (Number n) = refl
+reply_same S k copies asked (Listing n first) = refl
+reply_same S k copies asked NotFound = refl
+reply_same S k copies asked (Gone p) = refl
+reply_same S k copies asked Nil = refl
+reply_same S k copies asked (Duplicate key) = refl
+reply_same S k copies asked TooLarge = refl
+reply_same S k copies asked (Busy n) = refl
+
 -- ---- the way to its reply
 
 module _ {c : Parts} {acting : Acting} {asked : Asked} {answer : PlainAnswer} (m : AnyTaken c acting asked answer) where
@@ -153,22 +182,25 @@ module _ {c : Parts} {acting : Acting} {asked : Asked} {answer : PlainAnswer} (m
   }
 
   -- and the entry that is named has its place
-  abbrev pub may_find : (named : Parts) → IsOnWay m.schema m.limits named (after m.taken.step) (named_now m.taken.step) → MayFind named acting asked.obtains answer
-  may_find named way = record {
-    on = record { schema = m.schema; limits = m.limits; to = after m.taken.step; now = named_now m.taken.step; way = way; is = acting_after m.taken.step };
-    can = can_find m.taken.step;
-  }
+  module _ (named : Parts) (way : IsOnWay m.schema m.limits named (after m.taken.step) (named_now m.taken.step)) (made : Option (List PlainValue)) (is : made ≡ made_in asked.op) where
+    abbrev pub may_find : MayFind named acting asked.obtains answer made
+    may_find = record {
+      on = record { schema = m.schema; limits = m.limits; to = after m.taken.step; now = named_now m.taken.step; way = way; is = acting_after m.taken.step };
+      can = can_find m.taken.step;
+      made_is = subst (λ (o : Option (List PlainValue)). (p : Pid) → answer ≡ Found p → IfSome o (HasValues (after m.taken.step) acting (acting_after m.taken.step) p)) (sym is) (made_seen m.taken.step);
+    }
 
-  -- so has that of what was found
-  pub are_seated : (named : Parts) (way : IsOnWay m.schema m.limits named (after m.taken.step) (named_now m.taken.step)) (entry : Option ℕ) (new : Parts) → IsFoundNow (may_find named way) entry new → AreSeated m entry new
-  are_seated named way entry new h = record { way = h.1; entry_is = h.0 ∙ found_same m.taken.step asked.obtains answer }
+    -- so has that of what was found
+    pub are_seated : (entry : Option ℕ) (new : Parts) → IsFoundNow may_find entry new → AreSeated m entry new
+    are_seated entry new h = record { way = h.1; entry_is = h.0 ∙ found_same m.taken.step asked.obtains answer }
 
   module _ (entry : Option ℕ) (new : Parts) (s : AreSeated m entry new) where
-    pub can_reply : CanReply m.schema m.kept acting.session asked answer entry
-    can_reply = record { prints = prints m.taken.step; free = calm m.taken.step; entry_is = s.entry_is }
+    pub can_reply : CanReply m.schema m.kept acting.session (asked_without asked) answer entry
+    can_reply = record { prints = λ value told p i member op. prints m.taken.step value told p i member (asks_same asked.op (Get p i) op); free = calm m.taken.step; entry_is = s.entry_is }
 
-    abbrev pub may_reply : MayReply new.schema asked answer entry
-    may_reply = record { kept = m.kept; session = acting.session; can = subst (λ (S : Schema). CanReply S m.kept acting.session asked answer entry) (sym s.way.schema_is) can_reply }
+    -- what is left of what was asked has the same reply
+    abbrev pub may_reply : (left : Asked) → left ≡ asked_without asked → MayReply new.schema left answer entry
+    may_reply left is = record { kept = m.kept; session = acting.session; can = subst (λ (x : Asked). CanReply new.schema m.kept acting.session x answer entry) (sym is) (subst (λ (S : Schema). CanReply S m.kept acting.session (asked_without asked) answer entry) (sym s.way.schema_is) can_reply) }
 
     pub is_finished : (reply : Reply) → reply ≡ reply_to new.schema m.kept (copies_of m.kept acting.session) asked answer → IsFinished m reply new
     is_finished reply is = record {
@@ -177,6 +209,10 @@ module _ {c : Parts} {acting : Acting} {asked : Asked} {answer : PlainAnswer} (m
       limits_is = s.way.limits_is;
       stands = stands_after m new s.way;
     }
+
+    pub left_finished : (left : Asked) → left ≡ asked_without asked → (reply : Reply) → reply ≡ reply_to new.schema m.kept (copies_of m.kept acting.session) left answer → IsFinished m reply new
+    left_finished left is reply replied =
+        is_finished reply (replied ∙ ap (λ (x : Asked). reply_to new.schema m.kept (copies_of m.kept acting.session) x answer) is ∙ reply_same new.schema m.kept (copies_of m.kept acting.session) asked answer)
 
 -- ---- the command
 

@@ -36,7 +36,7 @@ use Rattle.data_calls.specs.Copied.{MayAct}
 use Rattle.data_calls.specs.Leaving.{IsLeft}
 use Rattle.data_calls.specs.Ways.{MaySeat, MayName, IsNamedNow}
 use Rattle.data_calls.specs.Replying.{MayPrint}
-use Rattle.data_calls.specs.Finishing.{AreSeated}
+use Rattle.data_calls.specs.Finishing.{AreSeated, made_in}
 use Rattle.data_calls.specs.Glances.{IsReading, IsGlance}
 use Rattle.data_calls.proofs.Granted.{free}
 use Rattle.data_calls.proofs.Steps.{copied_there, on_copy}
@@ -143,7 +143,7 @@ module _ {old new : Parts} {k : Kept} {d : Decision} {acting : Acting} {asked : 
   abbrev may : MayName new acting asked.entry (Val v)
   may = may_name (any_taken t) new left
 
-  abbrev seat : MaySeat new acting n
+  abbrev seat : MaySeat new acting n None
   seat = may_seat_named may refl n n named refl
 
   named_done : IsNamedNow may new
@@ -152,7 +152,7 @@ module _ {old new : Parts} {k : Kept} {d : Decision} {acting : Acting} {asked : 
       (seated_now seat new refl refl refl (attached seat.on.now acting.session n seat.can.entry seat.can.there (attached_here seat are new.attended.copies refl values (sym stands)) seat.on.way.attended))
 
   seated : AreSeated (any_taken t) None new
-  seated = are_seated (any_taken t) new named_done None new (unfound_way (may_find (any_taken t) new named_done) (λ p is. cc))
+  seated = are_seated (any_taken t) new named_done (made_in asked.op) refl None new (unfound_way (may_find (any_taken t) new named_done (made_in asked.op) refl) (λ p is. cc))
 
   pub glance_follows : (text : List ℕ) → text ≡ value_text new.schema asked.op v → Follows old k d (reply.Val text) new
   glance_follows text is = follows t (reply.Val text) new (is_finished (any_taken t) None new seated (reply.Val text) (ap reply.Val is))

@@ -1,12 +1,13 @@
 -- Entries that a step may seat: the one that it names, and that of what it found.
 use Rattle.std.proofs.Common.{arith, ◌≡◌, ℕ, true, false, List, [], Option, Some, None, refl, sym, ap, ◌∙◌, subst, inl, inr}
-use Rattle.std.specs.Prelude.{◌⊎◌, IsSomeAnd, unwrap_or}
+use Rattle.std.specs.Prelude.{◌⊎◌, IsSomeAnd, IfSome, unwrap_or}
+use Rattle.std.specs.Option.{option_map}
 use Rattle.std.specs.FinMap.{get}
 use Rattle.pss_base.specs.declared.pid.Pid.{Pid}
 use Rattle.type_layout.specs.declared.schema.Schema.{Schema}
 use Rattle.type_layout.specs.Types.{PlainValue}
 use Rattle.type_layout.specs.Schemas.{given}
-use Rattle.pss_catalog.specs.Catalog.{Catalog}
+use Rattle.pss_catalog.specs.Catalog.{Object, Catalog}
 use Rattle.pss_catalog.specs.Changes.{over}
 use Rattle.pss_machine.specs.declared.limits.Limits.{Limits}
 use Rattle.pss_machine.specs.Operations.{FindKey, FindPid, FindShort, Exists, Get, Follow, Count, ListOf, PlainOp, Create, Set, Destroy, Ask, PlainAnswer, Found, Val}
@@ -24,13 +25,14 @@ use Rattle.pss_copies.specs.Stepped.{left_by, OutdatesNone}
 use Rattle.data_calls.specs.declared.acting.Acting.{Acting}
 use Rattle.data_calls.specs.Acting.{IsActing}
 use Rattle.data_calls.specs.Asking.{IsStep, after, object_in}
-use Rattle.data_calls.specs.Ways.{IsSeen, CanSeat}
+use Rattle.data_calls.specs.Ways.{IsSeen, HasValues, CanSeat}
+use Rattle.data_calls.specs.Finishing.{made_in}
 use Rattle.data_calls.proofs.Alike.{Alike, alike_in_all}
 use Rattle.data_calls.proofs.Actors.{acts_with}
 use Rattle.data_calls.proofs.Changes.{changes_old}
 use Rattle.data_calls.proofs.Entries.{numbered_most, orderly_reached, few_reached, left_same}
 use Rattle.data_calls.proofs.Steps.{OfMember, IsOnCopy, either}
-use Rattle.data_calls.proofs.Seen.{Sees, FoundSeen, followed_seen, found_after, named_after}
+use Rattle.data_calls.proofs.Seen.{Sees, FoundSeen, followed_seen, found_after, made_there, named_after}
 use Rattle.data_calls.proofs.Outdating.{owner_after, view_after, outdates_where}
 
 -- ---- who acts after the step
@@ -102,6 +104,24 @@ module _ {S : Schema} {limits : Limits} {k : Kept} {acting : Acting} {asked : As
           let own : t.step.own ≡ [] = ap (λ (x : Step). x.own) (t.step_is ∙ is.1) in
           let a_is : is.0 ≡ Found p = sym (sym t.answer_is ∙ ap (λ (x : Step). x.answer) (t.step_is ∙ is.1)) ∙ found in
           seen_of p (subst (λ cs. Sees (over (view k.catalog t.is.owner) cs) p) (sym own) (subst (FoundSeen (view k.catalog t.is.owner)) a_is (of_copy is.2.values asked.op is.0 is.2.told is.2.of)))
+
+  -- with the values that it was made with, where it is a new one
+  pub made_seen : (p : Pid) → answer ≡ Found p → IfSome (made_in asked.op) (HasValues (after t) acting acting_after p)
+  made_seen p found = by_op asked.op refl
+    where
+      by_op : (op : PlainOp) → asked.op ≡ op → IfSome (made_in op) (HasValues (after t) acting acting_after p)
+      by_op (Create serial object) op_is = by (either S k.catalog t.is.owner (copies_of k acting.session) asked)
+        where
+          by : Cases → HasValues (after t) acting acting_after p object.values
+          by (inl is) =
+              let changes : t.step.own ≡ (alone S (view k.catalog t.is.owner) (Create serial object)).changes = own_there is ∙ ap (λ (op : PlainOp). (alone S (view k.catalog t.is.owner) op).changes) op_is in
+              let answers : (alone S (view k.catalog t.is.owner) (Create serial object)).answer ≡ Found p = ap (λ (op : PlainOp). (alone S (view k.catalog t.is.owner) op).answer) (sym op_is) ∙ sym (answer_there is) ∙ found in
+              ap (option_map (λ (x : Object). x.values))
+              (sym (ap (λ (M : Catalog). get M p.serial) (view_after t) ∙ ap (λ cs. get (over (view k.catalog t.is.owner) cs) p.serial) changes ∙ made_there S (view k.catalog t.is.owner) serial object p answers))
+          by (inr is) = absurd (subst OfMember op_is is.2.of)
+      by_op (Set q member value) op_is = tt
+      by_op (Destroy q) op_is = tt
+      by_op (Ask question) op_is = tt
 
   -- ---- the named entry
 

@@ -1,9 +1,10 @@
 -- Entries that are named, and objects that are found: the way goes on over them.
-use Rattle.std.proofs.Common.{◌≡◌, ℕ, ◌<◌, ◌-◌, ◌^◌, Bool, true, false, Option, Some, None, IsSome, IsSomeAnd, refl, sym, ap, ◌∙◌, subst}
-use Rattle.std.specs.Prelude.{unwrap_or, if◌then◌else◌}
+use Rattle.std.proofs.Common.{◌≡◌, ℕ, ◌<◌, ◌-◌, ◌^◌, Bool, true, false, List, Option, Some, None, IsSome, IsSomeAnd, refl, sym, ap, ◌∙◌, subst}
+use Rattle.std.specs.Prelude.{IfSome, unwrap_or, if◌then◌else◌}
 use Rattle.std.specs.Option.{option_map}
 use Rattle.std.specs.FinMap.{get}
 use Rattle.pss_base.specs.declared.pid.Pid.{Pid}
+use Rattle.type_layout.specs.Types.{PlainValue}
 use Rattle.pss_machine.specs.Operations.{PlainAnswer, Done, Found, IsThere, Val, Number, Listing, NotFound, Gone, Nil, Duplicate, TooLarge, Busy}
 use Rattle.pss_machine.specs.Copies.{Copies, no_copies, obtained}
 use Rattle.pss_machine.specs.Kept.{copies_of}
@@ -18,7 +19,7 @@ use Rattle.pss_copies.specs.Seats.{IsObtainedIn, seated_at}
 use Rattle.pss_copies.proofs.Counts.{length_at}
 use Rattle.connector_parts.specs.declared.parts.Parts.{Parts}
 use Rattle.data_calls.specs.declared.acting.Acting.{Acting}
-use Rattle.data_calls.specs.Ways.{IsOnWay, IsSeen, named_at, obtained_at, found_at, entry_found, MaySeat, MayName, MayObtain, MayFind, IsNamedNow, IsObtainedNow, IsFoundNow}
+use Rattle.data_calls.specs.Ways.{IsOnWay, IsSeen, HasValues, named_at, obtained_at, found_at, entry_found, MaySeat, MayName, MayObtain, MayFind, IsNamedNow, IsObtainedNow, IsFoundNow}
 use Rattle.data_calls.proofs.Entries.{HasEntry, obtained_entry}
 
 -- ---- the entry that a command names
@@ -37,8 +38,8 @@ module _ {c : Parts} {acting : Acting} {entry : Option ℕ} {answer : PlainAnswe
       by false = m.on.way
 
   -- one is
-  abbrev pub may_seat_named : is_done answer ≡ true → (n named : ℕ) → entry ≡ Some named → n ≡ named → MaySeat c acting n
-  may_seat_named done n named is same = record { on = m.on; can = m.can done n (is ∙ ap Some (sym same)) }
+  abbrev pub may_seat_named : is_done answer ≡ true → (n named : ℕ) → entry ≡ Some named → n ≡ named → MaySeat c acting n None
+  may_seat_named done n named is same = record { on = m.on; can = m.can done n (is ∙ ap Some (sym same)); made_is = tt }
 
   pub named_way : is_done answer ≡ true → (n named : ℕ) → entry ≡ Some named → n ≡ named → (new : Parts) → IsOnWay m.on.schema m.on.limits new m.on.to (seated_at m.on.now acting.session n) → IsNamedNow m new
   named_way done n named is same new way =
@@ -51,7 +52,7 @@ there_of : (o : Option Copies) → IsSome o → o ≡ Some (unwrap_or o no_copie
 there_of None h = absurd cc
 there_of (Some c) h = refl
 
-module _ {c : Parts} {acting : Acting} {p : Pid} (m : MayObtain c acting p) where
+module _ {c : Parts} {acting : Acting} {p : Pid} {made : Option (List PlainValue)} (m : MayObtain c acting p made) where
   before_there : get m.on.now.copies acting.session.0 ≡ Some (copies_of m.on.now acting.session)
   before_there = there_of (get m.on.now.copies acting.session.0) m.can.there
 
@@ -92,10 +93,11 @@ module _ {c : Parts} {acting : Acting} {p : Pid} (m : MayObtain c acting p) wher
     }
 
     -- its entry may stand on a body
-    abbrev pub may_seat_obtained : MaySeat new acting n
+    abbrev pub may_seat_obtained : MaySeat new acting n made
     may_seat_obtained = record {
       on = record { schema = m.on.schema; limits = m.on.limits; to = m.on.to; now = obtained_at m.on.now acting.session p; way = way_now; is = m.on.is };
       can = record { small = small; entry = entry_now.entry; there = entry_now.there; seen = λ loose. subst (IsSeen m.on.to acting m.on.is) (sym entry_now.object) m.can.seen };
+      made_is = subst (λ (q : Pid). IfSome made (HasValues m.on.to acting m.on.is q)) (sym entry_now.object) m.made_is;
     }
 
     pub obtained_way : (later : Parts) → IsOnWay m.on.schema m.on.limits later m.on.to (seated_at (obtained_at m.on.now acting.session p) acting.session n) → IsObtainedNow m n later
@@ -103,7 +105,7 @@ module _ {c : Parts} {acting : Acting} {p : Pid} (m : MayObtain c acting p) wher
 
 -- ---- what was found
 
-module _ {c : Parts} {acting : Acting} {obtains : Bool} {answer : PlainAnswer} (m : MayFind c acting obtains answer) where
+module _ {c : Parts} {acting : Acting} {obtains : Bool} {answer : PlainAnswer} {made : Option (List PlainValue)} (m : MayFind c acting obtains answer made) where
   -- it is not to be obtained
   pub unwanted_way : obtains ≡ false → IsFoundNow m None c
   unwanted_way e = subst (λ (b : Bool). (None ≡ entry_found b answer (copies_of m.on.now acting.session)) × IsOnWay m.on.schema m.on.limits c m.on.to (found_at m.on.now acting.session b answer)) (sym e) (refl, m.on.way)
@@ -128,8 +130,8 @@ module _ {c : Parts} {acting : Acting} {obtains : Bool} {answer : PlainAnswer} (
       by false a other = (refl, m.on.way)
 
   -- an object was
-  abbrev pub may_obtain : obtains ≡ true → (p : Pid) → answer ≡ Found p → MayObtain c acting p
-  may_obtain e p is = record { on = m.on; can = m.can e p is }
+  abbrev pub may_obtain : obtains ≡ true → (p : Pid) → answer ≡ Found p → MayObtain c acting p made
+  may_obtain e p is = record { on = m.on; can = m.can e p is; made_is = m.made_is p is }
 
   pub found_way : (e : obtains ≡ true) (p : Pid) (is : answer ≡ Found p) (n : ℕ) (new : Parts) → IsObtainedNow (may_obtain e p is) n new → IsFoundNow m (Some n) new
   found_way e p is n new h =

@@ -1,6 +1,6 @@
 -- Entries that come to stand on bodies.
 use Rattle.std.proofs.Common.{◌≡◌, ℕ, ◌==◌, Bool, true, false, List, Option, Some, None, IsSome, refl, sym, ap, ◌∙◌, subst}
-use Rattle.std.specs.Prelude.{IsSomeAnd, is_some, if◌then◌else◌, unwrap_or}
+use Rattle.std.specs.Prelude.{IsSomeAnd, IfSome, is_some, if◌then◌else◌, unwrap_or}
 use Rattle.std.specs.Option.{option_map, option_and_then}
 use Rattle.std.specs.FinMap.{get}
 use Rattle.pss_base.specs.declared.pid.Pid.{Pid}
@@ -32,7 +32,7 @@ use Rattle.pss_copies.proofs.Held.{told_at}
 use Rattle.connector_parts.specs.declared.parts.Parts.{Parts}
 use Rattle.data_calls.specs.declared.acting.Acting.{Acting}
 use Rattle.data_calls.specs.Acting.{IsActing}
-use Rattle.data_calls.specs.Ways.{IsOnWay, IsSeen, MaySeat, IsLoose}
+use Rattle.data_calls.specs.Ways.{IsOnWay, OnWay, IsSeen, HasValues, MaySee, MaySeat, IsLoose}
 use Rattle.data_calls.proofs.Own.{own_view, none_own}
 
 -- ---- the view in which a session sees an object
@@ -70,7 +70,7 @@ unchanged_there M owner t e = found_over M (listed owner.changes) t ∙ ap (λ o
 values_of_seen : (M : Catalog) (pid : Pid) (x : Object) → object_of M pid ≡ Some x → values_at M pid ≡ Some x.values
 values_of_seen M pid x is = ap (λ o. given o None (λ (object : Object). Some object.values)) is
 
-module _ (k : Kept) (acting : Acting) (is : IsActing k acting) (pid : Pid) (seen : IsSeen k acting is pid) (values : List PlainValue) (made : Some values ≡ option_map (λ (x : Object). x.values) (get (view k.catalog is.owner) pid.serial)) where
+module _ (k : Kept) (acting : Acting) (is : IsActing k acting) (pid : Pid) (seen : IsSeen k acting is pid) (values : List PlainValue) (made : HasValues k acting is pid values) where
   values_are : seen.object.values ≡ values
   values_are = sym (same_some (made ∙ ap (option_map (λ (x : Object). x.values)) (object_there (view k.catalog is.owner) pid seen.object seen.there)))
 
@@ -93,9 +93,25 @@ module _ (k : Kept) (acting : Acting) (is : IsActing k acting) (pid : Pid) (seen
       by false changed true basic = at (InCopy acting.session) (view_kept k acting is pid changed basic) (committed_values changed)
       by false changed false basic = at Committed (view_committed k acting is pid changed basic) (committed_values changed)
 
+-- ---- the record as the owner sees it
+
+abbrev pub owner_on : {c : Parts} {acting : Acting} (w : OnWay c acting) → IsOwner c.schema c.accounts acting.owner
+owner_on {c} {acting} w = record {
+  limits = w.limits;
+  kept = w.to;
+  reached = subst (λ (S : Schema). IsReached S w.limits w.to) (sym w.way.schema_is) w.way.reached;
+  are = subst (λ (S : Schema). AreAccounts S c.accounts w.to) (sym w.way.schema_is) w.way.accounts;
+  owner = w.is.owner;
+  there = w.is.owner_there;
+}
+
+-- there is one
+pub some_seen : {c : Parts} {acting : Acting} {pid : Pid} {made : Option (List PlainValue)} (m : MaySee c acting pid made) → None ≡ option_map (λ (x : Object). x.values) (get (view m.on.to.catalog m.on.is.owner) pid.serial) → ⊥
+some_seen {pid = pid} m none = none_some (none ∙ ap (option_map (λ (x : Object). x.values)) (object_there (view m.on.to.catalog m.on.is.owner) pid m.seen.object m.seen.there))
+
 -- ---- the entry
 
-module _ {c : Parts} {acting : Acting} {n : ℕ} (m : MaySeat c acting n) where
+module _ {c : Parts} {acting : Acting} {n : ℕ} {made : Option (List PlainValue)} (m : MaySeat c acting n made) where
   -- as the tables have it
   pub record EntryHere : Type 0 where
     pub entry : Entry
@@ -108,16 +124,6 @@ module _ {c : Parts} {acting : Acting} {n : ℕ} (m : MaySeat c acting n) where
       by : (o : Option Entry) → entry_at c.attended.copies acting.session n ≡ o → Some m.can.entry ≡ option_map (entry_told c.attended.copies n) o → EntryHere
       by None is e = absurd (none_some (sym e))
       by (Some entry) is e = record { entry = entry; there = is; told = sym (same_some e) }
-
-  abbrev pub seated_owner : IsOwner c.schema c.accounts acting.owner
-  seated_owner = record {
-    limits = m.on.limits;
-    kept = m.on.to;
-    reached = subst (λ (S : Schema). IsReached S m.on.limits m.on.to) (sym m.on.way.schema_is) m.on.way.reached;
-    are = subst (λ (S : Schema). AreAccounts S c.accounts m.on.to) (sym m.on.way.schema_is) m.on.way.accounts;
-    owner = m.on.is.owner;
-    there = m.on.is.owner_there;
-  }
 
   pub session_now : get m.on.now.sessions acting.session.0 ≡ Some m.on.is.session
   session_now = ap (λ s. get s acting.session.0) m.on.way.sessions ∙ m.on.is.there
@@ -175,7 +181,7 @@ none_where (Some x) h = absurd (cc)
 
 -- ---- it comes to stand on a body, or stands there already
 
-module _ {c : Parts} {acting : Acting} {n : ℕ} (m : MaySeat c acting n) (are : AreCopies c.attended.copies) where
+module _ {c : Parts} {acting : Acting} {n : ℕ} {made : Option (List PlainValue)} (m : MaySeat c acting n made) (are : AreCopies c.attended.copies) where
   abbrev here : EntryHere m
   here = entry_here m are
 
@@ -210,12 +216,14 @@ module _ {c : Parts} {acting : Acting} {n : ℕ} (m : MaySeat c acting n) (are :
       body_is : (v : View) → get q.bodies (body pid v) ≡ get c.attended.copies.bodies (body here.entry.pid v)
       body_is v = ap (λ (x : Meaning). get x.bodies (body pid v)) same ∙ ap (λ (p : Pid). get c.attended.copies.bodies (body p v)) (sym pid_is)
 
-      seen_object : IsSeen m.on.to acting m.on.is pid
-      seen_object = subst (IsSeen m.on.to acting m.on.is) (sym (ap (λ (e : PlainEntry). e.pid) here.told) ∙ pid_is) (m.can.seen (sym (ap is_attached here.told) ∙ loose_told c.attended.copies n here.entry loose_view))
+      pub entry_is : m.can.entry.pid ≡ pid
+      entry_is = sym (ap (λ (e : PlainEntry). e.pid) here.told) ∙ pid_is
 
-      -- a record is read, since the owner sees the object
-      pub some_made : None ≡ option_map (λ (x : Object). x.values) (get (view m.on.to.catalog m.on.is.owner) pid.serial) → ⊥
-      some_made none = none_some (none ∙ ap (option_map (λ (x : Object). x.values)) (object_there (view m.on.to.catalog m.on.is.owner) pid seen_object.object seen_object.there))
+      pub seen_object : IsSeen m.on.to acting m.on.is pid
+      seen_object = subst (IsSeen m.on.to acting m.on.is) entry_is (m.can.seen (sym (ap is_attached here.told) ∙ loose_told c.attended.copies n here.entry loose_view))
+
+      abbrev pub may_see : MaySee c acting pid made
+      may_see = record { on = m.on; seen = seen_object; made_is = subst (λ (p : Pid). IfSome made (HasValues m.on.to acting m.on.is p)) entry_is m.made_is }
 
       module _ (v : View) (seen : v ≡ view_in m.on.to.owners acting.session m.on.is.session pid) where
         seen_now : v ≡ view_in m.on.now.owners acting.session m.on.is.session here.entry.pid
@@ -245,11 +253,11 @@ module _ {c : Parts} {acting : Acting} {n : ℕ} (m : MaySeat c acting n) (are :
         pub seen_entry : IsSomeAnd (entry_at c.attended.copies acting.session n) (λ e. v ≡ view_in m.on.now.owners acting.session m.on.is.session e.pid)
         seen_entry = subst (λ (o : Option Entry). IsSomeAnd o (λ e. v ≡ view_in m.on.now.owners acting.session m.on.is.session e.pid)) (sym here.there) seen_now
 
-        pub record_entry : (values : List PlainValue) → Some values ≡ option_map (λ (x : Object). x.values) (get (view m.on.to.catalog m.on.is.owner) pid.serial)
+        pub record_entry : (values : List PlainValue) → HasValues m.on.to acting m.on.is pid values
             → IsSomeAnd (entry_at c.attended.copies acting.session n) (λ e. (v ≡ view_in m.on.now.owners acting.session m.on.is.session e.pid) × IsRecordIn m.on.now e.pid v values)
-        record_entry values made =
+        record_entry values has =
             subst (λ (o : Option Entry). IsSomeAnd o (λ e. (v ≡ view_in m.on.now.owners acting.session m.on.is.session e.pid) × IsRecordIn m.on.now e.pid v values)) (sym here.there)
-            (seen_now, subst (λ (p : Pid). IsRecordIn m.on.now p v values) (sym pid_is) (record_now v (record_in m.on.to acting m.on.is pid seen_object values made v seen)))
+            (seen_now, subst (λ (p : Pid). IsRecordIn m.on.now p v values) (sym pid_is) (record_now v (record_in m.on.to acting m.on.is pid seen_object values has v seen)))
           where
             committed_now : values_at m.on.to.catalog pid ≡ Some values → values_at m.on.now.catalog pid ≡ Some values
             committed_now at = ap (λ (M : Catalog). values_at M pid) m.on.way.catalog ∙ at

@@ -167,6 +167,20 @@ module _ (S : Schema) (M : Catalog) where
       by_gone None = by_key (first_taken S M serial object) (if nat_lt 8000 (length (object_spelling S object)) then answers TooLarge else record { changes = record { serial = serial; state = Some object } ∷ []; answer = Found (pid_at serial object) }) (by_size (nat_lt 8000 (length (object_spelling S object))))
       by_gone (Some q) = tt
 
+  -- an object that is found where it was made is as it was made
+  abbrev made : ℕ → Object → Option Pid → Option KeyNo → Bool → Outcome
+  made serial object gone taken large =
+      given gone (given taken (if large then answers TooLarge else record { changes = record { serial = serial; state = Some object } ∷ []; answer = Found (pid_at serial object) }) (λ k. answers (Duplicate k))) (λ q. answers (Gone q))
+
+  made_by : (serial : ℕ) (object : Object) (p : Pid) (gone : Option Pid) (taken : Option KeyNo) (large : Bool) → (made serial object gone taken large).answer ≡ Found p → get (over M (made serial object gone taken large).changes) p.serial ≡ Some object
+  made_by serial object p (Some q) taken large is = absurd (cc)
+  made_by serial object p None (Some k) large is = absurd (cc)
+  made_by serial object p None None true is = absurd (cc)
+  made_by serial object p None None false is = (let same : pid_at serial object ≡ p = cc in ap (λ (q : Pid). get (insert M serial object) q.serial) (sym same) ∙ insert_here M serial object)
+
+  pub made_there : (serial : ℕ) (object : Object) (p : Pid) → (alone S M (Create serial object)).answer ≡ Found p → get (over M (alone S M (Create serial object)).changes) p.serial ≡ Some object
+  made_there serial object p = made_by serial object p (first_gone M (flat_map references object.values)) (first_taken S M serial object) (nat_lt 8000 (length (object_spelling S object)))
+
   -- the answers of sets and destroys
   abbrev Changing : PlainAnswer → Type 0
   Changing Done = Unit {0}

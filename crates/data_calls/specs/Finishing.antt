@@ -1,9 +1,10 @@
 -- Steps that were taken, and what is replied to them.
-use Rattle.std.specs.Prelude.{ℕ, ◌≡◌, Option}
+use Rattle.std.specs.Prelude.{ℕ, ◌≡◌, List, [], Option, Some, None}
 use Rattle.type_layout.specs.declared.schema.Schema.{Schema}
+use Rattle.type_layout.specs.Types.{PlainValue}
 use Rattle.pss_machine.specs.declared.limits.Limits.{Limits}
 use Rattle.pss_machine.specs.declared.reply.Reply.{Reply}
-use Rattle.pss_machine.specs.Operations.{PlainAnswer}
+use Rattle.pss_machine.specs.Operations.{PlainOp, Create, PlainAnswer}
 use Rattle.pss_machine.specs.Kept.{Kept, copies_of}
 use Rattle.pss_machine.specs.Asking.{Asked}
 use Rattle.pss_machine.specs.Stepping.{reply_to}
@@ -13,6 +14,20 @@ use Rattle.connector_parts.specs.Stands.{Stands}
 use Rattle.data_calls.specs.declared.acting.Acting.{Acting}
 use Rattle.data_calls.specs.Asking.{IsTaken, after}
 use Rattle.data_calls.specs.Ways.{IsOnWay, seated_by, entry_found}
+
+-- the values of the object that an operation makes, where it makes one
+abbrev pub made_in : PlainOp → Option (List PlainValue)
+made_in (Create serial object) = Some object.values
+made_in _ = None
+
+-- the operation once they are taken out of it
+abbrev pub without_record : PlainOp → PlainOp
+without_record (Create serial object) = Create serial (record object { values = [] })
+without_record op = op
+
+-- and what is asked then
+abbrev pub asked_without : Asked → Asked
+asked_without asked = record asked { op = without_record asked.op }
 
 -- a step was taken
 pub record AnyTaken (c : Parts) (acting : Acting) (asked : Asked) (answer : PlainAnswer) : Type 0 where

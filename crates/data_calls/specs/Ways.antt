@@ -1,10 +1,11 @@
 -- What the machine keeps on the way from a command to the next.
-use Rattle.std.specs.Prelude.{ℕ, ◌≡◌, ◌<◌, ◌-◌, ◌^◌, Option, Some, None, IsSome, Bool, true, false, if◌then◌else◌, length}
-use Rattle.std.specs.Option.{option_and_then}
+use Rattle.std.specs.Prelude.{ℕ, ◌≡◌, ◌<◌, ◌-◌, ◌^◌, List, Option, Some, None, IsSome, IfSome, Bool, true, false, if◌then◌else◌, length}
+use Rattle.std.specs.Option.{option_map, option_and_then}
 use Rattle.std.specs.FinMap.{get}
 use Rattle.pss_base.specs.declared.pid.Pid.{Pid}
 use Rattle.pss_base.specs.declared.session.SessionNo.{SessionNo}
 use Rattle.type_layout.specs.declared.schema.Schema.{Schema}
+use Rattle.type_layout.specs.Types.{PlainValue}
 use Rattle.pss_catalog.specs.Catalog.{Object}
 use Rattle.pss_machine.specs.declared.limits.Limits.{Limits}
 use Rattle.pss_machine.specs.Maps.{with_at}
@@ -86,6 +87,10 @@ pub record IsSeen (to : Kept) (acting : Acting) (is : IsActing to acting) (p : P
   pub object : Object
   pub there : object_of (view to.catalog is.owner) p ≡ Some object
 
+-- the object has these values, as the owner sees it
+abbrev pub HasValues : (to : Kept) (acting : Acting) → IsActing to acting → Pid → List PlainValue → Type 0
+HasValues to acting is p values = Some values ≡ option_map (λ (object : Object). object.values) (get (view to.catalog is.owner) p.serial)
+
 -- an entry is there whose object the owner sees, unless it stands on a body already
 pub record CanSeat (to now : Kept) (acting : Acting) (is : IsActing to acting) (n : ℕ) : Type 0 where
   pub small : n < 2 ^ 32
@@ -106,13 +111,21 @@ pub record CanObtain (to now : Kept) (acting : Acting) (is : IsActing to acting)
   pub last : (copies_of now acting.session).last < 2 ^ 32 - 1
   pub counts : (n : ℕ) (e : Entry) → entry_numbered (copies_of now acting.session) n ≡ Some e → e.count < 2 ^ 32 - 1
 
-pub record MaySeat (c : Parts) (acting : Acting) (n : ℕ) : Type 0 where
+-- the owner sees the object, with the values that it was made with, where these are given
+pub record MaySee (c : Parts) (acting : Acting) (p : Pid) (made : Option (List PlainValue)) : Type 0 where
+  pub on : OnWay c acting
+  pub seen : IsSeen on.to acting on.is p
+  pub made_is : IfSome made (HasValues on.to acting on.is p)
+
+pub record MaySeat (c : Parts) (acting : Acting) (n : ℕ) (made : Option (List PlainValue)) : Type 0 where
   pub on : OnWay c acting
   pub can : CanSeat on.to on.now acting on.is n
+  pub made_is : IfSome made (HasValues on.to acting on.is can.entry.pid)
 
-pub record MayObtain (c : Parts) (acting : Acting) (p : Pid) : Type 0 where
+pub record MayObtain (c : Parts) (acting : Acting) (p : Pid) (made : Option (List PlainValue)) : Type 0 where
   pub on : OnWay c acting
   pub can : CanObtain on.to on.now acting on.is p
+  pub made_is : IfSome made (HasValues on.to acting on.is p)
 
 -- the entry that is named may stand on a body, where the step did what it was asked for
 pub record MayName (c : Parts) (acting : Acting) (entry : Option ℕ) (answer : PlainAnswer) : Type 0 where
@@ -120,20 +133,21 @@ pub record MayName (c : Parts) (acting : Acting) (entry : Option ℕ) (answer : 
   pub can : is_done answer ≡ true → (n : ℕ) → entry ≡ Some n → CanSeat on.to on.now acting on.is n
 
 -- what was found may be obtained, where it is to be
-pub record MayFind (c : Parts) (acting : Acting) (obtains : Bool) (answer : PlainAnswer) : Type 0 where
+pub record MayFind (c : Parts) (acting : Acting) (obtains : Bool) (answer : PlainAnswer) (made : Option (List PlainValue)) : Type 0 where
   pub on : OnWay c acting
   pub can : obtains ≡ true → (p : Pid) → answer ≡ Found p → CanObtain on.to on.now acting on.is p
+  pub made_is : (p : Pid) → answer ≡ Found p → IfSome made (HasValues on.to acting on.is p)
 
 -- ---- what calls make of it
 
 -- it is obtained by the entry of this number, which stands on a body
-abbrev pub IsObtainedNow : {c : Parts} {acting : Acting} {p : Pid} → MayObtain c acting p → ℕ → Parts → Type 0
+abbrev pub IsObtainedNow : {c : Parts} {acting : Acting} {p : Pid} {made : Option (List PlainValue)} → MayObtain c acting p made → ℕ → Parts → Type 0
 IsObtainedNow {acting = acting} {p = p} m n new =
     (n ≡ number_for (copies_of m.on.now acting.session) p) × Reaches m.on new (found_at m.on.now acting.session true (Found p))
 
 abbrev pub IsNamedNow : {c : Parts} {acting : Acting} {entry : Option ℕ} {answer : PlainAnswer} → MayName c acting entry answer → Parts → Type 0
 IsNamedNow {acting = acting} {entry = entry} {answer = answer} m new = Reaches m.on new (named_by m.on.now acting.session entry answer)
 
-abbrev pub IsFoundNow : {c : Parts} {acting : Acting} {obtains : Bool} {answer : PlainAnswer} → MayFind c acting obtains answer → Option ℕ → Parts → Type 0
+abbrev pub IsFoundNow : {c : Parts} {acting : Acting} {obtains : Bool} {answer : PlainAnswer} {made : Option (List PlainValue)} → MayFind c acting obtains answer made → Option ℕ → Parts → Type 0
 IsFoundNow {acting = acting} {obtains = obtains} {answer = answer} m entry new =
     (entry ≡ entry_found obtains answer (copies_of m.on.now acting.session)) × Reaches m.on new (found_at m.on.now acting.session obtains answer)

@@ -9,6 +9,7 @@ use crate::seating::seat;
 use connector_parts::{Parts, entry_number};
 use pss_base::{NoMemory, Pid};
 use pss_machine::Answer;
+use type_layout::Record;
 
 // The operation did what it was asked for.
 fn is_done(answer: &Answer) -> bool
@@ -39,37 +40,44 @@ pub fn seat_named(
         return Ok(());
     };
     match entry_number(entry) {
-        Some(number) => seat(parts, acting, number),
+        Some(number) => seat(parts, acting, number, None),
         None => unreachable!(),
     }
 }
 
 // The object is obtained in the session, by the entry of this number, which stands on a body.
-fn obtain(parts: &mut Parts, acting: Acting, pid: Pid) -> Result<u32, NoMemory>
-    requires { MayObtain parts.old acting pid }
-    ensures { IfOk result (λ n. (m : MayObtain parts.old acting pid) → IsObtainedNow m n parts.new) }
+fn obtain(
+    parts: &mut Parts,
+    acting: Acting,
+    pid: Pid,
+    made: Option<Record>,
+) -> Result<u32, NoMemory>
+    requires { MayObtain parts.old acting pid made }
+    ensures { IfOk result (λ n. (m : MayObtain parts.old acting pid made) → IsObtainedNow m n parts.new) }
 {
     let number = parts.attended.obtain(acting.session, pid)?;
-    seat(parts, acting, number)?;
+    seat(parts, acting, number, made)?;
     Ok(number)
 }
 
-/// The object that was found is obtained, where it is to be. The answer is the number of its entry.
+/// The object that was found is obtained, where it is to be. The answer is the number of its entry. A new object comes with
+/// its record, which is moved to its body.
 pub fn obtain_found(
     parts: &mut Parts,
     acting: Acting,
     obtains: bool,
     answer: &Answer,
+    made: Option<Record>,
 ) -> Result<Option<u32>, NoMemory>
-    requires { MayFind parts.old acting obtains (plain_answer answer.now) }
-    ensures { IfOk result (λ entry. (m : MayFind parts.old acting obtains (plain_answer answer.now)) → IsFoundNow m entry parts.new) }
+    requires { MayFind parts.old acting obtains (plain_answer answer.now) made }
+    ensures { IfOk result (λ entry. (m : MayFind parts.old acting obtains (plain_answer answer.now) made) → IsFoundNow m entry parts.new) }
 {
     if !obtains {
         return Ok(None);
     }
     match answer {
         Answer::Found(pid) => {
-            let number = obtain(parts, acting, *pid)?;
+            let number = obtain(parts, acting, *pid, made)?;
             Ok(Some(number))
         }
         _ => Ok(None),

@@ -1,5 +1,5 @@
 // Entries that come to stand on bodies.
-ghost use Rattle.std.specs.Prelude.{◌≡◌, OnOk};
+ghost use Rattle.std.specs.Prelude.{◌≡◌, IfOk, OnOk};
 ghost use Rattle.pss_base.specs.declared.pid.Pid.{Pid as PlainPid};
 ghost use Rattle.type_layout.specs.declared.schema.Schema.{Schema};
 ghost use Rattle.pss_machine.specs.Kept.{Kept};
@@ -7,12 +7,13 @@ ghost use Rattle.pss_machine.specs.Copies.{view_in};
 ghost use Rattle.pss_copies.specs.Seats.{seated_at};
 ghost use Rattle.owner_accounts.specs.Accounts.{AreAccounts};
 ghost use Rattle.data_calls.specs.Acting.{IsActing};
-ghost use Rattle.data_calls.specs.Ways.{IsOnWay, MaySeat, IsLoose};
+ghost use Rattle.data_calls.specs.Ways.{IsOnWay, HasValues, MaySee, MaySeat, IsLoose};
 
 use crate::acting::Acting;
 use connector_parts::{Parts, entry_number};
-use pss_base::NoMemory;
+use pss_base::{NoMemory, Pid};
 use pss_machine::View;
+use type_layout::Record;
 
 // The view in which the session sees the object of a serial.
 fn view_of(parts: &Parts, acting: Acting, serial: u64) -> View
@@ -28,11 +29,38 @@ fn view_of(parts: &Parts, acting: Acting, serial: u64) -> View
     }
 }
 
+// The record of an object as the owner sees it: the one that it was made with, where this is at hand, else a copy.
+fn record_seen(
+    parts: &Parts,
+    acting: Acting,
+    pid: Pid,
+    made: Option<Record>,
+) -> Result<Record, NoMemory>
+    requires { MaySee parts.now acting pid made }
+    ensures { IfOk result (λ values. (m : MaySee parts.now acting pid made) → HasValues m.on.to acting m.on.is pid values) }
+{
+    if let Some(values) = made {
+        return Ok(values);
+    }
+    match parts
+        .accounts
+        .record_of(acting.owner, parts.schema.schema(), pid.serial)?
+    {
+        Some(values) => Ok(values),
+        None => unreachable!(),
+    }
+}
+
 // The entry, which stands on no body, stands on the one in the view.
-fn place(parts: &mut Parts, acting: Acting, number: u32) -> Result<(), NoMemory>
-    requires may { MaySeat parts.old acting number }
+fn place(
+    parts: &mut Parts,
+    acting: Acting,
+    number: u32,
+    made: Option<Record>,
+) -> Result<(), NoMemory>
+    requires may { MaySeat parts.old acting number made }
     requires loose { IsLoose parts.old acting.session number }
-    ensures { OnOk result ((m : MaySeat parts.old acting number) → IsOnWay m.on.schema m.on.limits parts.new m.on.to (seated_at m.on.now acting.session number)) }
+    ensures { OnOk result ((m : MaySeat parts.old acting number made) → IsOnWay m.on.schema m.on.limits parts.new m.on.to (seated_at m.on.now acting.session number)) }
 {
     let copies = parts.attended.copies();
     copies.copies_hold();
@@ -44,19 +72,20 @@ fn place(parts: &mut Parts, acting: Acting, number: u32) -> Result<(), NoMemory>
         parts.attended.share(acting.session, number, view);
         return Ok(());
     }
-    match parts
-        .accounts
-        .record_of(acting.owner, parts.schema.schema(), pid.serial)?
-    {
-        Some(value) => parts.attended.attach(acting.session, number, view, value),
-        None => unreachable!(),
-    }
+    let values = record_seen(parts, acting, pid, made)?;
+    parts.attended.attach(acting.session, number, view, values)
 }
 
-/// The session's entry stands on the body of its object as the session sees it, where it stands on none.
-pub fn seat(parts: &mut Parts, acting: Acting, number: u32) -> Result<(), NoMemory>
-    requires { MaySeat parts.old acting number }
-    ensures { OnOk result ((m : MaySeat parts.old acting number) → IsOnWay m.on.schema m.on.limits parts.new m.on.to (seated_at m.on.now acting.session number)) }
+/// The session's entry stands on the body of its object as the session sees it, where it stands on none. The record of a new
+/// object is moved to its body.
+pub fn seat(
+    parts: &mut Parts,
+    acting: Acting,
+    number: u32,
+    made: Option<Record>,
+) -> Result<(), NoMemory>
+    requires { MaySeat parts.old acting number made }
+    ensures { OnOk result ((m : MaySeat parts.old acting number made) → IsOnWay m.on.schema m.on.limits parts.new m.on.to (seated_at m.on.now acting.session number)) }
 {
     let copies = parts.attended.copies();
     copies.copies_hold();
@@ -65,6 +94,6 @@ pub fn seat(parts: &mut Parts, acting: Acting, number: u32) -> Result<(), NoMemo
             parts.attended.entries_stay();
             Ok(())
         }
-        None => place(parts, acting, number),
+        None => place(parts, acting, number, made),
     }
 }

@@ -1,14 +1,9 @@
-use Rattle.std.proofs.Common.{◌≡◌, refl, sym, ap, ◌∙◌, subst}
+use Rattle.std.proofs.Common.{refl, sym, ap, ◌∙◌, subst}
 use Rattle.std.specs.Prelude.{is_some}
-use Rattle.std.specs.Option.{option_map}
 use Rattle.std.specs.FinMap.{get}
-use Rattle.type_layout.specs.declared.schema.Schema.{Schema}
-use Rattle.pss_catalog.specs.Catalog.{Object}
-use Rattle.pss_machine.specs.Owners.{view}
 use Rattle.incarnations.specs.Meaning.{Meaning, AreCopies, body}
-use Rattle.owner_accounts.specs.Steps.{IsOwner}
 use Rattle.owner_view.proofs.Outcomes.{on_ok}
-use Rattle.data_calls.proofs.Seats.{seated_owner, session_now, seated_now, pid_there, may_share, may_attach, shared_here, seen_entry, record_entry, some_made}
+use Rattle.data_calls.proofs.Seats.{session_now, seated_now, pid_there, may_share, may_see, may_attach, shared_here, seen_entry, record_entry}
 use Rattle.data_calls.proofs.seating.place.Goals as goal
 
 pub unreachable-requires : goal.unreachable-requires
@@ -29,8 +24,9 @@ returns-then-has_body c m =
     (seen_entry m are c.requires.loose c.copies-copies.result.now c.copies-copies.ensures c.in-Some.pid c.in-Some.ensures c.view_of-view.result seen)
     (shared_here m are c.requires.loose c.copies-copies.result.now c.copies-copies.ensures c.in-Some.pid c.in-Some.ensures c.view_of-view.result seen (ap (λ (x : Meaning). is_some (get x.bodies (body c.in-Some.pid c.view_of-view.result))) (c.copies-copies.ensures ∙ sym c.copies.ensures) ∙ sym c.has_body.ensures ∙ c.if-has_body.true)) m.on.way.attended)
 
-pub record_of-requires : goal.record_of-requires
-record_of-requires c = subst (λ (S : Schema). IsOwner S c.args.parts.now.accounts c.args.acting.owner) (sym c.schema.ensures) (seated_owner c.requires.may)
+pub record_seen-requires : goal.record_seen-requires
+record_seen-requires c =
+    may_see c.requires.may (subst AreCopies c.copies-copies.ensures c.copies_hold.ensures) c.requires.loose c.copies-copies.result.now c.copies-copies.ensures c.in-Some.pid c.in-Some.ensures
 
 pub attach-requires : goal.attach-requires
 attach-requires c =
@@ -44,14 +40,8 @@ returns c =
     (λ attached m.
     let are = subst AreCopies c.copies-copies.ensures c.copies_hold.ensures in
     let seen = c.view_of-view.ensures m.on.schema m.on.to m.on.is c.in-Some.pid m.on.way.accounts refl in
-    let made = subst (λ (S : Schema). (o : IsOwner S c.args.parts.now.accounts c.args.acting.owner) → c.in_ok-value.field-0 ≡ option_map (λ (x : Object). x.values) (get (view o.kept.catalog o.owner) c.in-Some.pid.serial)) c.schema.ensures c.in_ok-value.ensures in
     seated_now m _ refl refl refl
     (attached m.on.now m.on.is.session (session_now m) m.on.is.goes_on
-    (record_entry m are c.requires.loose c.copies-copies.result.now c.copies-copies.ensures c.in-Some.pid c.in-Some.ensures c.view_of-view.result seen c.in-Some-2.value (sym c.in-Some-2.is ∙ made (seated_owner m))) m.on.way.attended))
+    (record_entry m are c.requires.loose c.copies-copies.result.now c.copies-copies.ensures c.in-Some.pid c.in-Some.ensures c.view_of-view.result seen c.in_ok-values.values
+    (c.in_ok-values.ensures (may_see m are c.requires.loose c.copies-copies.result.now c.copies-copies.ensures c.in-Some.pid c.in-Some.ensures))) m.on.way.attended))
     c.attach.ensures.ok
-
-pub unreachable-requires-in-None : goal.unreachable-requires-in-None
-unreachable-requires-in-None c =
-    let m = c.requires.may in
-    let made = subst (λ (S : Schema). (o : IsOwner S c.args.parts.now.accounts c.args.acting.owner) → c.in_ok-value.field-0 ≡ option_map (λ (x : Object). x.values) (get (view o.kept.catalog o.owner) c.in-Some.pid.serial)) c.schema.ensures c.in_ok-value.ensures in
-    some_made m (subst AreCopies c.copies-copies.ensures c.copies_hold.ensures) c.requires.loose c.copies-copies.result.now c.copies-copies.ensures c.in-Some.pid c.in-Some.ensures (sym c.in-None.is ∙ made (seated_owner m))

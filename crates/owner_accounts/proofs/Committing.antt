@@ -1,8 +1,6 @@
 -- Commits that are made ready, and made.
 use Rattle.std.proofs.Common.{ℕ, ◌≡◌, ◌+◌, ◌≤◌, ◌<◌, ◌-◌, ◌^◌, List, [], ◌∷◌, ◌++◌, length, Option, Some, None, Bool, true, false, if◌then◌else◌, refl, sym, ap, ◌∙◌, subst, arith}
-use Rattle.std.specs.Prelude.{nat_lt}
 use Rattle.std.specs.Option.{option_map}
-use Rattle.std.proofs.lemmas.Bool.{lt-ltb}
 use Rattle.pss_base.specs.declared.owner.OwnerNo.{OwnerNo}
 use Rattle.type_layout.specs.declared.schema.Schema.{Schema}
 use Rattle.type_layout.specs.Schemas.{given}
@@ -11,9 +9,8 @@ use Rattle.pss_catalog.specs.Changes.{Change as Step, over}
 use Rattle.pss_machine.specs.Owners.{Owner, net}
 use Rattle.pss_machine.specs.Kept.{Kept}
 use Rattle.pss_machine.specs.Moving.{joins, commit_text, title_of, last_64, with_commit, settled}
-use Rattle.pss_laws.specs.Storable.{RiseFrom}
 use Rattle.pss_laws.proofs.Nets.{over_net}
-use Rattle.pss_laws.proofs.Storing.{net_few, net_rise}
+use Rattle.pss_laws.proofs.Storing.{net_few}
 use Rattle.storage_home.specs.Kept.{IsKept, most}
 use Rattle.storage_home.specs.Applied.{MayApply}
 use Rattle.tx_session.specs.Owners.{owners_in, Under}
@@ -29,23 +26,13 @@ use Rattle.owner_accounts.specs.Commits.{MayPrepare, IsPrepared}
 use Rattle.owner_accounts.proofs.Runs.{keeping_at}
 use Rattle.owner_accounts.proofs.May.{unique_at}
 
-pub unlike : {A : Type 0} {t : Bool} → t ≡ true → t ≡ false → A
-unlike e f = absurd (cc)
-
--- not more than the limit
-pub not_more : (a b : ℕ) → nat_lt a b ≡ false → b ≤ a
-not_more a b not = by (nat_lt a b) refl
-  where
-    by : (t : Bool) → nat_lt a b ≡ t → b ≤ a
-    by true e = unlike e not
-    by false e = omega (arith, λ (less : a < b). unlike {A = ⊥} (lt-ltb a b less) not)
-
 module _ {S : Schema} {a : Accounts} {n : OwnerNo} {limit : ℕ} (m : MayPrepare S a n limit) where
   abbrev pub steps : List Step
   steps = net m.by.kept.catalog m.by.owner
 
-  pub rise : RiseFrom 0 steps
-  rise = net_rise S m.by.kept.next m.by.kept.catalog m.by.owner
+  -- what the objects would weigh
+  abbrev pub weighed : ℕ
+  weighed = total S (over m.by.kept.catalog steps)
 
   pub few : length steps < 2 ^ 32 - 1
   few = omega (arith, net_few S m.by.kept.next m.by.kept.catalog m.by.owner m.by.limits.changes ((keeping_at S m.by.limits m.by.kept m.by.reached).few n.0 m.by.owner m.by.there), m.by.reached.changes)
@@ -53,8 +40,8 @@ module _ {S : Schema} {a : Accounts} {n : OwnerNo} {limit : ℕ} (m : MayPrepare
   pub unique_after : IsUnique S (over m.by.kept.catalog steps)
   unique_after = subst (IsUnique S) (sym (over_net m.by.kept.catalog m.by.owner)) (unique_at m.by)
 
-  pub bounded_after : nat_lt limit (total S (over m.by.kept.catalog steps)) ≡ false → total S (over m.by.kept.catalog steps) ≤ most
-  bounded_after not = omega (arith, not_more limit _ not, m.limit_is, m.by.reached.total)
+  pub bounded_after : weighed ≤ limit → weighed ≤ most
+  bounded_after within = omega (arith, within, m.limit_is, m.by.reached.total)
 
 -- the homes have room for more, and all else is as it was
 pub reserved_are : (S : Schema) (a b : Accounts) (k : Kept) → AreAccounts S a k → IsKept S k.catalog b.homes → b.owners ≡ a.owners → b.titles ≡ a.titles → b.next ≡ a.next → b.history ≡ a.history → AreAccounts S b k

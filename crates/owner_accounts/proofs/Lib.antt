@@ -2,8 +2,7 @@ pub mod Runs
 pub mod May
 pub mod Acting
 pub mod Moving
-pub mod Weighing
-pub mod Summing
 pub mod Naming
+pub mod Growing
 pub mod Committing
 pub mod Counting

@@ -3,5 +3,3 @@ pub mod Accounts
 pub mod Steps
 pub mod Coming
 pub mod Commits
-pub mod Weights
-pub mod inner

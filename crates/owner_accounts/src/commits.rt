@@ -1,5 +1,5 @@
 // What owners changed is committed.
-ghost use Rattle.std.specs.Prelude.{◌≡◌, ◌↔◌, ◌<◌, List, length, Some, None, IfOk, IfSome, OnOk, if◌then◌else◌};
+ghost use Rattle.std.specs.Prelude.{◌≡◌, ◌↔◌, ◌<◌, ◌≤◌, nat_lt, List, length, Some, None, false, IfOk, IfSome, OnOk, if◌then◌else◌};
 ghost use Rattle.std.specs.FinMap.{get};
 ghost use Rattle.std.specs.Option.{option_map};
 ghost use Rattle.type_layout.specs.declared.schema.Schema.{Schema as PlainSchema};
@@ -16,12 +16,14 @@ ghost use Rattle.owner_accounts.specs.Accounts.{AreAccounts};
 ghost use Rattle.owner_accounts.specs.Commits.{MayPrepare, IsPrepared, AnyPrepared, text_of};
 
 use crate::accounts::Accounts;
-use crate::weights::is_too_much;
 use owner_titles::{Called, Told, told_of};
 use pss_base::{NoMemory, OwnerNo};
 use pss_machine::Level;
 use storage_home::Changes;
 use type_layout::Schema;
+
+// The most that an object weighs: 16 and the 8,000 octets that its record has at most.
+const MOST_WEIGHT: u128 = 8016;
 
 /// A commit that cannot fail any more: what it makes of the objects, and what the history will tell of it, where it will.
 #[derive(Drop)]
@@ -55,13 +57,32 @@ impl Accounts {
         ensures prepared { IfOk result (λ found. IfSome found (λ commit. (m : MayPrepare schema.now self.old owner most) → IsPrepared schema.now self.new m.by.kept owner commit)) }
         ensures kept { OnOk result ((S : PlainSchema) (k : Kept) → AreAccounts S self.old k → AreAccounts S self.new k) }
     {
-        let changes = self.owners.changes(owner, &self.homes, schema)?;
-        if is_too_much(&self.homes, changes.as_slice(), most) {
+        // That it is too much is told before any record is encoded.
+        if self.is_too_much(owner, schema, most) {
             return Ok(None);
         }
+        let changes = self.owners.changes(owner, &self.homes, schema)?;
         self.homes.reserve_for(&changes)?;
         let told = self.told_of(owner, changes.as_slice().len() as u32)?;
         Ok(Some(Commit { changes, told }))
+    }
+
+    // Whether the objects would weigh more than this with what an owner changed. Where they cannot, the changes are not gone
+    // over.
+    fn is_too_much(&self, owner: OwnerNo, schema: &Schema, most: u64) -> bool
+        requires { MayPrepare schema.now self.now owner most }
+        ensures { (m : MayPrepare schema.now self.now owner most) → result ≡ nat_lt most (total schema.now (over m.by.kept.catalog (net m.by.kept.catalog m.by.owner))) }
+    {
+        self.may_be_too_much(owner, most)
+            && self.owners.total_with(owner, &self.homes, schema) > most as u128
+    }
+
+    // Whether the objects would weigh more than this if each one that an owner changed were new, and as large as it may be.
+    fn may_be_too_much(&self, owner: OwnerNo, most: u64) -> bool
+        ensures { (S : PlainSchema) (m : MayPrepare S self.now owner most) → result ≡ false → total S (over m.by.kept.catalog (net m.by.kept.catalog m.by.owner)) ≤ most }
+    {
+        let added = self.owners.changed_count(owner) as u128 * MOST_WEIGHT;
+        self.homes.total_bytes() as u128 + added > most as u128
     }
 
     // What the history will tell of an owner's commit of so many changes, where it will tell of it.

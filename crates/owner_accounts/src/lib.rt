@@ -10,7 +10,6 @@ mod commits;
 mod leaving;
 mod steps;
 mod telling;
-mod weights;
 
 pub use accounts::Accounts;
 pub use commits::Commit;

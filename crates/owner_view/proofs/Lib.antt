@@ -26,3 +26,5 @@ pub mod Ordered
 pub mod Putting
 pub mod OneOwner
 pub mod Outcomes
+pub mod Weighing
+pub mod Lengths

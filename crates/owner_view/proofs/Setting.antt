@@ -1,5 +1,5 @@
 -- Objects with another value of a member, and the step that sets one.
-use Rattle.std.proofs.Common.{◌≡◌, ◌<◌, ℕ, List, [], ◌∷◌, length, Option, Some, None, sym, ap, subst, ◌∙◌}
+use Rattle.std.proofs.Common.{◌≡◌, ◌<◌, ℕ, List, [], ◌∷◌, length, set, Option, Some, None, sym, ap, subst, ◌∙◌}
 use Rattle.std.specs.List.{slice_get}
 use Rattle.std.specs.FinMap.{get}
 use Rattle.std.proofs.lemmas.List.{length-map}
@@ -38,21 +38,27 @@ as_many_keys S (Some x) object of_home = length-map (keys_at S x.home) _ ∙ ap 
 abbrev pub seen_at : (S : Schema) (V : Catalog) (p : Pid) (seen : Seen) → IsSeenAs S (object_of V p) (Some seen) → IsSeenAt S V p.serial (Some seen)
 seen_at S V p seen there = (there.0, (is_there V p there.0 there.1).0, there.2, there.3)
 
-module _ (S : Schema) (V : Catalog) (p : Pid) (member : ℕ) (value : PlainValue) (fits : FitsMember S p member value) (seen : Seen) (there : IsSeenAs S (object_of V p) (Some seen)) where
-  home_is : there.0.home ≡ record { 0 = p.home }
-  home_is = (let n = (is_there V p there.0 there.1).1 in λ i. record { 0 = n i })
+module _ (S : Schema) (V : Catalog) (p : Pid) (seen : Seen) (there : IsSeenAs S (object_of V p) (Some seen)) where
+  pub home_is : (home_seen seen).0 ≡ p.home
+  home_is = ap (λ (h : HomeNo). h.0) (home_shown S seen (shown_as S (object_of V p) seen there)) ∙ (is_there V p there.0 there.1).1
 
-  member_is : slice_get (members_at S there.0.home) member ≡ Some fits.0
-  member_is = ap (λ (h : HomeNo). slice_get (members_at S h) member) home_is ∙ fits.1
+  pub set_home : (object : Object) → object.home ≡ there.0.home → IsOfHome (get V p.serial) object.home
+  set_home object same = subst (λ (o : Option Object). IsOfHome o object.home) (sym (is_there V p there.0 there.1).0) (sym same)
 
-  pub member_there : member < length (members_at S (home_seen seen))
-  member_there = subst (λ (h : HomeNo). member < length (members_at S h)) (sym (home_shown S seen (shown_as S (object_of V p) seen there))) (slice_get_within (members_at S there.0.home) member fits.0 member_is)
+-- the object keeps its layout with another value of a member
+module _ (S : Schema) (p : Pid) (member : ℕ) (value : PlainValue) (fits : FitsMember S p member value) (seen : Seen) (home : (home_seen seen).0 ≡ p.home) (s : IsShown S seen) where
+  member_is : slice_get (members_at S s.object.home) member ≡ Some fits.0
+  member_is = (let same : home_seen seen ≡ record { 0 = p.home } = (λ i. record { 0 = home i }) in ap (λ (h : HomeNo). slice_get (members_at S h) member) (sym (home_shown S seen s) ∙ same) ∙ fits.1)
 
-  pub set_fits : (object : Object) → object ≡ with_member there.0 member value → Fits S object
-  set_fits object same = subst (Fits S) (sym same) (record { home = there.2.home; there = there.2.there; is_record = set_record (members_at S there.0.home) there.0.values member fits.0 value there.2.is_record member_is fits.2 })
+  pub member_there : member < length (members_at S s.object.home)
+  member_there = slice_get_within (members_at S s.object.home) member fits.0 member_is
 
-  pub set_home : (object : Object) → object ≡ with_member there.0 member value → IsOfHome (get V p.serial) object.home
-  set_home object same = subst (λ (o : Option Object). IsOfHome o object.home) (sym (is_there V p there.0 there.1).0) (ap (λ (o : Object). o.home) (sym same))
+  -- its record with that value
+  pub set_made : (at : HomeNo) (values : List PlainValue) → at ≡ home_seen seen → values ≡ set s.object.values member value → record { home = at; values = values } ≡ with_member s.object member value
+  set_made at values of_home is = (let same : at ≡ s.object.home = of_home ∙ home_shown S seen s in λ i. record { home = same i; values = is i })
+
+  pub set_fits : Fits S (with_member s.object member value)
+  set_fits = record { home = s.fits.home; there = s.fits.there; is_record = set_record (members_at S s.object.home) s.object.values member fits.0 value s.fits.is_record member_is fits.2 }
 
 module _ (S : Schema) (level : Level) (V : Catalog) (p : Pid) (member : ℕ) (value : PlainValue) where
   abbrev outcome : Option Object → Outcome

@@ -61,7 +61,7 @@ none_changed : (s : ℕ) (es : Slots) → SlotsRise (s + 1) es → get (changes_
 none_changed s es h = get-changes_of es s ∙ none_at s (s + 1) es (omega arith) h
 
 -- what is not there is not taken away
-nothing_goes : (s : ℕ) (changes : Changes) → get changes s ≡ None → remove changes s ≡ changes
+pub nothing_goes : (s : ℕ) (changes : Changes) → get changes s ≡ None → remove changes s ≡ changes
 nothing_goes s changes none = same_map nat_cmp_total nat_cmp-IsAntisymmetric (remove changes s) changes (λ q. get-remove nat_cmp_total changes s q ∙ by q (eq_by_cmp nat_cmp q s) refl)
   where
     by : (q : ℕ) (b : Bool) → eq_by_cmp nat_cmp q s ≡ b → cond b None (get changes q) ≡ get changes q

@@ -24,7 +24,7 @@ is_listed pid pids = list_any (λ p. same_pid p pid) pids
 
 -- ---- what stands behind a slot has another serial
 
-none_behind : (s : ℕ) (es : List (ℕ × Slot)) → AllByRecursion (λ t. nat_eq s t ≡ false) (keys_of es) → slot_at s es ≡ None
+pub none_behind : (s : ℕ) (es : List (ℕ × Slot)) → AllByRecursion (λ t. nat_eq s t ≡ false) (keys_of es) → slot_at s es ≡ None
 none_behind s [] apart = refl
 none_behind s (e ∷ es) apart = ap (λ (b : Bool). cond b (Some e.1) (slot_at s es)) apart.0 ∙ none_behind s es apart.1
 

@@ -3,6 +3,7 @@ pub mod Seen
 pub mod Keyed
 pub mod Net
 pub mod States
+pub mod Sized
 pub mod Overlay
 pub mod Stored
 pub mod Refusal
@@ -12,3 +13,4 @@ pub mod Fitting
 pub mod Merging
 pub mod Homes
 pub mod Owned
+pub mod Weights

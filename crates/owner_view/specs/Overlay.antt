@@ -4,13 +4,17 @@ use Rattle.type_layout.specs.declared.key.KeyNo.{KeyNo}
 use Rattle.type_layout.specs.declared.schema.Schema.{Schema}
 use Rattle.pss_machine.specs.Changes.{Changes}
 use Rattle.owner_view.specs.declared.overlay.Overlay.{Overlay}
+use Rattle.owner_view.specs.declared.states.Slot.{Slot}
 use Rattle.owner_view.specs.States.{slot_at, changes_of}
 use Rattle.storage_home.specs.Indexes.{KeyIndexes, found_at, is_key_reserved, lists}
 use Rattle.owner_view.specs.Keyed.{Pair}
 use Rattle.owner_view.specs.Views.{IsOwnHolder}
 
+abbrev pub slots_in : Overlay → List (ℕ × Slot)
+slots_in overlay = overlay.states.table.entries
+
 abbrev pub changes_in : Overlay → Changes
-changes_in overlay = changes_of overlay.states.table.entries
+changes_in overlay = changes_of (slots_in overlay)
 
 abbrev pub indexes_in : Overlay → KeyIndexes
 indexes_in overlay = overlay.indexes.entries

@@ -11,8 +11,9 @@ use Rattle.storage_home.specs.Kept.{IsKept}
 use Rattle.owner_view.specs.declared.owned.Owned.{Owned}
 use Rattle.owner_view.specs.declared.step.Put.{Put}
 use Rattle.owner_view.specs.Fitting.{FitsOp}
-use Rattle.owner_view.specs.Overlay.{changes_in, indexes_in, IsReady, HasHolders}
+use Rattle.owner_view.specs.Overlay.{changes_in, indexes_in, slots_in, IsReady, HasHolders}
 use Rattle.owner_view.specs.Seen.{Fits}
+use Rattle.owner_view.specs.Sized.{AreSized}
 use Rattle.owner_view.specs.Steps.{IsPut, changes_put}
 use Rattle.owner_view.specs.Views.{seen_with}
 
@@ -24,9 +25,10 @@ changed_by owned = changes_in owned.overlay
 abbrev pub IsCounted : Owned → Type 0
 IsCounted owned = owned.changed ≡ len (changed_by owned)
 
--- all was changed under this schema: the holders of its keys among the changed objects are known
-abbrev pub IsUnder : Schema → Owned → Type 0
-IsUnder S owned = HasHolders S (changed_by owned) (indexes_in owned.overlay)
+-- all was changed under this schema: the holders of its keys among the changed objects are known, and the lengths of their records
+pub record IsUnder (S : Schema) (owned : Owned) : Type 0 where
+  pub holders : HasHolders S (changed_by owned) (indexes_in owned.overlay)
+  pub sized : AreSized S (slots_in owned.overlay)
 
 -- ---- what may be asked
 

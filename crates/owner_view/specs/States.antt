@@ -1,6 +1,6 @@
 -- The states of objects by what stands at their serials.
 use Rattle.std.specs.Prelude.{ℕ, ◌≡◌, ◌≤◌, ◌+◌, ◌++◌, List, [], ◌∷◌, Option, Some, None, is_some, Bool, false, cond, ◌==◌}
-use Rattle.std.specs.List.{list_any}
+use Rattle.std.specs.List.{list_any, slice_get}
 use Rattle.std.specs.Map.{lookup}
 use Rattle.std.specs.Option.{option_to_list}
 use Rattle.std.specs.FinMap.{get, insert, remove, empty}
@@ -39,6 +39,12 @@ KeepsStates old new = (q : ℕ) → state_at q new ≡ state_at q old
 -- at this serial stands this state, and all others stay
 abbrev pub TurnsState : List (ℕ × Slot) → List (ℕ × Slot) → ℕ → Option (Option Object) → Type 0
 TurnsState old new s state = (q : ℕ) → state_at q new ≡ cond (s == q) state (state_at q old)
+
+-- the slot at a place has this serial, and this state stands in it
+pub record IsSlot (es : List (ℕ × Slot)) (place s : ℕ) (state : Option (Option Object)) : Type 0 where
+  pub slot : Slot
+  pub there : slice_get es place ≡ Some (s, slot)
+  pub stands : slot_state slot ≡ state
 
 -- the changes with this state at a serial, or without the serial
 abbrev pub with_told : Option (Option Object) → ℕ → Changes → Changes

@@ -22,6 +22,7 @@ use Rattle.owner_view.specs.declared.states.Slot.{Slot}
 use Rattle.owner_view.specs.declared.states.Slot.TheVariants as slot
 use Rattle.owner_view.specs.Keyed.{Pair, key_needs, all_keyed, keys_of}
 use Rattle.owner_view.specs.Seen.{Fits, plain_object}
+use Rattle.owner_view.specs.Sized.{IsSized}
 
 -- ---- needs
 
@@ -56,11 +57,11 @@ abbrev pub changes_put : Option Put → List Change
 changes_put None = []
 changes_put (Some put) = record { serial = put.serial; state = state_put put.slot } ∷ []
 
--- an object that fits the schema and whose keys no other holds
+-- an object that fits the schema, whose keys no other holds, and the length of whose record is known
 abbrev pub MayStand : Schema → Catalog → ℕ → Slot → Type 0
 MayStand S V serial slot.Reserved = ⊥
 MayStand S V serial slot.Gone = Unit {0}
-MayStand S V serial (slot.There object) = Fits S (plain_object object) × (first_taken S V serial (plain_object object) ≡ None)
+MayStand S V serial (slot.There object) = Fits S (plain_object object) × (first_taken S V serial (plain_object object) ≡ None) × IsSized S object
 
 -- the keys that the object had in the view, and those that it has
 pub record IsPut (S : Schema) (V : Catalog) (put : Put) : Type 0 where

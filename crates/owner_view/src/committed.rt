@@ -3,7 +3,7 @@ ghost use Rattle.std.specs.Prelude.{◌≡◌, ◌<◌, ◌^◌, length, take, I
 ghost use Rattle.std.specs.FinMap.{entries};
 ghost use Rattle.std.specs.Option.{option_map};
 ghost use Rattle.type_layout.specs.declared.schema.Schema.{Schema};
-ghost use Rattle.pss_catalog.specs.Catalog.{Catalog, IsUnique, EachObject};
+ghost use Rattle.pss_catalog.specs.Catalog.{Catalog, IsUnique, EachObject, total};
 ghost use Rattle.pss_catalog.specs.Families.{bases_of};
 ghost use Rattle.pss_machine.specs.Homes.{extent};
 ghost use Rattle.owner_view.specs.Seen.{Fits};
@@ -34,6 +34,10 @@ pub trait Committed {
     /// The first `n` of these by serial.
     fn first(&self, home: HomeNo, n: u32) -> Result<Pids, NoMemory>
         ensures { IfOk result (λ pids. (S : Schema) (M : Catalog) → shows self.now S M → pids ≡ take n (extent S M home)) };
+
+    /// What all objects weigh together, each 16 and the octets of its record.
+    fn total(&self) -> u64
+        ensures { (S : Schema) (M : Catalog) → shows self.now S M → result ≡ total S M };
 
     /// Which homes derive from which.
     fn families(&self) -> &Families

@@ -27,6 +27,10 @@ impl Committed for Homes {
         Homes::first(self, home, n)
     }
 
+    fn total(&self) -> u64 {
+        self.total_bytes()
+    }
+
     fn families(&self) -> &Families {
         Homes::families(self)
     }

@@ -6,6 +6,7 @@ ghost use Rattle.pss_machine.specs.Operations.{Create};
 ghost use Rattle.pss_machine.specs.Needs.{needs};
 ghost use Rattle.owner_view.specs.Overlay.{changes_in};
 ghost use Rattle.owner_view.specs.Seen.{Fits, plain_object};
+ghost use Rattle.owner_view.specs.Sized.{IsSized};
 ghost use Rattle.owner_view.specs.Views.{seen_with};
 ghost use Rattle.owner_view.specs.Stored.{Sees};
 ghost use Rattle.owner_view.specs.Steps.{IsDraft, IsStep, stored_unless};
@@ -30,6 +31,7 @@ pub fn create<C: Committed>(
 ) -> Result<Step, NoMemory>
     requires sees { Sees C.shows view.now }
     requires fits { Fits view.now.schema.now (plain_object object) }
+    requires sized { IsSized view.now.schema.now object }
     ensures { IfOk result (λ step. (v : Sees C.shows view.now) → IsStep view.now.schema.now level (seen_with v.catalog (changes_in view.now.overlay.now)) (Create serial (plain_object object)) step) }
 {
     let draft = draft_of(alloc, view, level, serial, &object)?;
@@ -49,6 +51,7 @@ fn draft_of<C: Committed>(
 ) -> Result<Draft, NoMemory>
     requires sees { Sees C.shows view.now }
     requires fits { Fits view.now.schema.now (plain_object object.now) }
+    requires sized { IsSized view.now.schema.now object.now }
     ensures { IfOk result (λ draft. (v : Sees C.shows view.now) → IsDraft view.now.schema.now (seen_with v.catalog (changes_in view.now.overlay.now)) serial (plain_object object.now) (needs view.now.schema.now level (seen_with v.catalog (changes_in view.now.overlay.now)) (Create serial (plain_object object.now))) (stored_unless view.now.schema.now (seen_with v.catalog (changes_in view.now.overlay.now)) serial (plain_object object.now) (flat_map references object.now.record)) draft) }
 {
     let references = all_references_of(alloc, &object.record)?;

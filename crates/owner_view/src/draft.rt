@@ -11,6 +11,7 @@ ghost use Rattle.owner_view.specs.Overlay.{changes_in};
 ghost use Rattle.owner_view.specs.Keyed.{all_keyed, keys_of};
 ghost use Rattle.type_layout.specs.Sound.{IsSoundSchema};
 ghost use Rattle.owner_view.specs.Seen.{Fits, IsOfHome, plain_object};
+ghost use Rattle.owner_view.specs.Sized.{IsSized};
 ghost use Rattle.owner_view.specs.Views.{seen_with};
 ghost use Rattle.owner_view.specs.Stored.{Sees, IsSeenAt};
 ghost use Rattle.owner_view.specs.Steps.{IsDraft, ComesTo, stored_unless, whole_needs, set_needs, with_reads};
@@ -48,6 +49,7 @@ pub fn draft_new<C: Committed>(
 ) -> Result<Draft, NoMemory>
     requires sees { Sees C.shows view.now }
     requires fits { Fits view.now.schema.now (plain_object object.now) }
+    requires sized { IsSized view.now.schema.now object.now }
     ensures { IfOk result (λ draft. (v : Sees C.shows view.now) → IsDraft view.now.schema.now (seen_with v.catalog (changes_in view.now.overlay.now)) serial (plain_object object.now) (with_reads level (whole_needs serial object.now.home (all_keyed view.now.schema.now (plain_object object.now))) (targets references.now)) (stored_unless view.now.schema.now (seen_with v.catalog (changes_in view.now.overlay.now)) serial (plain_object object.now) references.now) draft) }
 {
     let had = keys_at(alloc, view, serial)?;
@@ -87,6 +89,7 @@ pub fn draft_set<C: Committed>(
 ) -> Result<Draft, NoMemory>
     requires sees { Sees C.shows view.now }
     requires fits { Fits view.now.schema.now (plain_object object.now) }
+    requires sized { IsSized view.now.schema.now object.now }
     requires found { (v : Sees C.shows view.now) → IsSeenAt view.now.schema.now (seen_with v.catalog (changes_in view.now.overlay.now)) found.now.serial (Some found.now.seen) }
     requires home { (v : Sees C.shows view.now) → IsOfHome (map.get (seen_with v.catalog (changes_in view.now.overlay.now)) found.now.serial) object.now.home }
     ensures { IfOk result (λ draft. (v : Sees C.shows view.now) → IsDraft view.now.schema.now (seen_with v.catalog (changes_in view.now.overlay.now)) found.now.serial (plain_object object.now) (with_reads level (set_needs found.now.serial (keys_of view.now.schema.now (map.get (seen_with v.catalog (changes_in view.now.overlay.now)) found.now.serial)) (all_keyed view.now.schema.now (plain_object object.now))) (targets references.now)) (stored_unless view.now.schema.now (seen_with v.catalog (changes_in view.now.overlay.now)) found.now.serial (plain_object object.now) references.now) draft) }
@@ -177,7 +180,7 @@ pub fn keys_of_changed(
 impl Draft {
     /// The step that puts the object, unless it is refused.
     pub fn step(self, serial: u64, object: Changed, done: Answer) -> Step
-        ensures { (S : PlainSchema) (V : Catalog) (needed : List Need) (references : List Referred) → Fits S (plain_object object) → IsDraft S V serial (plain_object object) needed (stored_unless S V serial (plain_object object) references) self → ComesTo S V needed (stored_unless S V serial (plain_object object) references (plain_answer done)) result }
+        ensures { (S : PlainSchema) (V : Catalog) (needed : List Need) (references : List Referred) → Fits S (plain_object object) → IsSized S object → IsDraft S V serial (plain_object object) needed (stored_unless S V serial (plain_object object) references) self → ComesTo S V needed (stored_unless S V serial (plain_object object) references (plain_answer done)) result }
     {
         let Draft {
             needs,

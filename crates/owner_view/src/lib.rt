@@ -27,10 +27,12 @@ mod references;
 mod refusal;
 mod seen;
 mod set;
+mod sized;
 mod state;
 mod states;
 mod step;
 mod view;
+mod weight;
 
 pub use owned::Owned;
 pub use step::{Put, Step};

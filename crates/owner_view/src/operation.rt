@@ -14,14 +14,13 @@ use crate::create::create;
 use crate::destroy::destroy;
 use crate::extent::{count, list};
 use crate::follow::follow;
-use crate::object::Changed;
 use crate::set::{Setting, set};
+use crate::sized::sized;
 use crate::step::Step;
 use crate::view::View;
 use pss_base::NoMemory;
 use pss_machine::{Level, Op};
 use std::alloc::Global;
-use type_layout::{HomeNo, Record};
 
 /// What an operation comes to on what an owner sees.
 pub fn step_of<C: Committed>(
@@ -40,7 +39,7 @@ pub fn step_of<C: Committed>(
             home,
             value,
         } => {
-            let object = new_object(alloc, *home, value)?;
+            let object = sized(view.schema, *home, value.copy(alloc)?);
             create(alloc, view, level, *serial, object)
         }
         Op::FindKey { home, key, bytes } => find_key(alloc, view, level, *home, *key, bytes),
@@ -63,13 +62,4 @@ pub fn step_of<C: Committed>(
         Op::Count { home } => count(alloc, view, level, *home),
         Op::List { home } => list(alloc, view, level, *home),
     }
-}
-
-fn new_object(alloc: Global, home: HomeNo, value: &Record) -> Result<Changed, NoMemory>
-    ensures { IfOk result (λ object. plain_object object ≡ record { home = home; values = value.now }) }
-{
-    Ok(Changed {
-        home,
-        record: value.copy(alloc)?,
-    })
 }

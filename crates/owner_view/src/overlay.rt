@@ -1,9 +1,13 @@
 // What an owner changed, and who holds which keys among the changed objects.
-ghost use Rattle.std.specs.Prelude.{◌≡◌, [], ◌∷◌, None, IfOk, IfSome, OnOk, IsSome};
+ghost use Rattle.std.specs.Prelude.{◌≡◌, ◌<◌, ◌^◌, [], ◌∷◌, None, nat_eq, length, IfOk, IfSome, OnOk, IsSome};
 ghost use Rattle.std.specs.FinMap as map;
-ghost use Rattle.owner_view.specs.States.{slot_at, slot_state, told_state, with_told, AreInOrder, AreValued};
+ghost use Rattle.std.specs.List.{IsDistinct};
+ghost use Rattle.std.specs.Map.{keys_of};
+ghost use Rattle.owner_view.specs.States.{slot_at, slot_state, told_state, with_told, IsSlot, AreInOrder, AreValued};
 ghost use Rattle.storage_home.specs.Indexes.{KeyIndexes as Table, found_at, MayPut, KeepsFound, TurnsFound, KeepsKeysReserved};
-ghost use Rattle.owner_view.specs.Overlay.{changes_in, indexes_in, IsReady, FoundAfter};
+ghost use Rattle.type_layout.specs.declared.schema.Schema.{Schema};
+ghost use Rattle.owner_view.specs.Sized.{IsSlotSized, AreSized, IsToldSized};
+ghost use Rattle.owner_view.specs.Overlay.{changes_in, indexes_in, slots_in, IsReady, FoundAfter};
 
 use crate::states::{self, Slot, States, Told, told_at};
 use pss_base::{Bytes, NoMemory, Pid};
@@ -22,7 +26,7 @@ pub struct Overlay {
 impl Overlay {
     /// No changes. It takes no memory.
     pub fn new(alloc: Global) -> Overlay
-        ensures changes { changes_in result ≡ map.empty }
+        ensures slots { slots_in result ≡ [] }
         ensures indexes { indexes_in result ≡ [] }
     {
         Overlay {
@@ -34,7 +38,7 @@ impl Overlay {
 
     /// Takes all changes away. It takes no memory, and may keep a little for the changes that come next.
     pub fn clear(&mut self)
-        ensures changes { changes_in self.new ≡ map.empty }
+        ensures slots { slots_in self.new ≡ [] }
         ensures indexes { indexes_in self.new ≡ [] }
     {
         states::clear(&mut self.states, self.alloc);
@@ -62,6 +66,24 @@ impl Overlay {
         states::pids(self.alloc, &self.states)
     }
 
+    /// How many serials have a state, with those that are only reserved.
+    pub fn count(&self) -> usize
+        ensures count { result ≡ length self.now.states.table.entries }
+        ensures few { result < 2 ^ 63 }
+        ensures apart { IsDistinct nat_eq (keys_of self.now.states.table.entries) }
+    {
+        states::count(&self.states)
+    }
+
+    /// One of these serials by its place, and what was made of its object.
+    pub fn slot_in(&self, place: usize) -> (u64, Told<'_>)
+        requires { place < length self.now.states.table.entries }
+        ensures slot { IsSlot (slots_in self.now) place result.0 (told_state result.1) }
+        ensures sized { (S : Schema) → AreSized S (slots_in self.now) → IsToldSized S result.1 }
+    {
+        states::slot_in(&self.states, place)
+    }
+
     /// What was made of the object with a serial.
     pub fn told(&self, serial: u64) -> Told<'_>
         ensures { told_state result ≡ map.get (changes_in self.now) serial }
@@ -80,6 +102,7 @@ impl Overlay {
     /// told changes.
     pub fn reserve(&mut self, serial: u64, pairs: &[(KeyNo, Bytes)]) -> Result<(), NoMemory>
         ensures changes { changes_in self.new ≡ changes_in self.old }
+        ensures sized { (S : Schema) → AreSized S (slots_in self.old) → AreSized S (slots_in self.new) }
         ensures found { KeepsFound (indexes_in self.old) (indexes_in self.new) }
         ensures ok { OnOk result (IsReady serial pairs.now self.new) }
     {
@@ -100,6 +123,7 @@ impl Overlay {
         requires has { (between : Table) → TurnsFound (indexes_in self.old) between had.now None → KeepsKeysReserved (indexes_in self.old) between → MayPut between has.now }
         ensures before { result ≡ map.contains_key (changes_in self.old) serial }
         ensures changes { changes_in self.new ≡ with_told (slot_state slot) serial (changes_in self.old) }
+        ensures sized { (S : Schema) → AreSized S (slots_in self.old) → IsSlotSized S (Some slot) → AreSized S (slots_in self.new) }
         ensures found { FoundAfter (indexes_in self.old) (indexes_in self.new) serial had.now has.now }
     {
         let before = states::put(&mut self.states, serial, slot);

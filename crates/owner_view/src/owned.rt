@@ -1,8 +1,10 @@
 // One owner: what it changed, and what operations come to on what it sees.
-ghost use Rattle.std.specs.Prelude.{◌≡◌, ◌+◌, ◌<◌, IfOk, OnOk, if◌then◌else◌};
+ghost use Rattle.std.specs.Prelude.{◌≡◌, ◌+◌, ◌<◌, ◌^◌, min, IfOk, OnOk, if◌then◌else◌};
 ghost use Rattle.std.specs.FinMap as map;
 ghost use Rattle.std.specs.Option.{option_map};
 ghost use Rattle.type_layout.specs.declared.schema.Schema.{Schema as PlainSchema};
+ghost use Rattle.pss_catalog.specs.Catalog.{total};
+ghost use Rattle.pss_catalog.specs.Changes.{over};
 ghost use Rattle.pss_machine.specs.Operations.{plain_op};
 ghost use Rattle.storage_home.specs.Applied.{AreChanges};
 ghost use Rattle.owner_view.specs.Net.{net_of, AreNet};
@@ -12,12 +14,12 @@ ghost use Rattle.owner_view.specs.Steps.{IsStep};
 ghost use Rattle.owner_view.specs.Views.{seen_with};
 
 use crate::net::net_changes;
-use crate::operation;
 use crate::overlay::Overlay;
 use crate::state::state_at;
 use crate::states::Told;
 use crate::step::{Put, Step};
 use crate::view::View;
+use crate::{operation, weight};
 use pss_base::{NoMemory, Pid};
 use pss_machine::{Level, Op};
 use std::alloc::Global;
@@ -139,6 +141,21 @@ impl Owned {
             overlay: &self.overlay,
         };
         net_changes(alloc, &view)
+    }
+
+    /// What all objects would weigh together, each 16 and the octets of its record, if what the owner changed were committed, or
+    /// 2^64 where that is not more. It takes no memory.
+    pub fn total_with(&self, schema: &Schema, homes: &Homes) -> u128
+        requires look { MayLook schema.now homes.now self.now }
+        requires under { IsUnder schema.now self.now }
+        ensures { (m : MayLook schema.now homes.now self.now) → result ≡ min (total schema.now (over m.catalog (net_of m.catalog (changed_by self.now)))) (2 ^ 64) }
+    {
+        let view = View {
+            schema,
+            committed: homes,
+            overlay: &self.overlay,
+        };
+        weight::total_with(&view)
     }
 
     /// Sees to it that what a step puts may be put without memory. Nothing that is told of the owner changes, not even where

@@ -5,7 +5,9 @@ ghost use Rattle.pss_machine.specs.Operations.{PlainAnswer};
 ghost use Rattle.pss_machine.specs.Alone.{unless_gone, stored};
 ghost use Rattle.owner_view.specs.Overlay.{changes_in};
 ghost use Rattle.owner_view.specs.Keyed.{all_keyed};
+ghost use Rattle.type_layout.specs.declared.schema.Schema.{Schema};
 ghost use Rattle.owner_view.specs.Seen.{Fits, plain_object};
+ghost use Rattle.owner_view.specs.Sized.{IsSized};
 ghost use Rattle.owner_view.specs.Views.{seen_with};
 ghost use Rattle.owner_view.specs.Stored.{Sees};
 ghost use Rattle.owner_view.specs.Refusal.{unless_refused};
@@ -13,10 +15,9 @@ ghost use Rattle.owner_view.specs.Refusal.{unless_refused};
 use crate::committed::Committed;
 use crate::object::Changed;
 use crate::view::{View, first_gone, first_taken};
-use cdr_codec::record_len;
 use pss_base::{Bytes, Pid};
 use pss_machine::Answer;
-use type_layout::{KeyNo, Schema, home_at};
+use type_layout::KeyNo;
 
 /// The most octets that a record has.
 const MOST_OCTETS: u64 = 8000;
@@ -42,6 +43,7 @@ pub fn refusal_of<C: Committed>(
 ) -> Option<Refusal>
     requires sees { Sees C.shows view.now }
     requires fits { Fits view.now.schema.now (plain_object object.now) }
+    requires sized { IsSized view.now.schema.now object.now }
     requires pairs { pairs.now ≡ all_keyed view.now.schema.now (plain_object object.now) }
     ensures { (v : Sees C.shows view.now) (done : PlainAnswer) → unless_refused result serial (plain_object object.now) done ≡ unless_gone (seen_with v.catalog (changes_in view.now.overlay.now)) references.now (stored view.now.schema.now (seen_with v.catalog (changes_in view.now.overlay.now)) serial (plain_object object.now) done) }
 {
@@ -59,33 +61,23 @@ fn key_or_size<C: Committed>(
 ) -> Option<Refusal>
     requires sees { Sees C.shows view.now }
     requires fits { Fits view.now.schema.now (plain_object object.now) }
+    requires sized { IsSized view.now.schema.now object.now }
     requires pairs { pairs.now ≡ all_keyed view.now.schema.now (plain_object object.now) }
     ensures { (v : Sees C.shows view.now) (done : PlainAnswer) → unless_refused result serial (plain_object object.now) done ≡ stored view.now.schema.now (seen_with v.catalog (changes_in view.now.overlay.now)) serial (plain_object object.now) done }
 {
     match first_taken(view, serial, pairs) {
         Some(key) => Some(Refusal::Duplicate(key)),
-        None => size(view.schema, object),
+        None => size(object),
     }
 }
 
-fn size(schema: &Schema, object: &Changed) -> Option<Refusal>
-    requires { Fits schema.now (plain_object object.now) }
-    ensures { result ≡ (if nat_lt 8000 (length (object_spelling schema.now (plain_object object.now))) then Some Refusal.TooLarge else None) }
+fn size(object: &Changed) -> Option<Refusal>
+    ensures { (S : Schema) → IsSized S object.now → result ≡ (if nat_lt 8000 (length (object_spelling S (plain_object object.now))) then Some Refusal.TooLarge else None) }
 {
-    if is_large(schema, object) {
+    if object.len > MOST_OCTETS {
         Some(Refusal::TooLarge)
     } else {
         None
-    }
-}
-
-fn is_large(schema: &Schema, object: &Changed) -> bool
-    requires { Fits schema.now (plain_object object.now) }
-    ensures { result ≡ nat_lt 8000 (length (object_spelling schema.now (plain_object object.now))) }
-{
-    match home_at(schema, object.home) {
-        Some(home) => record_len(&home.layout, &object.record) > MOST_OCTETS,
-        None => unreachable!(),
     }
 }
 

@@ -10,6 +10,7 @@ ghost use Rattle.pss_machine.specs.Needs.{targets};
 ghost use Rattle.owner_view.specs.Overlay.{changes_in};
 ghost use Rattle.owner_view.specs.Keyed.{all_keyed, keys_of};
 ghost use Rattle.owner_view.specs.Seen.{Fits, FitsMember, IsOfHome, IsShown, home_seen, plain_object};
+ghost use Rattle.owner_view.specs.Sized.{IsSized};
 ghost use Rattle.owner_view.specs.Views.{seen_with};
 ghost use Rattle.owner_view.specs.Stored.{Sees, IsSeenAs, IsSeenAt};
 ghost use Rattle.owner_view.specs.Steps.{ComesTo, IsStep, set_needs, stored_unless, with_reads};
@@ -21,6 +22,7 @@ use crate::gone::step_of_gone;
 use crate::object::Changed;
 use crate::references::references_of;
 use crate::seen::{Seen, home_of, record_of};
+use crate::sized::sized;
 use crate::step::Step;
 use crate::view::{Found, View, object_of};
 use pss_base::{NoMemory, Pid};
@@ -86,6 +88,7 @@ fn set_to<C: Committed>(
 ) -> Result<Step, NoMemory>
     requires sees { Sees C.shows view.now }
     requires fits { Fits view.now.schema.now (plain_object object) }
+    requires sized { IsSized view.now.schema.now object }
     requires found { (v : Sees C.shows view.now) → IsSeenAt view.now.schema.now (seen_with v.catalog (changes_in view.now.overlay.now)) found.now.serial (Some found.now.seen) }
     requires home { (v : Sees C.shows view.now) → IsOfHome (map.get (seen_with v.catalog (changes_in view.now.overlay.now)) found.now.serial) object.home }
     ensures { IfOk result (λ step. (v : Sees C.shows view.now) → ComesTo view.now.schema.now (seen_with v.catalog (changes_in view.now.overlay.now)) (with_reads level (set_needs found.now.serial (keys_of view.now.schema.now (map.get (seen_with v.catalog (changes_in view.now.overlay.now)) found.now.serial)) (all_keyed view.now.schema.now (plain_object object))) (targets references.now)) (stored_unless view.now.schema.now (seen_with v.catalog (changes_in view.now.overlay.now)) found.now.serial (plain_object object) references.now Done) step) }
@@ -103,15 +106,14 @@ fn changed(
 ) -> Result<Changed, NoMemory>
     requires sound { IsSoundSchema schema.now }
     requires shown { IsShown schema.now seen }
-    requires there { setting.now.member < length (members_at schema.now (home_seen seen)) }
-    ensures { IfOk result (λ made. (s : IsShown schema.now seen.entry) → plain_object made ≡ with_member s.object setting.now.member (plain_value setting.now.value.now)) }
+    requires home { (home_seen seen).0 ≡ setting.now.pid.home }
+    requires fits { FitsMember schema.now setting.now.pid setting.now.member (plain_value setting.now.value.now) }
+    ensures object { IfOk result (λ made. (s : IsShown schema.now seen.entry) → plain_object made ≡ with_member s.object setting.now.member (plain_value setting.now.value.now)) }
+    ensures sized { IfOk result (λ made. IsSized schema.now made) }
 {
     let mut values = record_of(alloc, schema, seen)?;
     put_value(alloc, &mut values, setting.member, setting.value)?;
-    Ok(Changed {
-        home: home_of(seen),
-        record: values,
-    })
+    Ok(sized(schema, home_of(seen), values))
 }
 
 fn put_value(

@@ -1,7 +1,9 @@
 // The states to which objects were changed, by serial.
-ghost use Rattle.std.specs.Prelude.{◌≡◌, ◌++◌, [], ◌∷◌, Some, None, nat_eq, is_some, IfOk, IfSome, OnOk, IsSome};
+ghost use Rattle.std.specs.Prelude.{◌≡◌, ◌++◌, ◌<◌, ◌^◌, [], ◌∷◌, Some, None, length, nat_eq, is_some, IfOk, IfSome, OnOk, IsSome};
 ghost use Rattle.std.specs.Option.{option_map, option_to_list};
-ghost use Rattle.owner_view.specs.States.{slot_at, slot_state, slot_pid, pids_in, state_at, told_state, changes_of, KeepsStates, TurnsState, AreInOrder, AreValued};
+ghost use Rattle.type_layout.specs.declared.schema.Schema.{Schema};
+ghost use Rattle.owner_view.specs.Sized.{IsSlotSized, AreSized, IsToldSized};
+ghost use Rattle.owner_view.specs.States.{slot_at, slot_state, slot_pid, pids_in, state_at, told_state, changes_of, KeepsStates, TurnsState, IsSlot, AreInOrder, AreValued};
 ghost use Rattle.std.specs.List.{IsDistinct};
 ghost use Rattle.std.specs.Map.{keys_of};
 
@@ -82,7 +84,8 @@ pub fn told_at(states: &States, serial: u64) -> Told<'_>
 }
 
 fn told_by(slot: &Slot) -> Told<'_>
-    ensures { told_state result ≡ slot_state slot.now }
+    ensures state { told_state result ≡ slot_state slot.now }
+    ensures sized { (S : Schema) → IsSlotSized S (Some slot.now) → IsToldSized S result }
 {
     match slot {
         Slot::Reserved => Told::Untouched,
@@ -149,9 +152,31 @@ fn look_up(states: &States, serial: u64) -> Option<&Slot>
     }
 }
 
+/// How many slots there are. Each has a serial of its own.
+pub fn count(states: &States) -> usize
+    ensures count { result ≡ length states.now.table.entries }
+    ensures few { result < 2 ^ 63 }
+    ensures apart { IsDistinct nat_eq (keys_of states.now.table.entries) }
+{
+    states.table.len()
+}
+
+/// The serial of the slot at a place of the table, and what was made of its object.
+pub fn slot_in(states: &States, place: usize) -> (u64, Told<'_>)
+    requires { place < length states.now.table.entries }
+    ensures slot { IsSlot states.now.table.entries place result.0 (told_state result.1) }
+    ensures sized { (S : Schema) → AreSized S states.now.table.entries → IsToldSized S result.1 }
+{
+    match states.table.get_index(place) {
+        Some((serial, slot)) => (*serial, told_by(slot)),
+        None => unreachable!(),
+    }
+}
+
 /// Sees to it that a state may be put at a serial without memory. All states stay.
 pub fn reserve(states: &mut States, serial: u64) -> Result<(), NoMemory>
     ensures kept { KeepsStates states.old.table.entries states.new.table.entries }
+    ensures sized { (S : Schema) → AreSized S states.old.table.entries → AreSized S states.new.table.entries }
     ensures ok { OnOk result (IsSome (slot_at serial states.new.table.entries)) }
 {
     match slot_of(states, serial) {
@@ -164,6 +189,7 @@ pub fn reserve(states: &mut States, serial: u64) -> Result<(), NoMemory>
 fn add(states: &mut States, serial: u64) -> Result<(), NoMemory>
     requires { slot_at serial states.old.table.entries ≡ None }
     ensures kept { KeepsStates states.old.table.entries states.new.table.entries }
+    ensures sized { (S : Schema) → AreSized S states.old.table.entries → AreSized S states.new.table.entries }
     ensures ok { OnOk result (IsSome (slot_at serial states.new.table.entries)) }
 {
     states.last.set(states.table.len());
@@ -176,6 +202,7 @@ pub fn put(states: &mut States, serial: u64, slot: Slot) -> bool
     requires { IsSome (slot_at serial states.old.table.entries) }
     ensures before { result ≡ is_some (state_at serial states.old.table.entries) }
     ensures turned { TurnsState states.old.table.entries states.new.table.entries serial (slot_state slot) }
+    ensures sized { (S : Schema) → AreSized S states.old.table.entries → IsSlotSized S (Some slot) → AreSized S states.new.table.entries }
 {
     match states.table.get_mut(&serial) {
         Some(place) => {

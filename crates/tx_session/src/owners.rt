@@ -1,10 +1,12 @@
 // Owners, and what may be asked of each.
-ghost use Rattle.std.specs.Prelude.{◌≡◌, ◌+◌, ◌≤◌, ◌↔◌, Some, None, IsSome, IfOk, OnOk, OnErr, map, sum};
+ghost use Rattle.std.specs.Prelude.{◌≡◌, ◌+◌, ◌≤◌, ◌^◌, ◌↔◌, Some, None, IsSome, IfOk, OnOk, OnErr, map, min, sum};
 ghost use Rattle.std.specs.Option.{option_map};
 ghost use Rattle.std.specs.FinMap.{get, insert, remove, empty, len, entries};
 ghost use Rattle.std.specs.FinSet as set;
 ghost use Rattle.type_layout.specs.declared.schema.Schema.{Schema as PlainSchema};
 ghost use Rattle.pss_base.specs.declared.owner.OwnerNo.{OwnerNo as Number};
+ghost use Rattle.pss_catalog.specs.Catalog.{total};
+ghost use Rattle.pss_catalog.specs.Changes.{over};
 ghost use Rattle.pss_machine.specs.declared.answer.Answer.TheVariants as told;
 ghost use Rattle.pss_machine.specs.Maps.{with_at};
 ghost use Rattle.pss_machine.specs.Operations.{plain_op, plain_answer};
@@ -175,6 +177,19 @@ impl Owners {
         let parts = &self.parts;
         match table::find(&parts.table, owner) {
             Some(owned) => owned.changes(parts.alloc, schema, homes),
+            None => unreachable!(),
+        }
+    }
+
+    /// What all objects would weigh together, each 16 and the octets of its record, if what an owner changed were committed, or
+    /// 2^64 where that is not more. It takes no memory.
+    pub fn total_with(&self, owner: OwnerNo, homes: &Homes, schema: &Schema) -> u128
+        requires sees { MaySee schema.now homes.now (owners_in self.now) owner }
+        requires under { Under schema.now self.now }
+        ensures { (m : MaySee schema.now homes.now (owners_in self.now) owner) → result ≡ min (total schema.now (over m.catalog (net m.catalog m.owner))) (2 ^ 64) }
+    {
+        match table::find(&self.parts.table, owner) {
+            Some(owned) => owned.total_with(schema, homes),
             None => unreachable!(),
         }
     }

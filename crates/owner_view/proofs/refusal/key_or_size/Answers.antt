@@ -10,4 +10,4 @@ returns-in-Some g c v done =
 
 pub returns-in-None : goal.returns-in-None
 returns-in-None g c v done =
-    refused_size c.args.view.now.schema.now (seen_with v.catalog (changes_in c.args.view.now.overlay.now)) c.args.serial (plain_object c.args.object.now) c.args.pairs.now c.requires.pairs done c.size.result (c.in-None.ensures v) c.size.ensures
+    refused_size c.args.view.now.schema.now (seen_with v.catalog (changes_in c.args.view.now.overlay.now)) c.args.serial (plain_object c.args.object.now) c.args.pairs.now c.requires.pairs done c.size.result (c.in-None.ensures v) (c.size.ensures c.args.view.now.schema.now c.requires.sized)

@@ -11,4 +11,4 @@ pub returns : goal.returns
 returns g c v =
     let S = c.args.view.now.schema.now in
     let seen = seen_with v.catalog (changes_in c.args.view.now.overlay.now) in
-    c.step.ensures S seen (with_reads c.args.level (set_needs c.args.found.now.serial (keys_of S (map.get seen c.args.found.now.serial)) (all_keyed S (plain_object c.args.object))) (targets c.args.references.now)) c.args.references.now c.requires.fits (c.in_ok-draft.ensures v)
+    c.step.ensures S seen (with_reads c.args.level (set_needs c.args.found.now.serial (keys_of S (map.get seen c.args.found.now.serial)) (all_keyed S (plain_object c.args.object))) (targets c.args.references.now)) c.args.references.now c.requires.fits c.requires.sized (c.in_ok-draft.ensures v)

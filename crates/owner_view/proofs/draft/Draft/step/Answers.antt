@@ -9,7 +9,7 @@ use Rattle.owner_view.proofs.Drafting.{is_free}
 use Rattle.owner_view.proofs.draft.Draft.step.Goals as goal
 
 pub returns-in-None : goal.returns-in-None
-returns-in-None c S V needed references fits d =
+returns-in-None c S V needed references fits sized d =
     let object = plain_object c.args.object in
     let here : unless_refused None c.args.serial object (plain_answer c.args.done) ≡ stored_unless S V c.args.serial object references (plain_answer c.args.done) = ap (λ (r : Option Refusal). unless_refused r c.args.serial object (plain_answer c.args.done)) (sym c.in-None.is) ∙ d.refusal (plain_answer c.args.done) in
     let done : unless_refused None c.args.serial object Done ≡ stored_unless S V c.args.serial object references Done = ap (λ (r : Option Refusal). unless_refused r c.args.serial object Done) (sym c.in-None.is) ∙ d.refusal Done in
@@ -17,5 +17,5 @@ returns-in-None c S V needed references fits d =
       needs = d.needs;
       answer = ap (λ (o : Outcome). o.answer) here;
       changes = ap (λ (o : Outcome). o.changes) here;
-      put = record { may = (fits, is_free S V c.args.serial object references done); had = d.had; has = d.has };
+      put = record { may = (fits, is_free S V c.args.serial object references done, sized); had = d.had; has = d.has };
     }

@@ -6,7 +6,7 @@ use Rattle.owner_view.specs.Keyed.{Pair}
 use Rattle.owner_view.specs.Overlay.{indexes_in, FoundAfter}
 use Rattle.owner_view.specs.Owned.{changed_by}
 use Rattle.owner_view.specs.Views.{seen_with}
-use Rattle.owner_view.proofs.Putting.{told_insert, has_may, indexed_after, counted_after}
+use Rattle.owner_view.proofs.Putting.{told_insert, has_may, indexed_after, sized_put, counted_after}
 use Rattle.owner_view.proofs.owned.Owned.put.Goals as goal
 
 pub put_reserved-before-requires-clause-has : goal.put_reserved-before-requires-clause-has
@@ -26,5 +26,8 @@ returns c =
       counted =
           counted_after c.args.self.now c.args.put c.requires new c.put_reserved-before.ensures.changes
           (c.count_with-self.ensures ∙ ap (λ (before : Bool). if before then c.args.self.now.changed else c.args.self.now.changed + 1) c.put_reserved-before.ensures.before);
-      under = λ may. indexed_after c.args.self.now c.args.put may new c.put_reserved-before.ensures.changes found;
+      under = λ may. record {
+        holders = indexed_after c.args.self.now c.args.put may new c.put_reserved-before.ensures.changes found;
+        sized = c.put_reserved-before.ensures.sized may.schema may.under.sized (sized_put c.args.self.now c.args.put may);
+      };
     }

@@ -1,9 +1,8 @@
 // Operations, whichever they are.
-ghost use Rattle.std.specs.Prelude.{◌≡◌, IfOk};
+ghost use Rattle.std.specs.Prelude.{IfOk};
 ghost use Rattle.pss_machine.specs.Operations.{plain_op};
 ghost use Rattle.owner_view.specs.Fitting.{FitsOp};
 ghost use Rattle.owner_view.specs.Overlay.{changes_in};
-ghost use Rattle.owner_view.specs.Seen.{plain_object};
 ghost use Rattle.owner_view.specs.Views.{seen_with};
 ghost use Rattle.owner_view.specs.Stored.{Sees};
 ghost use Rattle.owner_view.specs.Steps.{IsStep};

@@ -2,7 +2,6 @@
 ghost use Rattle.std.specs.Prelude.{◌≡◌, ◌<◌, Some, IfOk, OnOk, length, set as set_at};
 ghost use Rattle.std.specs.FinMap as map;
 ghost use Rattle.type_layout.specs.Views.{plain_value};
-ghost use Rattle.type_layout.specs.Schemas.{members_at};
 ghost use Rattle.type_layout.specs.Sound.{IsSoundSchema};
 ghost use Rattle.pss_machine.specs.Operations.{Set, Done};
 ghost use Rattle.pss_machine.specs.Alone.{with_member, object_of as object_in};

@@ -8,16 +8,16 @@ use cdr_codec::record_len;
 use type_layout::{HomeNo, Record, Schema, home_at};
 
 /// The object of a home with this record.
-pub fn sized(schema: &Schema, home: HomeNo, record: Record) -> Changed
-    requires { Fits schema.now (record { home = home; values = «record» }) }
-    ensures object { plain_object result ≡ record { home = home; values = «record» } }
+pub fn sized(schema: &Schema, home: HomeNo, values: Record) -> Changed
+    requires { Fits schema.now (record { home = home; values = «values» }) }
+    ensures object { plain_object result ≡ record { home = home; values = «values» } }
     ensures sized { IsSized schema.now result }
 {
     match home_at(schema, home) {
         Some(found) => Changed {
             home,
-            len: record_len(&found.layout, &record),
-            record,
+            len: record_len(&found.layout, &values),
+            record: values,
         },
         None => unreachable!(),
     }

@@ -1,5 +1,5 @@
 -- Where values end.
-use Rattle.std.proofs.Common.{◌≡◌, ℕ, ◌+◌, ◌-◌, ◌^◌, ◌≤◌, ◌<◌, List, [], ◌∷◌, ◌++◌, length, get_or, map, take, drop, Option, Some, None, sym, ap, subst, ◌∙◌, arith, inl, inr, length-append}
+use Rattle.std.proofs.Common.{◌≡◌, ℕ, suc, ◌+◌, ◌-◌, ◌^◌, ◌≤◌, ◌<◌, List, [], ◌∷◌, ◌++◌, length, get_or, map, take, drop, Option, Some, None, sym, ap, subst, ◌∙◌, arith, inl, inr, length-append}
 use Rattle.std.specs.Prelude.{min}
 use Rattle.std.proofs.lemmas.Bool.{cases_lt}
 use Rattle.std.proofs.lemmas.List.{length-replicate, drop_all, drop_more, take_rest}
@@ -12,12 +12,15 @@ use Rattle.type_layout.specs.Views.{plain_type, plain_value}
 use Rattle.type_layout.specs.Members.{plain_member}
 use Rattle.cdr_codec.proofs.Loop.{members_drop}
 use Rattle.type_layout.specs.Types.{PlainType, Seq, PlainFields, no_fields, field_and, PlainValue, Items, PlainValues, no_values, value_and, values_of}
-use Rattle.type_layout.specs.Values.{Of, AreOf, count, layout_fields}
+use Rattle.type_layout.specs.Values.{Of, AreOf, EachOf, count, layout_fields}
 use Rattle.type_layout.specs.Spelling.{gap, padding, reference, each, spelling, spellings}
 use Rattle.type_layout.specs.Keys.{key_part}
 use Rattle.cdr_codec.specs.declared.width.Width.{Width}
 use Rattle.cdr_codec.specs.Widths.{octets_in, number_width}
 use Rattle.cdr_codec.specs.Lengths.{place_behind}
+use Rattle.cdr_codec.specs.Places.{behind_numbers}
+use Rattle.cdr_codec.proofs.Sizes.{count_is}
+use Rattle.cdr_codec.proofs.Skips.{one_more}
 use Rattle.cdr_codec.proofs.Standing.{stands_in}
 
 -- a place that is kept up to a limit goes on as the place does
@@ -34,12 +37,34 @@ number_length width n at = omega (arith, length-append (padding width at) (big_b
 pub length-both : (first : List ℕ) (second : ℕ → List ℕ) (at n : ℕ) → length first ≡ n → length (first ++ second (at + length first)) ≡ n + length (second (at + n))
 length-both first second at n is = length-append first (second (at + length first)) ∙ ap (λ (k : ℕ). k + length (second (at + k))) is
 
+-- a number has as many octets as its width, behind its padding
+number_is_long : (t : PlainType) (w : Width) → number_width t ≡ Some w → (v : PlainValue) → Of t v → (at : ℕ) → length (spelling t v at) ≡ gap (octets_in w) at + octets_in w
+number_is_long t w e v o at =
+    let stands = stands_in t w e v o at in
+    ap length stands.0 ∙ omega (arith, length-append (padding (octets_in w) at) (key_part t v), length-replicate {A = ℕ} (gap (octets_in w) at) 0, stands.1)
+
 -- the end of a number, by the value that it is
 pub number_ends : (t : PlainType) (w : Width) → number_width t ≡ Some w → (v : PlainValue) → Of t v → (at result : ℕ) → result ≡ place_behind at (gap (octets_in w) at + octets_in w) → result ≡ place_behind at (length (spelling t v at))
 number_ends t w e v o at result is =
-    let stands = stands_in t w e v o at in
-    let whole : length (spelling t v at) ≡ gap (octets_in w) at + octets_in w = ap length stands.0 ∙ omega (arith, length-append (padding (octets_in w) at) (key_part t v), length-replicate {A = ℕ} (gap (octets_in w) at) 0, stands.1) in
-    is ∙ ap (place_behind at) (sym whole)
+    is ∙ ap (place_behind at) (sym (number_is_long t w e v o at))
+
+-- numbers one behind the other: the first alone has padding in front of it
+numbers_are_long : (t : PlainType) (w : Width) → number_width t ≡ Some w → (vs : PlainValues) → EachOf (Of t) vs → (at : ℕ) → at + length (each (spelling t) vs at) ≡ behind_numbers (octets_in w) (count vs) at
+numbers_are_long t w e no_values all at = omega arith
+numbers_are_long t w e (value_and v vs) all at =
+    let first = number_is_long t w e v all.0 at in
+    let second = at + (gap (octets_in w) at + octets_in w) in
+    let whole : length (each (spelling t) (value_and v vs) at) ≡ gap (octets_in w) at + octets_in w + length (each (spelling t) vs second) = length-both (spelling t v at) (each (spelling t) vs) at (gap (octets_in w) at + octets_in w) first in
+    let place : second ≡ at + gap (octets_in w) at + octets_in w = omega arith in
+    let more : suc (count vs) ≡ 1 + count vs = omega arith in
+    let split : at + length (each (spelling t) (value_and v vs) at) ≡ second + length (each (spelling t) vs second) = omega (arith, whole) in
+    split ∙ numbers_are_long t w e vs all.1 second ∙ ap (behind_numbers (octets_in w) (count vs)) place ∙ one_more w (count vs) at ∙ ap (λ (n : ℕ). behind_numbers (octets_in w) n at) more
+
+-- the end of numbers, by the values that they are
+pub all_numbers_end : (t : PlainType) (w : Width) → number_width t ≡ Some w → (vs : List Value) → EachOf (Of t) (values_of (map plain_value vs)) → (at result : ℕ) → result ≡ min (behind_numbers (octets_in w) (length vs) at) (2 ^ 64 - 1) → result ≡ place_behind at (length (each (spelling t) (values_of (map plain_value vs)) at))
+all_numbers_end t w e vs all at result is =
+    let as_many = ap (λ (n : ℕ). behind_numbers (octets_in w) n at) (count_is vs) in
+    omega (arith, is, as_many, numbers_are_long t w e (values_of (map plain_value vs)) all at)
 
 -- ---- values that have parts
 

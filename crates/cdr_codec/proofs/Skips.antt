@@ -276,7 +276,7 @@ next_number width.Two n at = (let next : gap 2 (at + gap 2 at + 2) ≡ 0 = omega
 next_number width.Four n at = (let next : gap 4 (at + gap 4 at + 4) ≡ 0 = omega arith in omega (arith, next))
 next_number width.Eight n at = (let next : gap 8 (at + gap 8 at + 8) ≡ 0 = omega arith in omega (arith, next))
 
-one_more : (w : Width) (n at : ℕ) → behind_numbers (octets_in w) n (at + gap (octets_in w) at + octets_in w) ≡ behind_numbers (octets_in w) (suc n) at
+pub one_more : (w : Width) (n at : ℕ) → behind_numbers (octets_in w) n (at + gap (octets_in w) at + octets_in w) ≡ behind_numbers (octets_in w) (suc n) at
 one_more w zero at = (let one : at + gap (octets_in w) at + octets_in w ≡ at + gap (octets_in w) at + 1 * octets_in w = omega arith in one ∙ sym (some_numbers (octets_in w) 0 at))
 one_more w (suc n) at = some_numbers (octets_in w) n (at + gap (octets_in w) at + octets_in w) ∙ next_number w n at ∙ sym (some_numbers (octets_in w) (suc n) at)
 

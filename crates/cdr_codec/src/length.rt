@@ -9,6 +9,7 @@ ghost use Rattle.type_layout.specs.Values.{Of, AreOf, EachOf, IsRecord, layout_f
 ghost use Rattle.type_layout.specs.Spelling.{gap, number as spelled, reference, each, spelling, spellings, record_spelling};
 ghost use Rattle.cdr_codec.specs.Widths.{octets_in};
 ghost use Rattle.cdr_codec.specs.Lengths.{place_behind};
+ghost use Rattle.cdr_codec.specs.Places.{behind_numbers};
 
 use crate::width::{Width, width_of};
 use type_layout::{Field, Layout, Member, Record, Ty, Value};
@@ -27,6 +28,18 @@ fn number_end(at: u64, width: Width) -> u64
     ensures { result ≡ place_behind at (gap (octets_in width) at + octets_in width) }
 {
     at.saturating_add((width.gap(at as usize) + width.octets()) as u64)
+}
+
+// Between numbers of one width there is no padding.
+fn numbers_end(at: u64, width: Width, count: usize) -> u64
+    ensures { result ≡ min (behind_numbers (octets_in width) count at) (2 ^ 64 - 1) }
+{
+    if count == 0 {
+        return at;
+    }
+    let octets = (count as u64).saturating_mul(width.octets() as u64);
+    at.saturating_add(width.gap(at as usize) as u64)
+        .saturating_add(octets)
 }
 
 // The octets of a string, and a NUL.
@@ -96,6 +109,9 @@ fn items_end(item: &Ty, values: &[Value], at: u64) -> u64
     requires { EachOf (Of (plain_type item.now)) (values_of (map plain_value values.now)) }
     ensures { result ≡ place_behind at (length (each (spelling (plain_type item.now)) (values_of (map plain_value values.now)) at)) }
 {
+    if let Some(width) = width_of(item) {
+        return numbers_end(at, width, values.len());
+    }
     let mut place = at;
     for value in values {
         place = value_end(item, value, place);

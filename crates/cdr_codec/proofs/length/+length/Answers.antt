@@ -8,7 +8,7 @@ use Rattle.cdr_codec.specs.Lengths.{place_behind}
 use Rattle.cdr_codec.proofs.Sizes.{size}
 use Rattle.cdr_codec.proofs.Nodes.{sequence_view, array_view}
 use Rattle.cdr_codec.proofs.Loop.{fields_out}
-use Rattle.cdr_codec.proofs.Ends.{number_ends, sequence_ends, items_over, fields_over}
+use Rattle.cdr_codec.proofs.Ends.{number_ends, all_numbers_end, sequence_ends, items_over, fields_over}
 use Rattle.cdr_codec.proofs.length.+length.Goals as goal
 
 pub list_end-items_end-requires : goal.list_end-items_end-requires
@@ -34,6 +34,9 @@ list_end-returns-in-Seq t c =
     let is : plain_type c.args.ty.now ≡ Seq item c.in-Seq.field-1 = ap plain_type c.in-Seq.is ∙ sequence_view c.in-Seq.item c.in-Seq.field-1 in
     let items = subst (λ (t : Ty). c.items_end.result ≡ place_behind c.number_end-first.result (length (each (spelling (plain_type t)) vs c.number_end-first.result))) c.deref.ensures c.items_end.ensures in
     subst (λ (t : PlainType). c.items_end.result ≡ place_behind c.args.at (length (spelling t (Items vs) c.args.at))) (sym is) (sequence_ends item c.in-Seq.field-1 vs c.args.at c.number_end-first.result c.items_end.result c.number_end-first.ensures items)
+
+pub items_end-returns-in-Some : goal.items_end-returns-in-Some
+items_end-returns-in-Some t c = all_numbers_end (plain_type c.args.item.now) c.in-Some.width (sym c.in-Some.ensures) c.args.values.now c.requires c.args.at c.numbers_end.result c.numbers_end.ensures
 
 pub items_end-returns : goal.items_end-returns
 items_end-returns t c = items_over (spelling (plain_type c.args.item.now)) c.args.values.now c.loop-value.value-index c.loop-value.place _ c.loop-value-test.false c.loop-value.invariant.1 c.loop-value.invariant.2

@@ -1,4 +1,3 @@
-pub mod Places
 pub mod Tables
 pub mod Naming
 pub mod Sounds

@@ -1,26 +1,19 @@
 // Owners as they are called, by number.
-ghost use Rattle.std.specs.Prelude.{◌≡◌, ◌-◌, ◌<◌, ◌^◌, Some, true, IsSome, IsSomeAnd, IfSome, OnOk, OnErr, option_copied};
+ghost use Rattle.std.specs.Prelude.{◌≡◌, ◌-◌, ◌<◌, ◌^◌, IsSome, IsSomeAnd, OnOk, OnErr, option_copied};
 ghost use Rattle.std.specs.FinMap as map;
 ghost use Rattle.incarnations.specs.Maps.{IsWith};
 ghost use Rattle.owner_titles.specs.Meaning.{marked, one_more, unspent};
-ghost use Rattle.owner_titles.specs.inner.Places.{number_at, called_at};
 
 use crate::called::Called;
-use indexmap::IndexMap;
 use pss_base::{NoMemory, OwnerNo};
+use recent_table::RecentTable;
 use std::alloc::Global;
-use std::hash::BuildHasherDefault;
 use std::marker::Model;
-use table_hash::NumberHasher;
-
-type Table = IndexMap<u32, Called, BuildHasherDefault<NumberHasher>>;
 
 /// A finite map from the numbers of owners to how they are called.
 #[derive(Drop)]
 pub struct TitleTable {
-    table: Table,
-    // The place of the owner that was counted for last, where the next one is looked for first. It may be any number.
-    last: usize,
+    table: RecentTable<u32, Called>,
 }
 
 impl Model for TitleTable {
@@ -34,51 +27,7 @@ impl Model for TitleTable {
 
     ghost coded = { code coded_ℕ called_code };
 
-    ghost view = { λ t. from_entries t.table.entries };
-}
-
-// How the owner at a place is called, where this one stands there.
-fn called_there(table: &Table, place: usize, owner: u32) -> Option<&Called>
-    ensures { IfSome result (λ called. called_at owner table.now.entries ≡ Some called.now) }
-{
-    match table.get_index(place) {
-        Some((there, called)) if *there == owner => Some(called),
-        _ => None,
-    }
-}
-
-// Whether an owner stands at a place of the table.
-fn stands_at(table: &Table, place: usize, owner: u32) -> bool
-    ensures { result ≡ true → number_at place table.now.entries ≡ Some owner }
-{
-    match table.get_index(place) {
-        Some((there, _)) => *there == owner,
-        None => false,
-    }
-}
-
-// The place of an owner by its hash.
-#[inline(never)]
-fn find_place(table: &Table, owner: u32) -> usize
-    requires { IsSome (called_at owner table.now.entries) }
-    ensures { number_at result table.now.entries ≡ Some owner }
-{
-    match table.get_full(&owner) {
-        Some((place, _, _)) => place,
-        None => unreachable!(),
-    }
-}
-
-// The place of an owner, looked for first at this one.
-fn place_of(table: &Table, last: usize, owner: u32) -> usize
-    requires { IsSome (called_at owner table.now.entries) }
-    ensures { number_at result table.now.entries ≡ Some owner }
-{
-    if stands_at(table, last, owner) {
-        last
-    } else {
-        find_place(table, owner)
-    }
+    ghost view = { λ t. from_entries t.table };
 }
 
 impl TitleTable {
@@ -86,18 +35,14 @@ impl TitleTable {
         ensures { result ≡ map.empty }
     {
         TitleTable {
-            table: IndexMap::with_hasher(alloc, BuildHasherDefault::new()),
-            last: 0,
+            table: RecentTable::new(alloc),
         }
     }
 
     pub fn get(&self, owner: OwnerNo) -> Option<&Called>
         ensures { option_copied result ≡ map.get self.now owner.0 }
     {
-        match called_there(&self.table, self.last, owner.0) {
-            Some(called) => Some(called),
-            None => self.table.get(&owner.0),
-        }
+        self.table.get(owner.0)
     }
 
     /// `NoMemory`: the table is as before.
@@ -113,7 +58,7 @@ impl TitleTable {
         requires { IsSome (map.get self.old owner.0) }
         ensures { IsWith self.old self.new owner.0 (marked failed) }
     {
-        match self.table.get_mut(&owner.0) {
+        match self.table.get_mut(owner.0) {
             Some(called) => called.failed |= failed,
             None => unreachable!(),
         }
@@ -124,9 +69,9 @@ impl TitleTable {
         requires { IsSomeAnd (map.get self.old owner.0) (λ called. called.commands < 2 ^ 32 - 1) }
         ensures { IsWith self.old self.new owner.0 one_more }
     {
-        let place = place_of(&self.table, self.last, owner.0);
-        self.last = place;
-        match self.table.get_index_mut(place) {
+        // `get` keeps the place that it finds and `get_mut` does not, so the owner is looked for first at its next command.
+        let _ = self.table.get(owner.0);
+        match self.table.get_mut(owner.0) {
             Some(called) => called.commands += 1,
             None => unreachable!(),
         }
@@ -136,8 +81,7 @@ impl TitleTable {
         requires { IsSome (map.get self.old owner.0) }
         ensures { IsWith self.old self.new owner.0 unspent }
     {
-        let place = place_of(&self.table, self.last, owner.0);
-        match self.table.get_index_mut(place) {
+        match self.table.get_mut(owner.0) {
             Some(called) => called.commands = 0,
             None => unreachable!(),
         }
@@ -147,6 +91,6 @@ impl TitleTable {
         ensures value { result ≡ map.get self.old owner.0 }
         ensures removed { self.new ≡ map.remove self.old owner.0 }
     {
-        self.table.swap_remove(&owner.0)
+        self.table.remove(owner.0)
     }
 }

@@ -6,4 +6,4 @@ use Rattle.owner_titles.proofs.Tables.{nat_key, same}
 use Rattle.owner_titles.proofs.table.TitleTable.add.Goals as goal
 
 pub returns-clause-ok : goal.returns-clause-ok
-returns-clause-ok c = inserted nat_key same unsigned_tied _ _ c.args.owner.0 c.args.called c.in_ok-insert.ensures.updates.0 ∙ ap (λ m. map.insert m c.args.owner.0 c.args.called) c.self.view_is
+returns-clause-ok c = inserted nat_key same unsigned_tied _ _ c.args.owner.0 c.args.called c.in_ok-insert.ensures.ok ∙ ap (λ m. map.insert m c.args.owner.0 c.args.called) c.self.view_is

@@ -1,5 +1,5 @@
 // Entries and bodies, as callers see them.
-ghost use Rattle.std.specs.Prelude.{◌≡◌, ◌+◌, ◌-◌, ◌*◌, ◌^◌, ◌<◌, ◌≤◌, ℕ, Some, None, IsSome, IsSomeAnd, IfSome, MatchOption, IfOk, OnOk, OnErr, is_some, option_copied};
+ghost use Rattle.std.specs.Prelude.{◌≡◌, ◌+◌, ◌-◌, ◌*◌, ◌^◌, ◌<◌, ◌≤◌, ℕ, Some, None, IsSome, IsNone, IsSomeAnd, IfSome, MatchOption, IfOk, OnOk, OnErr, is_some, option_copied};
 ghost use Rattle.std.specs.Option.{option_map, option_and_then};
 ghost use Rattle.std.specs.FinMap as map;
 ghost use Rattle.std.specs.FinMap.{get};
@@ -242,6 +242,7 @@ impl Incarnations {
     pub fn shown(&self, session: SessionNo, number: u32) -> Option<Shown<'_>>
         ensures pid { IfSome result (λ shown. option_map (λ e. e.pid) (entry_at self.now session number) ≡ Some shown.pid) }
         ensures value { IfSome result (λ shown. option_and_then (get self.now.bodies) (body_under self.now (slot session number)) ≡ Some shown.value.now) }
+        ensures none { IsNone result → option_and_then (get self.now.bodies) (body_under self.now (slot session number)) ≡ None }
     {
         match self.stock.entries.find(Slot { session, number }) {
             Some(was) => match was.entry.view {

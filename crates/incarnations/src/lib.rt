@@ -7,7 +7,7 @@
 //! Each entry is a node of a pool of linked rings: its column is its session, its row the body that it stands on, or a
 //! row of its session's own. In a column the attached entries stand first, so that what detaches them looks at no others.
 //! Tables by hash find entries by session and number and by session and object, sessions by number, and bodies by object
-//! and view; their hashes are keyed as those of `key_index` are.
+//! and view. Each hashes by one multiplication, as `NumberHasher` of `table_hash` does.
 #![tactic(auto)]
 
 mod erasing;

@@ -3,11 +3,11 @@
 /// What is wrong at a place of a store.
 #[derive(Clone, Copy, Debug, PartialEq, Eq, Drop)]
 pub enum DamageKind {
-    /// A root is not what a writer leaves, or neither of the two is whole.
+    /// There are two roots, and neither follows the other; or a field of the current root is wrong.
     Root,
-    /// The head of a page, or what stands behind its entries.
+    /// The head of a page: its magic, slot or zero octets, or more octets in use than it has room for.
     Page,
-    /// The length or the home of an entry, or where it ends.
+    /// The length or the home of an entry, or where it ends; octets in use that are left behind the last one.
     Entry,
     /// A serial that is 0, not given yet, or seen before.
     Serial,

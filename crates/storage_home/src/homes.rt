@@ -5,7 +5,7 @@ ghost use Rattle.std.specs.FinMap.{get, entries};
 ghost use Rattle.type_layout.specs.declared.home.HomeNo.{HomeNo};
 ghost use Rattle.pss_catalog.specs.Catalog.{object_spelling, holders, pids_where, total};
 ghost use Rattle.pss_catalog.specs.Families.{bases_of};
-ghost use Rattle.storage_home.specs.Kept.{Keeping, is_of};
+ghost use Rattle.storage_home.specs.Kept.{AnyKept, Keeping, is_of};
 
 use crate::counts::sum_of;
 use crate::indexes::find;
@@ -16,10 +16,10 @@ use std::marker::Model;
 use type_layout::{HomeNo, KeyNo};
 
 /// The committed objects of a store: each with the octets of its record, by its serial; who holds which key; and for each
-/// storage home its objects in the order of their serials, and how many there are with those of the homes that derive from it.
+/// storage home its own objects in the order of their serials, and how many these are.
 ///
-/// Contracts see the catalog that is kept (`IsKept`), and there always is one: every clause speaks of each catalog that
-/// these homes keep.
+/// Contracts see the catalog that is kept (`IsKept`), and there always is one (`keep_a_catalog`): every clause speaks of each
+/// catalog that these homes keep.
 #[derive(Drop)]
 pub struct Homes {
     pub(crate) parts: Parts,
@@ -42,6 +42,13 @@ impl Model for Homes {
 }
 
 impl Homes {
+    /// There is a catalog that these homes keep. The function does nothing: its contract is the law.
+    pub fn keep_a_catalog(&self)
+        ensures { AnyKept self.now }
+    {
+        let _ = &self.parts;
+    }
+
     /// The home and the octets of the object with a serial, where there is one. It is found by hash.
     pub fn get(&self, serial: u64) -> Option<(HomeNo, &[u8])>
         ensures { Keeping self.now (λ S M. option_map {U = HomeNo × List ℕ} (λ found. (found.0, found.1.now)) result ≡ option_map {U = HomeNo × List ℕ} (λ object. (object.home, object_spelling S object)) (get M serial)) }

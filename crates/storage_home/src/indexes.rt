@@ -1,4 +1,4 @@
-//! Who holds which key, by an index for each key that is used: what is committed has one such table, and what an owner changed there another.
+// Who holds which key, by an index for each key that is used: what is committed has one such table, and what an owner changed there another.
 ghost use Rattle.std.specs.Prelude.{◌≡◌, [], Some, None, true, false, IfOk, OnOk};
 ghost use Rattle.std.specs.FinMap as map;
 ghost use Rattle.std.specs.FinSet as set;

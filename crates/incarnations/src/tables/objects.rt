@@ -45,7 +45,7 @@ impl ObjectTable {
         self.table.get(&object).copied()
     }
 
-    /// Puts a number at a object that has none. `NoMemory`: the table is as before.
+    /// Puts a number at an object that has none. `NoMemory`: the table is as before.
     pub fn add(&mut self, object: ObjectName, put: u32) -> Result<(), NoMemory>
         ensures ok { OnOk result (self.new ≡ map.insert self.old object put) }
         ensures err { OnErr result (self.new ≡ self.old) }

@@ -1,4 +1,3 @@
-// Why a checkpoint is not laid out.
 /// Why a checkpoint is not laid out. Nothing was written.
 #[derive(Clone, Copy)]
 pub enum PlanStop {

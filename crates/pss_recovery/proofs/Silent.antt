@@ -31,5 +31,9 @@ module _ {S : Type 0} (now : S → Moment) (history : S → List Moment) (speak_
   silent_still a b time same other =
       record { moments = weaker (history a) (history b) (IsStill (now a)) (IsQuiet (now a)) (λ m e. ap (λ (n : Moment). n.spoken) e) time; said = ap (λ (n : Moment). n.spoken) same; speech = other }
 
+  -- a call that only read
+  pub only_read : (content : S → Option (List ℕ)) (a b : S) → now b ≡ now a → content b ≡ content a → Through (history a) (history b) (IsStill (now a)) → speak_faults b ≡ speak_faults a → OnlyReads now content history speak_faults a b
+  only_read content a b still same time speech = record { still = still; same = same; time = time; speech = speech }
+
   pub silent_reads : (content : S → Option (List ℕ)) (a b : S) → OnlyReads now content history speak_faults a b → IsSilent now history speak_faults a b
   silent_reads content a b reads = silent_still a b reads.time reads.still reads.speech

@@ -1,7 +1,7 @@
 -- A store is read, and mounted.
 use Rattle.std.proofs.Common.{ℕ, ◌≡◌, ◌≢◌, ◌⊎◌, Result, Ok, Err, IfErr, inl, inr, List, ◌++◌, Option, None, Some, IfSome, refl, sym, ap, ◌∙◌, subst}
 use Rattle.pss_disk.specs.Moments.{Disk, DuringSync, IsImage, IsOnlyImage, IsSettled, IsStill, Moment, Through, synced}
-use Rattle.pss_disk.proofs.Images.{only_content}
+use Rattle.pss_disk.proofs.Images.{only_content, synced_settled}
 use Rattle.pss_disk.proofs.Passing.{none_came, then_come, weaker}
 use Rattle.type_layout.specs.declared.schema.Schema.{Schema}
 use Rattle.page_store.specs.Stores.{AllHave}
@@ -45,6 +45,19 @@ during_sync P c now before after has time = weaker before after (DuringSync (Som
 pub from_sync : (P : Moment → Type 0) (now : Moment) (a b c : List Moment) → Through a b (λ m. (m ≡ now) ⊎ P m) → Through b c P → FromSync a c now P
 from_sync P now a b c s t = record { first = s.came; rest = t.came; grown = t.grown ∙ ap (λ l. l ++ t.came) s.grown; until = s.each; from_ = t.each }
 
+-- a sync, and then calls that only read
+pub sync_stays : (content : Option (List ℕ)) (now mid : Moment) (a b c : List Moment) → mid ≡ synced content now → Through a b (DuringSync content now) → Through b c (IsStill mid) → Through a c (λ m. (m ≡ now) ⊎ IsSettled content m)
+sync_stays content now mid a b c is time still =
+    then_come a b c (λ m. (m ≡ now) ⊎ IsSettled content m) (weaker a b (DuringSync content now) (λ m. (m ≡ now) ⊎ IsSettled content m) (λ m h. by m h) time)
+    (weaker b c (IsStill mid) (λ m. (m ≡ now) ⊎ IsSettled content m) (λ m e. inr (sure m (e ∙ is))) still)
+  where
+    sure : (m : Moment) → m ≡ synced content now → IsSettled content m
+    sure m e = synced_settled content content now m e refl
+
+    by : (m : Moment) → DuringSync content now m → (m ≡ now) ⊎ IsSettled content m
+    by m (inl e) = inl e
+    by m (inr e) = inr (sure m e)
+
 -- ---- for each content that is told
 
 -- reading leaves all as it is, and then comes what has P
@@ -79,3 +92,7 @@ only_disk S old (Err why) only = subst (λ (w : MountFault). IfSome old (IsRefus
 pub never_other : {T : Type 0} (X : Type 0) (r : Result T MountFault) → ((k : MountFault) → r ≡ Err k → k ≡ fault.DiskFault) → IfErr r (λ why. why ≢ fault.DiskFault → X)
 never_other X (Ok t) only = tt
 never_other X (Err why) only = λ other. absurd (other (only why refl))
+
+pub other_then : {T : Type 0} (X Y : Type 0) (r : Result T MountFault) → (X → Y) → IfErr r (λ why. why ≢ fault.DiskFault → X) → IfErr r (λ why. why ≢ fault.DiskFault → Y)
+other_then X Y (Ok t) f h = tt
+other_then X Y (Err why) f h = λ other. f (h other)

@@ -3,6 +3,7 @@ ghost use Rattle.std.specs.Prelude.{◌≡◌, ◌+◌, ◌*◌, ◌<◌, ◌≤
 ghost use Rattle.pss_base.specs.Causes.{HasCause, HasCauseIf};
 ghost use Rattle.pss_disk.specs.Moments.{IsSettled};
 ghost use Rattle.pss_disk.specs.Octets.{disk_end};
+ghost use Rattle.pss_disk.specs.Reading.{OnlyReads};
 ghost use Rattle.redo_journal.specs.Journal.{journal_end};
 ghost use Rattle.pss_recovery.specs.declared.fault.InitFault.TheVariants as fault;
 ghost use Rattle.pss_recovery.specs.Faults.{is_init_disk_fault};
@@ -88,7 +89,7 @@ fn make<W: Station>(w: &mut W, piece: &[u8], count: u32, root: &[u8]) -> Result<
     Ok(())
 }
 
-/// Makes a store without objects in an empty file.
+/// Makes a store without objects in an empty file. `NoMemory`: nothing was written.
 pub fn write_new<W: Station>(alloc: Global, w: &mut W, shape: &[u8]) -> Result<(), InitFault>
     requires short { length shape.now ≤ 65536 }
     requires empty { IfSome (W.content w.old) (λ c. length c ≡ 0) }
@@ -96,6 +97,7 @@ pub fn write_new<W: Station>(alloc: Global, w: &mut W, shape: &[u8]) -> Result<(
     ensures told { OnOk result (IsSome (W.content w.old) → IsSome (W.content w.new)) }
     ensures settled { OnOk result (IsSettled (W.content w.new) (W.now w.new)) }
     ensures never { result ≡ Err fault.NotEmpty → ⊥ }
+    ensures memory { result ≡ Err fault.NoMemory → OnlyReads W.now W.content W.history W.speak_faults w.old w.new }
     ensures silent { IsSilent W.now W.history W.speak_faults w.old w.new }
     ensures cause { HasCauseIf (W.disk_faults w.old) (W.disk_faults w.new) (is_init_disk_fault result) }
 {

@@ -3,6 +3,7 @@ ghost use Rattle.std.specs.Prelude.{◌≡◌, ◌<◌, ◌≤◌, Err, IfSome, 
 ghost use Rattle.std.specs.FinMap.{empty};
 ghost use Rattle.pss_base.specs.Causes.{HasCauseIf};
 ghost use Rattle.pss_disk.specs.Moments.{IsSettled};
+ghost use Rattle.pss_disk.specs.Reading.{OnlyReads};
 ghost use Rattle.type_layout.specs.declared.schema.Schema.{Schema};
 ghost use Rattle.type_layout.specs.ShapeText.{shape_text};
 ghost use Rattle.pss_recovery.specs.declared.fault.InitFault.TheVariants as fault;
@@ -51,6 +52,9 @@ impl Model for Store {
 
 impl Store {
     /// Makes a store without objects in an empty file: zero octets, the root, a sync, and the root's gate.
+    ///
+    /// `NotEmpty`: the file has octets. `NoMemory`: there was no memory. `DiskFault`: a call of the disk failed. A file that has octets is
+    /// only read, whatever the answer; after `NoMemory`, so was an empty one.
     pub fn init<W: Station>(alloc: Global, w: &mut W, shape: &Bytes) -> Result<(), InitFault>
         requires { length shape.now ≤ 65536 }
         ensures made { OnOk result ((S : Schema) → shape_text S ≡ shape.now → IfSome (W.content w.new) (Stands S empty 1)) }
@@ -59,6 +63,8 @@ impl Store {
         ensures empty { OnOk result (IfSome (W.content w.old) (λ c. length c ≡ 0)) }
         ensures not_empty { result ≡ Err fault.NotEmpty → IfSome (W.content w.old) (λ c. 0 < length c) }
         ensures stays { result ≡ Err fault.NotEmpty → (W.content w.new ≡ W.content w.old) × (W.now w.new ≡ W.now w.old) }
+        ensures memory { result ≡ Err fault.NoMemory → OnlyReads W.now W.content W.history W.speak_faults w.old w.new }
+        ensures filled { IfSome (W.content w.old) (λ c. 0 < length c → OnlyReads W.now W.content W.history W.speak_faults w.old w.new) }
         ensures silent { IsSilent W.now W.history W.speak_faults w.old w.new }
         ensures cause { HasCauseIf (W.disk_faults w.old) (W.disk_faults w.new) (is_init_disk_fault result) }
     {

@@ -1,8 +1,10 @@
 // A store gets its next root, with the changes that were noted.
-ghost use Rattle.std.specs.Prelude.{ℕ, ◌≡◌, ◌≤◌, [], is_some, IfSome, OnOk};
+ghost use Rattle.std.specs.Prelude.{ℕ, ◌≡◌, ◌≤◌, [], is_some, IfErr, IfSome, OnOk};
 ghost use Rattle.pss_base.specs.Causes.{HasCauseIf};
+ghost use Rattle.pss_base.specs.declared.stop.StoreStop.TheVariants as stop;
 ghost use Rattle.pss_disk.specs.Images.{IsQuiet};
 ghost use Rattle.pss_disk.specs.Moments.{IsSettled, Through};
+ghost use Rattle.pss_disk.specs.Reading.{OnlyReads};
 ghost use Rattle.redo_journal.specs.Journal.{IsClosed, journal_start};
 ghost use Rattle.page_store.specs.Checkpoints.{IsEitherStore, IsLaid, IsMade, MayCheckpoint};
 ghost use Rattle.page_format.specs.Faults.{is_disk_stop};
@@ -38,6 +40,7 @@ impl Pages {
         ensures settled { OnOk result (IsSettled (W.content w.new) (W.now w.new)) }
         ensures noted { OnOk result (self.new.noted ≡ []) }
         ensures room { OnOk result (self.new.room ≡ 0) }
+        ensures memory { IfErr result (λ why. why ≡ stop.NoMemory → OnlyReads W.now W.content W.history W.speak_faults w.old w.new) }
         ensures quiet { Through (W.history w.old) (W.history w.new) (IsQuiet (W.now w.old)) }
         ensures said { IsQuiet (W.now w.old) (W.now w.new) }
         ensures cause { HasCauseIf (W.disk_faults w.old) (W.disk_faults w.new) (is_disk_stop result) }

@@ -1,8 +1,9 @@
 // A store is mounted.
-ghost use Rattle.std.specs.Prelude.{ℕ, ◌≡◌, ◌≢◌, ◌<◌, Err, IfErr, IfOk, IfSome, OnOk};
+ghost use Rattle.std.specs.Prelude.{ℕ, ◌≡◌, ◌≢◌, ◌⊎◌, ◌<◌, Err, IfErr, IfOk, IfSome, OnOk};
 ghost use Rattle.pss_base.specs.Causes.{HasCauseIf};
 ghost use Rattle.pss_catalog.specs.Catalog.{Catalog};
 ghost use Rattle.pss_disk.specs.Moments.{IsSettled, Through};
+ghost use Rattle.pss_disk.specs.Reading.{OnlyReads};
 ghost use Rattle.redo_journal.specs.Journal.{journal_end};
 ghost use Rattle.page_store.specs.Stores.{AllHave};
 ghost use Rattle.type_layout.specs.Sound.{IsSoundSchema};
@@ -52,7 +53,7 @@ fn mount_settled<W: Station>(
     requires settled { IsSettled (W.content w.old) (W.now w.old) }
     ensures mounted { IfOk result (λ mounted. HasMounted schema.now mounted (W.content w.old) (W.content w.new)) }
     ensures refused { IfErr result (λ why. IfSome (W.content w.old) (IsRefusal schema.now why)) }
-    ensures same { IfErr result (λ why. why ≢ fault.DiskFault → W.content w.new ≡ W.content w.old) }
+    ensures reads { IfErr result (λ why. why ≢ fault.DiskFault → OnlyReads W.now W.content W.history W.speak_faults w.old w.new) }
     ensures content { IsSameButGate (W.content w.old) (W.content w.new) }
     ensures images { (M : Catalog) (next : ℕ) → IfSome (W.content w.old) (λ c. Stands schema.now M next c → Through (W.history w.old) (W.history w.new) (AllHave (Stands schema.now M next))) }
     ensures settled { OnOk result (IsSettled (W.content w.new) (W.now w.new)) }
@@ -70,8 +71,9 @@ impl Store {
     /// It closes the gate that ends the journal, where that is open, and makes sure of it.
     ///
     /// After `Ok` the store stands for the objects and the next serial that are answered, and nothing is pending. `NotAStore`,
-    /// `ShapeDiffers` and `Damaged` tell what the file is refused for; with them and with `NoMemory` its content stays. Once the file is
-    /// made sure of, each image at each moment stands for what the content stood for.
+    /// `ShapeDiffers` and `Damaged` tell what the file is refused for; with them and with `NoMemory` its content stays, each moment on the
+    /// way is the one before or has the content as its only image, and nothing is pending. Once the file is made sure of, each image at each
+    /// moment stands for what the content stood for.
     pub fn mount<W: Station>(
         alloc: Global,
         w: &mut W,
@@ -81,6 +83,8 @@ impl Store {
         ensures mounted { IfOk result (λ mounted. HasMounted schema.now mounted (W.content w.old) (W.content w.new)) }
         ensures refused { IfErr result (λ why. IfSome (W.content w.old) (IsRefusal schema.now why)) }
         ensures same { IfErr result (λ why. why ≢ fault.DiskFault → W.content w.new ≡ W.content w.old) }
+        ensures refused_stays { IfErr result (λ why. why ≢ fault.DiskFault → Through (W.history w.old) (W.history w.new) (λ m. (m ≡ W.now w.old) ⊎ IsSettled (W.content w.old) m)) }
+        ensures refused_settled { IfErr result (λ why. why ≢ fault.DiskFault → IsSettled (W.content w.new) (W.now w.new)) }
         ensures content { IsSameButGate (W.content w.old) (W.content w.new) }
         ensures images { (M : Catalog) (next : ℕ) → IfSome (W.content w.old) (λ c. Stands schema.now M next c → FromSync (W.history w.old) (W.history w.new) (W.now w.old) (AllHave (Stands schema.now M next))) }
         ensures settled { OnOk result (IsSettled (W.content w.new) (W.now w.new)) }

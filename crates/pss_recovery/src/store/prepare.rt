@@ -34,7 +34,7 @@ impl Store {
         ensures body { IfOk result (λ prepared. prepared.body ≡ body) }
         ensures kept { OnOk result ((S : Schema) (M : Catalog) (next : ℕ) → IfSome (W.content w.old) (λ before. IsMounted S M next self.old before → IfSome (W.content w.new) (IsMounted S M next self.new))) }
         ensures images { (S : Schema) (M : Catalog) (next : ℕ) → IfSome (W.content w.old) (λ before. IsMounted S M next self.old before → Through (W.history w.old) (W.history w.new) (AllHave (Stands S M next))) }
-        ensures still { Fits self.old.journal.end (length (body_octets body)) → (W.content w.new ≡ W.content w.old) × (W.now w.new ≡ W.now w.old) }
+        ensures still { Fits self.old.journal.end (length (body_octets body)) → w.new ≡ w.old }
         ensures same { Fits self.old.journal.end (length (body_octets body)) → (S : Schema) (M : Catalog) (next : ℕ) (content : List ℕ) → IsMounted S M next self.old content → IsMounted S M next self.new content }
         ensures checkpoint { (Fits self.old.journal.end (length (body_octets body)) → ⊥) → OnOk result (self.new.journal.end ≡ journal_start) }
         ensures told { OnOk result (is_some (W.content w.new) ≡ is_some (W.content w.old)) }

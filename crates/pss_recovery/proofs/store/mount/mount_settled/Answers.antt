@@ -21,8 +21,8 @@ returns-in-Ok-clause-mounted g c =
 pub returns-in-Ok-clause-refused : goal.returns-in-Ok-clause-refused
 returns-in-Ok-clause-refused g c = only_disk c.args.schema.now (g.W.Station.content c.args.w.now) c.close_end.result c.close_end.ensures.only
 
-pub returns-in-Ok-clause-same : goal.returns-in-Ok-clause-same
-returns-in-Ok-clause-same g c = never_other _ c.close_end.result c.close_end.ensures.only
+pub returns-in-Ok-clause-reads : goal.returns-in-Ok-clause-reads
+returns-in-Ok-clause-reads g c = never_other _ c.close_end.result c.close_end.ensures.only
 
 pub returns-in-Ok-clause-content : goal.returns-in-Ok-clause-content
 returns-in-Ok-clause-content g c =

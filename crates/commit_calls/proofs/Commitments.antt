@@ -24,7 +24,7 @@ use Rattle.pss_machine.specs.Owners.{Owner, net}
 use Rattle.pss_machine.specs.Kept.{Kept}
 use Rattle.pss_machine.specs.Deciding.{is_over_full, unless_full}
 use Rattle.pss_machine.specs.declared.reply.Reply.TheVariants as reply
-use Rattle.pss_machine.specs.Effects.{Effect, Stays, Commits, Flushes, RollsBack, Decision, says}
+use Rattle.pss_machine.specs.Effects.{Effect, Stays, OpensBasic, OpensTransactional, ClosesBasic, ClosesTransactional, Begins, Associates, Ends, Holds, Steps, Commits, Flushes, RollsBack, Decision, says}
 use Rattle.pss_machine.specs.Moving.{moved, with_commit, title_of}
 use Rattle.pss_machine.proofs.Logic.{same_some, true_false}
 use Rattle.pss_laws.specs.Storable.{NothingOrStorable}
@@ -38,7 +38,7 @@ use Rattle.commit_calls.specs.declared.ready.Ready.{Ready}
 use Rattle.commit_calls.specs.Ready.{IsReady, MayMakeReady}
 use Rattle.commit_calls.specs.Storing.{StoresNet, Made, Came}
 use Rattle.commit_calls.proofs.Outcomes.{is_not, unless_is}
-use Rattle.commit_saving.specs.Saving.{IfTold, Leaves, MaySave, changed_by, put_of, saved_by, saved_next}
+use Rattle.commit_saving.specs.Saving.{IfTold, Leaves, MaySave, StoresNothing, changed_by, put_of, saved_by, saved_next}
 use Rattle.commit_saving.proofs.Savings.{leaves_net, right_all, same_length}
 use Rattle.commit_saving.proofs.Stored.{some_under}
 
@@ -70,6 +70,27 @@ same_saved S M saved next [] [] are = refl
 same_saved S M saved next [] (d ∷ ds) are = absurd are
 same_saved S M saved next (c ∷ cs) [] are = absurd are
 same_saved S M saved next (c ∷ cs) (d ∷ ds) are = refl
+
+-- what stores nothing leaves the next serial that is stored
+unsaved : (k : Kept) (saved : ℕ) (e : Effect) → StoresNothing k e → saved_by k saved e ≡ saved
+unsaved k saved Stays nothing = refl
+unsaved k saved (OpensBasic name access) nothing = refl
+unsaved k saved (OpensTransactional name access) nothing = refl
+unsaved k saved (ClosesBasic s n) nothing = refl
+unsaved k saved (ClosesTransactional s) nothing = refl
+unsaved k saved (Begins name level) nothing = refl
+unsaved k saved (Associates s association) nothing = refl
+unsaved k saved (Ends s n failed) nothing = refl
+unsaved k saved (Holds s copies) nothing = refl
+unsaved k saved (Steps n s step asked) nothing = refl
+unsaved k saved (Commits n) nothing = ap (saved_next saved k.next) nothing
+unsaved k saved (Flushes n) nothing = ap (saved_next saved k.next) nothing
+unsaved k saved (RollsBack n) nothing = refl
+
+-- a next serial that some change would store is not one above it
+none_of : {T : Type 0} (next : ℕ) (xs : List T) → saved_next (suc next) next xs ≡ suc next → xs ≡ []
+none_of next [] is = refl
+none_of next (x ∷ xs) is = (let never : ⊥ = omega (arith, is) in absurd never)
 
 -- ---- what is ready
 
@@ -152,6 +173,10 @@ module _ (c d : Parts) (n : OwnerNo) (m : MayMakeReady c n) (ready : Ready) (is 
       pub saved_is : (saved : ℕ) → saved_next saved k.next ready.commit.changes ≡ saved_by k saved e
       saved_is saved = same_saved S k.catalog saved k.next ready.commit.changes ds changes_are ∙ sym (net_is.saved saved)
 
+      -- where nothing is stored, there are no changes
+      pub unchanged : StoresNothing k e → ready.commit.changes ≡ []
+      unchanged nothing = none_of k.next ready.commit.changes (saved_is (suc k.next) ∙ unsaved k (suc k.next) e nothing)
+
       pub becomes : (after : Store) (old new : Option (List ℕ))
           → ((M N : Catalog) (saved : ℕ) → Leaves S M saved k.next ready.commit.changes N → IfSome old (λ octets. IsMounted S M saved store octets → IfTold new (IsMounted S N (saved_next saved k.next ready.commit.changes) after)))
           → (saved : ℕ) → IfSome old (λ octets. IsMounted S k.catalog saved store octets → IfTold new (IsMounted S (moved k e).catalog (saved_by k saved e) after))
@@ -197,6 +222,9 @@ module _ (c d : Parts) (n : OwnerNo) (m : MayMakeReady c n) (ready : Ready) (is 
         subst (λ (f : Effect). IfSome old (λ octets. IsMounted c.schema m.kept.catalog saved store octets → Through x y (AllHave (StandsEither c.schema m.kept.catalog saved (moved m.kept f).catalog (saved_by m.kept saved f))))) (sym effect_is)
         (passes c d n m ready is stay room e net_is store below old x y (as_ready (Came store old x y) came c.schema) saved)
 
+    pub unchanged_as : StoresNothing m.kept (unless_full c.schema c.limits m.kept n e).effect → ready.commit.changes ≡ []
+    unchanged_as nothing = unchanged c d n m ready is stay room e net_is store below (subst (StoresNothing m.kept) effect_is nothing)
+
     pub next_as : (last : ℕ) → last ≡ saved_next store.next next ready.commit.changes → last ≡ saved_by m.kept store.next (unless_full c.schema c.limits m.kept n e).effect
     next_as last is_next =
         as_ready (λ x l. last ≡ saved_next store.next x l) is_next ∙ saved_is c d n m ready is stay room e net_is store below store.next ∙ ap (saved_by m.kept store.next) (sym effect_is)
@@ -204,11 +232,11 @@ module _ (c d : Parts) (n : OwnerNo) (m : MayMakeReady c n) (ready : Ready) (is 
 -- ---- where nothing is stored
 
 -- an effect that changes no object and stores nothing
-pub record StoresNothing (k : Kept) (e : Effect) : Type 0 where
+pub record KeepsStored (k : Kept) (e : Effect) : Type 0 where
   pub catalog : (moved k e).catalog ≡ k.catalog
   pub saved : (saved : ℕ) → saved_by k saved e ≡ saved
 
-module _ (S : Schema) (k : Kept) (e : Effect) (nothing : StoresNothing k e) (store : Store) where
+module _ (S : Schema) (k : Kept) (e : Effect) (nothing : KeepsStored k e) (store : Store) where
   pub becomes_same : (o : Option (List ℕ)) (saved : ℕ) → IfSome o (λ octets. IsMounted S k.catalog saved store octets → IfTold o (IsMounted S (moved k e).catalog (saved_by k saved e) store))
   becomes_same None saved = tt
   becomes_same (Some c) saved = λ mounted.
@@ -218,18 +246,18 @@ module _ (S : Schema) (k : Kept) (e : Effect) (nothing : StoresNothing k e) (sto
   passes_none None x saved = tt
   passes_none (Some c) x saved = λ mounted. none_came x (AllHave (StandsEither S k.catalog saved (moved k e).catalog (saved_by k saved e)))
 
-pub stays_nothing : (k : Kept) → StoresNothing k Stays
+pub stays_nothing : (k : Kept) → KeepsStored k Stays
 stays_nothing k = record { catalog = refl; saved = λ saved. refl }
 
-pub rolls_nothing : (k : Kept) (n : OwnerNo) → StoresNothing k (RollsBack n)
+pub rolls_nothing : (k : Kept) (n : OwnerNo) → KeepsStored k (RollsBack n)
 rolls_nothing k n = record { catalog = refl; saved = λ saved. refl }
 
 -- the same of a decision that is equal
-pub nothing_as : (k : Kept) (x y : Decision) → x ≡ y → StoresNothing k y.effect → StoresNothing k x.effect
-nothing_as k x y same = subst (λ (d : Decision). StoresNothing k d.effect) (sym same)
+pub nothing_as : (k : Kept) (x y : Decision) → x ≡ y → KeepsStored k y.effect → KeepsStored k x.effect
+nothing_as k x y same = subst (λ (d : Decision). KeepsStored k d.effect) (sym same)
 
 -- where the objects would weigh too much, nothing is stored
-pub full_nothing : (S : Schema) (limits : Limits) (k : Kept) (n : OwnerNo) (owner : Owner) (e : Effect) → get k.owners n.0 ≡ Some owner → false ≡ not (is_over_full S limits k.catalog owner) → StoresNothing k (unless_full S limits k n e).effect
+pub full_nothing : (S : Schema) (limits : Limits) (k : Kept) (n : OwnerNo) (owner : Owner) (e : Effect) → get k.owners n.0 ≡ Some owner → false ≡ not (is_over_full S limits k.catalog owner) → KeepsStored k (unless_full S limits k n e).effect
 full_nothing S limits k n owner e there over =
     nothing_as k (unless_full S limits k n e) (says reply.Full) (unless_is S limits k n owner e true there (is_not false (is_over_full S limits k.catalog owner) true over refl)) (stays_nothing k)
 

@@ -14,7 +14,7 @@ ghost use Rattle.pss_recovery.specs.Silence.{IsSilent};
 ghost use Rattle.connector_parts.specs.Stands.{Stands, AnyAt, IsAt, StayAs, Comes};
 ghost use Rattle.commit_calls.specs.Ready.{MayMakeReady, IsReady};
 ghost use Rattle.commit_calls.specs.Commits.{MayCommit, MayApply, IsBehind, IsCalled, Follows};
-ghost use Rattle.commit_saving.specs.Saving.{BecomesSaved, IsSavedThroughout, StaysSaved, saved_by};
+ghost use Rattle.commit_saving.specs.Saving.{BecomesSaved, IsSavedThroughout, StaysSaved, StoresNothing, saved_by};
 
 use crate::ready::Ready;
 use crate::storing::store_changes;
@@ -74,6 +74,7 @@ fn commit_changes<L: Ledger, W: Station>(
     ensures images { (m : MayMakeReady parts.old owner) → IsSavedThroughout W.content W.history parts.old.schema m.kept (unless_full parts.old.schema parts.old.limits m.kept owner (Commits owner)).effect store.old station.old station.new }
     ensures memory { IfErr result (λ why. why ≡ stop.NoMemory → (m : MayMakeReady parts.old owner) → StaysSaved W.content W.history parts.old.schema m.kept store.old station.old station.new) }
     ensures next { OnOk result ((m : MayMakeReady parts.old owner) → store.new.next ≡ saved_by m.kept store.old.next (unless_full parts.old.schema parts.old.limits m.kept owner (Commits owner)).effect) }
+    ensures still { (m : MayMakeReady parts.old owner) → StoresNothing m.kept (unless_full parts.old.schema parts.old.limits m.kept owner (Commits owner)).effect → station.new ≡ station.old }
     ensures settled { OnOk result (IsSettled (W.content station.new) (W.now station.new)) }
     ensures silent { IsSilent W.now W.history W.speak_faults station.old station.new }
     ensures cause { HasCauseIf (W.disk_faults station.old) (W.disk_faults station.new) (is_disk_stop result) }
@@ -88,7 +89,7 @@ fn commit_changes<L: Ledger, W: Station>(
 }
 
 /// `commit T`: `OK`, `NOTRANSACTION`, `OPEN`, `ROLLEDBACK` or `FULL`. Where it changed an object, `OK` comes when the store
-/// holds the changes, with the next serial.
+/// holds the changes, with the next serial. Where nothing is stored, the disk is not called.
 ///
 /// At each moment each image stands for the objects before, with the next serial that was stored, or for those after. After
 /// `NoMemory` each stands for those before. After either error neither parts nor store are used again.
@@ -107,6 +108,7 @@ pub fn commit<L: Ledger, W: Station>(
     ensures images { (k : Kept) → IsAt parts.old k → IsSavedThroughout W.content W.history parts.old.schema k (decision parts.old.schema parts.old.limits k (command.Commit transaction.now)).effect store.old station.old station.new }
     ensures memory { IfErr result (λ why. why ≡ stop.NoMemory → (k : Kept) → IsAt parts.old k → StaysSaved W.content W.history parts.old.schema k store.old station.old station.new) }
     ensures next { OnOk result ((k : Kept) → IsAt parts.old k → store.new.next ≡ saved_by k store.old.next (decision parts.old.schema parts.old.limits k (command.Commit transaction.now)).effect) }
+    ensures still { (k : Kept) → IsAt parts.old k → StoresNothing k (decision parts.old.schema parts.old.limits k (command.Commit transaction.now)).effect → station.new ≡ station.old }
     ensures settled { OnOk result (IsSettled (W.content station.new) (W.now station.new)) }
     ensures silent { IsSilent W.now W.history W.speak_faults station.old station.new }
     ensures cause { HasCauseIf (W.disk_faults station.old) (W.disk_faults station.new) (is_disk_stop result) }

@@ -1,5 +1,5 @@
 // What owners changed is stored.
-ghost use Rattle.std.specs.Prelude.{◌≡◌, not, is_some, IfErr, IfOk, IfSome, OnOk};
+ghost use Rattle.std.specs.Prelude.{◌≡◌, [], not, is_some, IfErr, IfOk, IfSome, OnOk};
 ghost use Rattle.pss_base.specs.Causes.{HasCauseIf};
 ghost use Rattle.pss_base.specs.declared.stop.StoreStop.TheVariants as stop;
 ghost use Rattle.pss_disk.specs.Moments.{IsSettled};
@@ -13,7 +13,7 @@ ghost use Rattle.connector_parts.specs.Stands.{Stands, IsAt, StayAs};
 ghost use Rattle.commit_calls.specs.Ready.{MayMakeReady, IsReady};
 ghost use Rattle.commit_calls.specs.Commits.{IsBehind};
 ghost use Rattle.commit_calls.specs.Storing.{StoresNet, Made, Came};
-ghost use Rattle.commit_saving.specs.Saving.{MaySave, BecomesSaved, IsSavedThroughout, StaysSaved, saved_by, saved_next};
+ghost use Rattle.commit_saving.specs.Saving.{MaySave, BecomesSaved, IsSavedThroughout, StaysSaved, StoresNothing, saved_by, saved_next};
 
 use crate::ready::{Ready, make_ready};
 use commit_saving::save;
@@ -37,6 +37,7 @@ fn store_ready<W: Station>(
     ensures images { Came store.old (W.content station.old) (W.history station.old) (W.history station.new) next ready.now.commit.changes }
     ensures memory { IfErr result (λ why. why ≡ stop.NoMemory → (S : Schema) (k : Kept) → StaysSaved W.content W.history S k store.old station.old station.new) }
     ensures next { OnOk result (store.new.next ≡ saved_next store.old.next next ready.now.commit.changes) }
+    ensures still { ready.now.commit.changes ≡ [] → station.new ≡ station.old }
     ensures settled { OnOk result (IsSettled (W.content station.new) (W.now station.new)) }
     ensures silent { IsSilent W.now W.history W.speak_faults station.old station.new }
     ensures cause { HasCauseIf (W.disk_faults station.old) (W.disk_faults station.new) (is_disk_stop result) }
@@ -51,7 +52,7 @@ fn store_ready<W: Station>(
 }
 
 /// Makes ready what an owner changed, and stores it with the next serial. None exactly where the objects would weigh more together
-/// than they may: then nothing is stored.
+/// than they may: then nothing is stored. Where nothing is stored, the disk is not called.
 pub fn store_changes<W: Station>(
     parts: &mut Parts,
     store: &mut Store,
@@ -69,6 +70,7 @@ pub fn store_changes<W: Station>(
     ensures images { (m : MayMakeReady parts.old owner) (e : Effect) → StoresNet m.kept m.owner e → IsSavedThroughout W.content W.history parts.old.schema m.kept (unless_full parts.old.schema parts.old.limits m.kept owner e).effect store.old station.old station.new }
     ensures memory { IfErr result (λ why. why ≡ stop.NoMemory → (m : MayMakeReady parts.old owner) → StaysSaved W.content W.history parts.old.schema m.kept store.old station.old station.new) }
     ensures next { OnOk result ((m : MayMakeReady parts.old owner) (e : Effect) → StoresNet m.kept m.owner e → store.new.next ≡ saved_by m.kept store.old.next (unless_full parts.old.schema parts.old.limits m.kept owner e).effect) }
+    ensures still { (m : MayMakeReady parts.old owner) (e : Effect) → StoresNet m.kept m.owner e → StoresNothing m.kept (unless_full parts.old.schema parts.old.limits m.kept owner e).effect → station.new ≡ station.old }
     ensures settled { OnOk result (IsSettled (W.content station.new) (W.now station.new)) }
     ensures silent { IsSilent W.now W.history W.speak_faults station.old station.new }
     ensures cause { HasCauseIf (W.disk_faults station.old) (W.disk_faults station.new) (is_disk_stop result) }

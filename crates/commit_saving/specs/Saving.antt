@@ -60,6 +60,12 @@ pub record MaySave (store : Store) (next : ℕ) (changes : List Change) : Type 0
 abbrev pub changed_by : Kept → OwnerNo → List Step
 changed_by k n = given (get k.owners n.0) [] (λ owner. net k.catalog owner)
 
+-- an effect stores nothing: it is no commit or flush, or one of an owner that changes nothing
+abbrev pub StoresNothing : Kept → Effect → Type 0
+StoresNothing k (Commits n) = changed_by k n ≡ []
+StoresNothing k (Flushes n) = changed_by k n ≡ []
+StoresNothing k _ = Unit {0}
+
 -- the next serial that is stored after an effect, where this one is before
 abbrev pub saved_by : Kept → ℕ → Effect → ℕ
 saved_by k saved Stays = saved

@@ -1,5 +1,5 @@
 // What is committed is stored.
-ghost use Rattle.std.specs.Prelude.{ℕ, ◌≡◌, IfErr, IfOk, IfSome, OnOk};
+ghost use Rattle.std.specs.Prelude.{ℕ, ◌≡◌, [], IfErr, IfOk, IfSome, IsOk, OnOk};
 ghost use Rattle.pss_base.specs.Causes.{HasCauseIf};
 ghost use Rattle.pss_base.specs.declared.stop.StoreStop.TheVariants as stop;
 ghost use Rattle.pss_catalog.specs.Catalog.{Catalog};
@@ -67,6 +67,7 @@ pub fn save<W: Station>(
     ensures images { (S : Schema) (M N : Catalog) (saved : ℕ) → Leaves S M saved next changes.now N → IfSome (W.content station.old) (λ before. IsMounted S M saved store.old before → Through (W.history station.old) (W.history station.new) (AllHave (StandsEither S M saved N (saved_next saved next changes.now)))) }
     ensures memory { IfErr result (λ why. why ≡ stop.NoMemory → (S : Schema) (M : Catalog) (saved : ℕ) → IfSome (W.content station.old) (λ before. IsMounted S M saved store.old before → Through (W.history station.old) (W.history station.new) (AllHave (Stands S M saved)))) }
     ensures next { OnOk result (store.new.next ≡ saved_next store.old.next next changes.now) }
+    ensures still { changes.now ≡ [] → (station.new ≡ station.old) × (store.new ≡ store.old) × IsOk result }
     ensures settled { OnOk result (IsSettled (W.content station.new) (W.now station.new)) }
     ensures silent { IsSilent W.now W.history W.speak_faults station.old station.new }
     ensures cause { HasCauseIf (W.disk_faults station.old) (W.disk_faults station.new) (is_disk_stop result) }

@@ -19,7 +19,7 @@ use Rattle.pss_machine.specs.Effects.{Effect, Stays, OpensBasic, OpensTransactio
 use Rattle.pss_machine.specs.Stepping.{within, step_of, reply_to, unless_busy, decided, data_command}
 use Rattle.pss_machine.specs.Deciding.{in_session, for_transaction, opening, beginning, closing, starting, suspending, ending, telling_state, with_entry, counting, recounting, telling_pid, refreshing, freeing, telling_home, decision}
 use Rattle.pss_machine.proofs.Cases.{of_given}
-use Rattle.commit_calls.proofs.Commitments.{StoresNothing}
+use Rattle.commit_calls.proofs.Commitments.{KeepsStored}
 use Rattle.connector.specs.Storing.{IsInMemory}
 
 -- an effect that is no commit
@@ -28,7 +28,7 @@ IsPlain (Commits n) = ⊥
 IsPlain (Flushes n) = ⊥
 IsPlain _ = Unit {0}
 
-plain_nothing : (k : Kept) (e : Effect) → IsPlain e → StoresNothing k e
+plain_nothing : (k : Kept) (e : Effect) → IsPlain e → KeepsStored k e
 plain_nothing k Stays plain = record { catalog = refl; saved = λ saved. refl }
 plain_nothing k (OpensBasic name access) plain = record { catalog = refl; saved = λ saved. refl }
 plain_nothing k (OpensTransactional name access) plain = record { catalog = refl; saved = λ saved. refl }
@@ -139,5 +139,5 @@ module _ (S : Schema) (limits : Limits) (k : Kept) where
   decision_right command.History memory = tt
 
   -- so of each of them
-  pub in_memory_nothing : (command : Command) → IsInMemory command → StoresNothing k (decision S limits k command).effect
+  pub in_memory_nothing : (command : Command) → IsInMemory command → KeepsStored k (decision S limits k command).effect
   in_memory_nothing command memory = plain_nothing k (decision S limits k command).effect (decision_right command memory)

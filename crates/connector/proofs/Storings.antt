@@ -17,7 +17,7 @@ use Rattle.pss_recovery.specs.Stands.{Stands}
 use Rattle.connector_parts.specs.declared.parts.Parts.{Parts}
 use Rattle.commit_saving.specs.Saving.{IfTold, saved_by}
 use Rattle.commit_saving.proofs.Stored.{told_there, either_of}
-use Rattle.commit_calls.proofs.Commitments.{StoresNothing, becomes_same, passes_none}
+use Rattle.commit_calls.proofs.Commitments.{KeepsStored, becomes_same, passes_none}
 use Rattle.connector.specs.Storing.{IsInMemory}
 use Rattle.connector.proofs.InMemory.{in_memory_nothing}
 
@@ -28,7 +28,7 @@ effect_of p k x = (decision p.schema p.limits k x).effect
 -- ---- nothing to do with the store
 
 module _ (p : Parts) (x : Command) (memory : IsInMemory x) (k : Kept) (store : Store) where
-  nothing : StoresNothing k (effect_of p k x)
+  nothing : KeepsStored k (effect_of p k x)
   nothing = in_memory_nothing p.schema p.limits k x memory
 
   pub memory_saved : (content : Option (List ℕ)) (saved : ℕ) → IfSome content (λ octets. IsMounted p.schema k.catalog saved store octets → IfTold content (IsMounted p.schema (moved k (effect_of p k x)).catalog (saved_by k saved (effect_of p k x)) store))

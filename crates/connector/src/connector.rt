@@ -12,7 +12,7 @@ ghost use Rattle.pss_machine.specs.Deciding.{decision};
 ghost use Rattle.pss_machine.specs.Moving.{moved};
 ghost use Rattle.pss_recovery.specs.Mounted.{HasNoRecord};
 ghost use Rattle.pss_recovery.specs.Silence.{IsSilent};
-ghost use Rattle.commit_saving.specs.Saving.{BecomesSaved, IsSavedThroughout, StaysSaved};
+ghost use Rattle.commit_saving.specs.Saving.{BecomesSaved, IsSavedThroughout, StaysSaved, StoresNothing};
 ghost use Rattle.connector.specs.Keeping.{Keeps, AnyKept, AnyObjects, AreWithin, HasObjects, schema_of, limits_of, store_of, performed_by, is_live};
 ghost use Rattle.connector.specs.Rests.{HasShortRest};
 
@@ -94,14 +94,15 @@ impl Connector {
     ///
     /// At each moment each image stands for the objects before the command, with the next serial that was stored; or, where
     /// it is a commit or flush that changes an object, for the objects after it, with the next serial that the machine has. After
-    /// `Ok` each stands for the latter, and nothing is pending.
+    /// `Ok` each stands for the latter, and nothing is pending. A command that stores nothing does not call the disk, but for a
+    /// checkpoint.
     ///
     /// `DiskFault`: a call of the disk failed. `NoMemory`: there was no memory, and each image at each moment stands for the
     /// objects before. After either the connector is not live any more, and nothing more is said of it.
     pub fn perform<W: Station>(
         &mut self,
-        command: &Command<'_>,
         station: &mut W,
+        command: &Command<'_>,
     ) -> Result<Reply, StoreStop>
         requires live { is_live self.old ≡ true }
         requires kept { AnyKept self.old }
@@ -113,6 +114,7 @@ impl Connector {
         ensures saved { OnOk result ((k : Kept) → Keeps self.old k → BecomesSaved W.content (schema_of self.old) k (decision (schema_of self.old) (limits_of self.old) k command.now).effect (store_of self.old) (store_of self.new) station.old station.new) }
         ensures images { (k : Kept) → Keeps self.old k → IsSavedThroughout W.content W.history (schema_of self.old) k (decision (schema_of self.old) (limits_of self.old) k command.now).effect (store_of self.old) station.old station.new }
         ensures memory { IfErr result (λ why. why ≡ stop.NoMemory → (k : Kept) → Keeps self.old k → StaysSaved W.content W.history (schema_of self.old) k (store_of self.old) station.old station.new) }
+        ensures still { (command.now ≡ commands.Checkpoint → ⊥) → (k : Kept) → Keeps self.old k → StoresNothing k (decision (schema_of self.old) (limits_of self.old) k command.now).effect → station.new ≡ station.old }
         ensures emptied { command.now ≡ commands.Checkpoint → OnOk result (IfSome (W.content station.new) HasNoRecord) }
         ensures settled { OnOk result (IsSettled (W.content station.new) (W.now station.new)) }
         ensures silent { IsSilent W.now W.history W.speak_faults station.old station.new }

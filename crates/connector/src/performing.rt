@@ -10,7 +10,7 @@ ghost use Rattle.pss_machine.specs.Deciding.{decision};
 ghost use Rattle.pss_recovery.specs.Mounted.{HasNoRecord};
 ghost use Rattle.pss_recovery.specs.Silence.{IsSilent};
 ghost use Rattle.connector_parts.specs.Stands.{AnyAt, IsAt, Comes};
-ghost use Rattle.commit_saving.specs.Saving.{BecomesSaved, IsSavedThroughout, StaysSaved, saved_by};
+ghost use Rattle.commit_saving.specs.Saving.{BecomesSaved, IsSavedThroughout, StaysSaved, StoresNothing, saved_by};
 ghost use Rattle.commit_calls.specs.Commits.{IsBehind};
 ghost use Rattle.connector.specs.Rests.{HasShortRest};
 ghost use Rattle.connector.specs.Storing.{IsInMemory};
@@ -106,6 +106,7 @@ fn perform<L: Ledger, W: Station>(
     ensures images { (k : Kept) → IsAt parts.old k → IsSavedThroughout W.content W.history parts.old.schema k (decision parts.old.schema parts.old.limits k command.now).effect store.old station.old station.new }
     ensures memory { IfErr result (λ why. why ≡ stop.NoMemory → (k : Kept) → IsAt parts.old k → StaysSaved W.content W.history parts.old.schema k store.old station.old station.new) }
     ensures next { OnOk result ((k : Kept) → IsAt parts.old k → store.new.next ≡ saved_by k store.old.next (decision parts.old.schema parts.old.limits k command.now).effect) }
+    ensures still { (command.now ≡ commands.Checkpoint → ⊥) → (k : Kept) → IsAt parts.old k → StoresNothing k (decision parts.old.schema parts.old.limits k command.now).effect → station.new ≡ station.old }
     ensures emptied { command.now ≡ commands.Checkpoint → OnOk result (IfSome (W.content station.new) HasNoRecord) }
     ensures settled { OnOk result (IsSettled (W.content station.new) (W.now station.new)) }
     ensures silent { IsSilent W.now W.history W.speak_faults station.old station.new }
@@ -145,6 +146,7 @@ pub fn perform_counted<L: Ledger, W: Station>(
     ensures images { (k : Kept) → IsAt parts.old k → IsSavedThroughout W.content W.history parts.old.schema k (decision parts.old.schema parts.old.limits k command.now).effect store.old station.old station.new }
     ensures memory { IfErr result (λ why. why ≡ stop.NoMemory → (k : Kept) → IsAt parts.old k → StaysSaved W.content W.history parts.old.schema k store.old station.old station.new) }
     ensures next { OnOk result ((k : Kept) → IsAt parts.old k → store.new.next ≡ saved_by k store.old.next (decision parts.old.schema parts.old.limits k command.now).effect) }
+    ensures still { (command.now ≡ commands.Checkpoint → ⊥) → (k : Kept) → IsAt parts.old k → StoresNothing k (decision parts.old.schema parts.old.limits k command.now).effect → station.new ≡ station.old }
     ensures emptied { command.now ≡ commands.Checkpoint → OnOk result (IfSome (W.content station.new) HasNoRecord) }
     ensures settled { OnOk result (IsSettled (W.content station.new) (W.now station.new)) }
     ensures silent { IsSilent W.now W.history W.speak_faults station.old station.new }

@@ -8,7 +8,8 @@ use pss_base::{Bytes, NoMemory};
 
 impl Connector {
     /// Performs a `get` by its words as they stand in the line, where an entry's copy tells the value at once: its text is added to the
-    /// line that is told. False: none does, and all is as before, so it is to be performed by `perform`. The store is left alone.
+    /// line that is told. False, which may come for any words: all is as before, and it is to be performed by `perform`. The store is left
+    /// alone.
     ///
     /// `NoMemory`: there was no memory. The connector is not live any more, and nothing more is said of it.
     #[inline(always)]

@@ -86,8 +86,8 @@ fn print_seen(
 }
 
 /// A `get` of these words that a body tells: the text of the value is added to the line. Nothing is locked or changed, the entry stands
-/// where it stood, and the owner has done a command more. False: no body tells it, and all is as before; it is to be asked by `get`.
-/// After `NoMemory` nothing is said of the line.
+/// where it stood, and the owner has done a command more. False, which may come for any words: all is as before, and it is to be asked by
+/// `get`. After `NoMemory` nothing is said of the line.
 #[inline(always)]
 pub fn tell(
     parts: &mut Parts,

@@ -1,5 +1,5 @@
 -- The next serial that is stored lies above each serial of an object that was stored, and not above the machine's.
-use Rattle.std.proofs.Common.{ℕ, ◌≡◌, ◌⊎◌, inl, inr, ◌<◌, ◌≤◌, le_refl, arith, Bool, true, false, List, [], ◌∷◌, ◌++◌, map, length, Option, Some, None, IfSome, refl, sym, ap, ◌∙◌, subst}
+use Rattle.std.proofs.Common.{ℕ, ◌≡◌, ◌⊎◌, inl, inr, ◌<◌, ◌≤◌, le_refl, arith, Bool, true, false, List, [], ◌∷◌, ◌++◌, map, length, Option, Some, None, IfSome, IsSomeAnd, refl, sym, ap, ◌∙◌, subst}
 use Rattle.std.specs.Prelude.{if◌then◌else◌, unwrap_or}
 use Rattle.std.specs.FinMap.{get, get-empty, insert, remove}
 use Rattle.std.specs.Ordering.{nat_cmp}
@@ -220,7 +220,7 @@ stored_between stays S limits M next lines sound total good =
     let held : At S (run S limits q told).kept.catalog (run S limits q told).kept.next (run S limits q told).lists (saved_run S limits q next told)
     = lines_at S limits told q next (λ ys. stays S limits M next ys sound total good) (record { given = le_refl next; above = tt; good = good; steps = λ n steps there. absurd (none n steps there) }) in
     let is = served_is S limits lines q next false in
-    subst (λ (r : Running). IfSome r.saved (IsBetween S r (run S limits q told).lists.history)) (sym is.1) (record { given = held.given; above = held.above; good = held.good })
+    subst (λ (r : Running). IsSomeAnd r.saved (IsBetween S r (run S limits q told).lists.history)) (sym is.1) (record { given = held.given; above = held.above; good = held.good })
   where
     none : (n : ℕ) (steps : List Step) → get no_lists.steps n ≡ Some steps → ⊥
     none n steps there = no (sym (get-empty nat_cmp n) ∙ there)

@@ -10,11 +10,11 @@ use Rattle.pss_machine.specs.declared.command.Command.{Command}
 use Rattle.pss_machine.specs.declared.command.Command.TheVariants as command
 use Rattle.pss_machine.specs.declared.reply.Reply.{Reply}
 use Rattle.pss_machine.specs.declared.reply.Reply.TheVariants as reply
-use Rattle.pss_machine.specs.Run.{Said, Silent, Says, reply_of}
+use Rattle.pss_machine.specs.Run.{Said, Says, reply_of}
 use Rattle.pss_recovery.specs.Laws.{MountedStands}
 use Rattle.pss_recovery.specs.Mounted.{HasNoRecord}
 use Rattle.pss_recovery.specs.declared.parts.Parts.{Parts as Store}
-use Rattle.commit_saving.specs.Saving.{BecomesSaved, IsSavedThroughout}
+use Rattle.commit_saving.specs.Saving.{BecomesSaved, IsSavedThroughout, StoresNothing}
 use Rattle.line_service.specs.Spoken.{HasSpoken}
 use Rattle.line_service.specs.Turns.{SaidWhole, Speaks}
 use Rattle.line_service.specs.declared.machine.Turn.{Turn}
@@ -26,7 +26,7 @@ use Rattle.script_service.specs.Turns.{Running, effect_of, line_for, spoken_for,
 use Rattle.script_service.specs.Keeping.{IsHeld, Passes}
 use Rattle.script_service.specs.Going.{Serves}
 use Rattle.script_service.proofs.Held.{held_after, passes_performing, passes_saying}
-use Rattle.script_service.proofs.Nothing.{unstored_stays}
+use Rattle.script_service.proofs.Nothing.{silent_still, unstored_stays}
 use Rattle.script_service.proofs.Told.{Replies, by_state, said_whole, speaks_turn}
 
 -- what was said is one command
@@ -45,11 +45,16 @@ module _ {W : Type 0} (content : W → Option (List ℕ)) (now : W → Moment) (
   abbrev pub IsOfLine : Turn → (before end : Option (List ℕ)) → Moment → Type 0
   IsOfLine result before end m = Passes r line before m × SaidWhole result (turn_from r line).1 before end m.spoken
 
-  pub held_then : (c' : Connector) (old new : W) → IsHeld r (store_of c) (content old) (now old).disk → Stores c' old new → (told_by line ≡ Says command.Checkpoint → IfSome (content new) HasNoRecord) → (told_by line ≡ Silent → new ≡ old)
+  -- where it stores nothing, and is no checkpoint, the station is as before
+  abbrev Still : (old new : W) → Type 0
+  Still old new = (told_by line ≡ Says command.Checkpoint → ⊥) → (k : Kept) → Keeps c k → StoresNothing k (effect_of (schema_of c) (limits_of c) k (told_by line)) → new ≡ old
+
+  pub held_then : (c' : Connector) (old new : W) → IsHeld r (store_of c) (content old) (now old).disk → Stores c' old new → (told_by line ≡ Says command.Checkpoint → IfSome (content new) HasNoRecord) → Still old new
       → IsSettled (content new) (now new) → IsHeld (turn_from r line).0 (store_of c') (content new) (now new).disk
   held_then c' old new held stores emptied still settled =
       held_after law r line (store_of c) (store_of c') (content old) (content new) (now old).disk (now new).disk held
-      (by_state c n r serves (λ S l. BecomesSaved content S r.kept (effect_of S l r.kept (told_by line)) (store_of c) (store_of c') old new) (stores r.kept serves.kept)) settled (λ silent. ap content (still silent)) emptied
+      (by_state c n r serves (λ S l. BecomesSaved content S r.kept (effect_of S l r.kept (told_by line)) (store_of c) (store_of c') old new) (stores r.kept serves.kept)) settled
+      (λ silent. ap content (silent_still (schema_of c) (limits_of c) r.kept (told_by line) silent (λ other. still other r.kept serves.kept))) emptied
 
   -- while it is performed nothing is spoken
   pub performing : (result : Turn) (end : Option (List ℕ)) (old new : W) → IsHeld r (store_of c) (content old) (now old).disk → Storing old new → Through (history old) (history new) (IsQuiet (now old)) → Through (history old) (history new) (IsOfLine result (now old).spoken end)
@@ -85,7 +90,7 @@ module _ {W : Type 0} (content : W → Option (List ℕ)) (now : W → Moment) (
         (subst (λ (after : Store). BecomesSaved content (schema_of c) k (effect_of (schema_of c) (limits_of c) k (Says x)) (store_of c) after w w) (sym same)
         (unstored_stays content (schema_of c) k (effect_of (schema_of c) (limits_of c) k (Says x)) (unstored k) (store_of c) w)))
         (λ is. absurd (other (said_same (sym says ∙ is))))
-        (λ silent. refl) held.settled
+        (λ other k keeps nothing. refl) held.settled
 
     -- its reply is spoken
     pub unstored_speaks : (result : Turn) (before end : Option (List ℕ)) → ((k : Kept) → Keeps c k → Speaks result (spoken_for (reply_of (schema_of c) (limits_of c) k (Says x))) before end) → Speaks result (turn_from r line).1 before end

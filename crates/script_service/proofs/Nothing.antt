@@ -4,15 +4,16 @@ use Rattle.pss_disk.specs.Moments.{Moment, Through}
 use Rattle.pss_disk.proofs.Passing.{none_came}
 use Rattle.page_store.specs.Stores.{AllHave}
 use Rattle.type_layout.specs.declared.schema.Schema.{Schema}
+use Rattle.pss_machine.specs.declared.command.Command.TheVariants as command
 use Rattle.pss_machine.specs.declared.limits.Limits.{Limits}
 use Rattle.pss_machine.specs.Kept.{Kept}
 use Rattle.pss_catalog.specs.Catalog.{Catalog}
 use Rattle.pss_machine.specs.Effects.{Effect, Stays}
 use Rattle.pss_machine.specs.Moving.{moved}
-use Rattle.pss_machine.specs.Run.{Said, Silent, Wrong}
+use Rattle.pss_machine.specs.Run.{Said, Silent, Says, Wrong}
 use Rattle.pss_recovery.specs.declared.parts.Parts.{Parts as Store}
 use Rattle.pss_recovery.specs.Mounted.{IsMounted, StandsEither}
-use Rattle.commit_saving.specs.Saving.{BecomesSaved, IfTold, IsSavedThroughout, saved_by}
+use Rattle.commit_saving.specs.Saving.{BecomesSaved, IfTold, IsSavedThroughout, StoresNothing, saved_by}
 use Rattle.connector.specs.Storing.{IsUnstored}
 use Rattle.script_service.specs.Turns.{effect_of}
 
@@ -42,6 +43,12 @@ module _ {W : Type 0} (content : W → Option (List ℕ)) (history : W → List 
 
   pub passes_wrong : (column : ℕ) (told : Said) → Wrong column ≡ told → IsSavedThroughout content history S k (effect_of S limits k told) store w w
   passes_wrong column told is = subst (λ (t : Said). IsSavedThroughout content history S k (effect_of S limits k t) store w w) is passes
+
+-- what is so of a line that stores nothing is so of one that says no command
+pub silent_still : {A : Type 0} (S : Schema) (limits : Limits) (k : Kept) (told : Said) → told ≡ Silent → ((told ≡ Says command.Checkpoint → ⊥) → StoresNothing k (effect_of S limits k told) → A) → A
+silent_still S limits k Silent is still = still (λ never. cc) tt
+silent_still S limits k (Wrong column) is still = absurd cc
+silent_still S limits k (Says x) is still = absurd cc
 
 -- ---- a command that stores nothing
 

@@ -1,5 +1,5 @@
 -- What holds of the next serial that is stored, at any time in a run.
-use Rattle.std.specs.Prelude.{ℕ, ◌<◌, ◌≤◌, List, length, true, None, Some, IfSome}
+use Rattle.std.specs.Prelude.{ℕ, ◌<◌, ◌≤◌, List, length, true, None, Some, IfSome, IsSomeAnd}
 use Rattle.std.specs.declared.option.Option.{Option}
 use Rattle.std.specs.List.{AllByRecursion}
 use Rattle.pss_base.specs.declared.lines.LineStep.{LineStep}
@@ -27,8 +27,9 @@ pub record IsBetween (S : Schema) (r : Running) (history : List Member) (saved :
   pub above : AllByRecursion (MadeBelow saved) history
   pub good : IsGood S r.kept.catalog saved
 
--- so after any lines, under each sound schema and limits that are not above the store's, from each good catalog on
+-- So after any lines, where the station tells of its disk: some next serial is stored, and it is between. Under each sound schema and limits
+-- that are not above the store's, from each good catalog on.
 abbrev pub StoredIsBetween : Type 0
 StoredIsBetween =
     (S : Schema) (limits : Limits) (M : Catalog) (next : ℕ) (lines : List LineStep) → IsSoundSchema S → limits.total ≤ 67108864 → IsGood S M next
-    → IfSome (after turn_from (start S limits M next true) lines).saved (IsBetween S (after turn_from (start S limits M next true) lines) (run_over S limits M next lines).lists.history)
+    → IsSomeAnd (after turn_from (start S limits M next true) lines).saved (IsBetween S (after turn_from (start S limits M next true) lines) (run_over S limits M next lines).lists.history)

@@ -8,10 +8,10 @@ ghost use Rattle.pss_machine.specs.declared.command.Command.TheVariants as comma
 ghost use Rattle.pss_base.specs.declared.lines.LineStep.TheVariants as line_step;
 ghost use Rattle.line_service.specs.Turns.{IsLine};
 ghost use Rattle.pss_machine.specs.Kept.{Kept};
-ghost use Rattle.pss_machine.specs.Run.{Says, Silent, reply_of};
+ghost use Rattle.pss_machine.specs.Run.{Says, reply_of};
 ghost use Rattle.pss_recovery.specs.Mounted.{HasNoRecord};
 ghost use Rattle.pss_recovery.specs.Silence.{IsSilent};
-ghost use Rattle.commit_saving.specs.Saving.{BecomesSaved, IsSavedThroughout, StaysSaved};
+ghost use Rattle.commit_saving.specs.Saving.{BecomesSaved, IsSavedThroughout, StaysSaved, StoresNothing};
 ghost use Rattle.script_text.specs.Meaning as meaning;
 ghost use Rattle.connector.specs.Keeping.{Keeps, schema_of, limits_of, store_of};
 ghost use Rattle.connector.specs.Rests.{HasShortRest};
@@ -43,11 +43,12 @@ fn reply_to_command<W: Station>(
     ensures images { (k : Kept) → Keeps connector.old k → IsSavedThroughout W.content W.history (schema_of connector.old) k (effect_of (schema_of connector.old) (limits_of connector.old) k (Says command.now)) (store_of connector.old) station.old station.new }
     ensures memory { IfErr result (λ why. why ≡ stop.NoMemory → (k : Kept) → Keeps connector.old k → StaysSaved W.content W.history (schema_of connector.old) k (store_of connector.old) station.old station.new) }
     ensures emptied { command.now ≡ commands.Checkpoint → OnOk result (IfSome (W.content station.new) HasNoRecord) }
+    ensures still { (command.now ≡ commands.Checkpoint → ⊥) → (k : Kept) → Keeps connector.old k → StoresNothing k (effect_of (schema_of connector.old) (limits_of connector.old) k (Says command.now)) → station.new ≡ station.old }
     ensures settled { OnOk result (IsSettled (W.content station.new) (W.now station.new)) }
     ensures silent { IsSilent W.now W.history W.speak_faults station.old station.new }
     ensures cause { HasCauseIf (W.disk_faults station.old) (W.disk_faults station.new) (is_disk_stop result) }
 {
-    match connector.perform(command, station) {
+    match connector.perform(station, command) {
         Ok(reply) => Ok(Some(reply)),
         Err(stop) => Err(stop),
     }
@@ -70,7 +71,7 @@ fn reply_to_any<W: Station>(
     ensures images { (k : Kept) → Keeps connector.old k → IsSavedThroughout W.content W.history (schema_of connector.old) k (effect_of (schema_of connector.old) (limits_of connector.old) k (meaning.meaning text.now)) (store_of connector.old) station.old station.new }
     ensures memory { IfErr result (λ why. why ≡ stop.NoMemory → (k : Kept) → Keeps connector.old k → StaysSaved W.content W.history (schema_of connector.old) k (store_of connector.old) station.old station.new) }
     ensures emptied { (meaning.meaning text.now) ≡ Says commands.Checkpoint → OnOk result (IfSome (W.content station.new) HasNoRecord) }
-    ensures still { (meaning.meaning text.now) ≡ Silent → station.new ≡ station.old }
+    ensures still { (meaning.meaning text.now ≡ Says commands.Checkpoint → ⊥) → (k : Kept) → Keeps connector.old k → StoresNothing k (effect_of (schema_of connector.old) (limits_of connector.old) k (meaning.meaning text.now)) → station.new ≡ station.old }
     ensures settled { OnOk result (IsSettled (W.content station.new) (W.now station.new)) }
     ensures silent { IsSilent W.now W.history W.speak_faults station.old station.new }
     ensures cause { HasCauseIf (W.disk_faults station.old) (W.disk_faults station.new) (is_disk_stop result) }
@@ -82,7 +83,8 @@ fn reply_to_any<W: Station>(
     }
 }
 
-/// Does what a line says, and tells the reply, if it has one. Nothing is spoken. After an error the connector is not used again.
+/// Does what a line says, and tells the reply, if it has one. Nothing is spoken. The disk is not called
+/// for a line that stores nothing, but for a checkpoint. After an error the connector is not used again.
 #[inline(always)]
 pub fn reply_to<W: Station>(
     connector: &mut Connector,
@@ -99,7 +101,7 @@ pub fn reply_to<W: Station>(
     ensures images { (k : Kept) → Keeps connector.old k → IsSavedThroughout W.content W.history (schema_of connector.old) k (effect_of (schema_of connector.old) (limits_of connector.old) k (told_by line.now)) (store_of connector.old) station.old station.new }
     ensures memory { IfErr result (λ why. why ≡ stop.NoMemory → (k : Kept) → Keeps connector.old k → StaysSaved W.content W.history (schema_of connector.old) k (store_of connector.old) station.old station.new) }
     ensures emptied { (told_by line.now) ≡ Says commands.Checkpoint → OnOk result (IfSome (W.content station.new) HasNoRecord) }
-    ensures still { (told_by line.now) ≡ Silent → station.new ≡ station.old }
+    ensures still { (told_by line.now ≡ Says commands.Checkpoint → ⊥) → (k : Kept) → Keeps connector.old k → StoresNothing k (effect_of (schema_of connector.old) (limits_of connector.old) k (told_by line.now)) → station.new ≡ station.old }
     ensures settled { OnOk result (IsSettled (W.content station.new) (W.now station.new)) }
     ensures silent { IsSilent W.now W.history W.speak_faults station.old station.new }
     ensures cause { HasCauseIf (W.disk_faults station.old) (W.disk_faults station.new) (is_disk_stop result) }

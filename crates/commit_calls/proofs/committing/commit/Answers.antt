@@ -1,4 +1,4 @@
-use Rattle.std.proofs.Common.{◌≡◌, Some, None, true, false, sym, ap, ◌∙◌, subst}
+use Rattle.std.proofs.Common.{◌≡◌, Some, None, true, false, refl, sym, ap, ◌∙◌, subst}
 use Rattle.pss_base.specs.declared.stop.StoreStop.{StoreStop}
 use Rattle.pss_base.specs.declared.stop.StoreStop.TheVariants as stop
 use Rattle.pss_machine.specs.declared.command.Command.TheVariants as command
@@ -16,10 +16,10 @@ use Rattle.connector_parts.proofs.Decisions.{replied}
 use Rattle.connector_parts.proofs.Tellings.{if_ok}
 use Rattle.commit_calls.specs.Ready.{MayMakeReady}
 use Rattle.commit_calls.specs.Commits.{MayCommit, Follows}
-use Rattle.commit_calls.proofs.Commitments.{StoresNothing, becomes_same, if_err, no_cause, nothing_as, nothing_came, rolls_nothing, stays_nothing}
+use Rattle.commit_calls.proofs.Commitments.{KeepsStored, becomes_same, if_err, no_cause, nothing_as, nothing_came, rolls_nothing, stays_nothing}
 use Rattle.commit_calls.proofs.Outcomes.{Opened, closed_is, commit_ready, follows_comes, open_is, rolled_back, still_open}
 use Rattle.commit_calls.proofs.Readiness.{called_is, opened_at, closed_at}
-use Rattle.commit_saving.specs.Saving.{BecomesSaved, IsSavedThroughout, StaysSaved, saved_by}
+use Rattle.commit_saving.specs.Saving.{BecomesSaved, IsSavedThroughout, StaysSaved, StoresNothing, saved_by}
 use Rattle.commit_saving.proofs.Stored.{on_ok}
 use Rattle.commit_calls.proofs.committing.commit.Goals as goal
 
@@ -36,7 +36,7 @@ returns-in-Some-first_open g c =
     let session = c.in-Some-first_open.session in
     let named : (k : Kept) → IsAt parts k → Some n ≡ transaction_named k name = λ k at. c.in-Some.ensures.machine k (c.titles.ensures parts.schema k at.stands.accounts) ∙ ap (transaction_named k) c.as_slice.ensures in
     let opened : (k : Kept) → IsAt parts k → Opened k n session = λ k at. opened_at parts k at.stands c.sessions.result.now c.sessions.ensures n session c.in-Some-first_open.ensures in
-    let nothing : (k : Kept) → IsAt parts k → StoresNothing k (decision parts.schema parts.limits k (command.Commit name)).effect
+    let nothing : (k : Kept) → IsAt parts k → KeepsStored k (decision parts.schema parts.limits k (command.Commit name)).effect
     = λ k at. nothing_as k (decision parts.schema parts.limits k (command.Commit name)) (says (reply.StillOpen (opened k at).session.name)) (open_is parts k at name n (named k at) (opened k at).session (opened k at).is) (stays_nothing k) in
     record {
       comes = λ k at.
@@ -46,6 +46,7 @@ returns-in-Some-first_open g c =
       images = λ k at saved. nothing_came (g.W.Station.content c.args.station.now) _ _ (g.W.Station.history c.args.station.now);
       memory = tt;
       next = λ k at. sym ((nothing k at).saved c.args.store.now.next);
+      still = λ k at none. refl;
       settled = c.requires.settled;
       silent = silent_start g.W.Station.now g.W.Station.history g.W.Station.speak_faults c.args.station.now;
       cause = no_cause (g.W.Station.disk_faults c.args.station.now);
@@ -59,7 +60,7 @@ returns-then-is_marked g c =
     let named : (k : Kept) → IsAt parts k → Some n ≡ transaction_named k name = λ k at. c.in-Some.ensures.machine k (c.titles.ensures parts.schema k at.stands.accounts) ∙ ap (transaction_named k) c.as_slice.ensures in
     let closed : (k : Kept) → IsAt parts k → first_open k.sessions n ≡ None = λ k at. closed_at parts k at.stands c.sessions.result.now c.sessions.ensures n c.in_default-first_open.ensures in
     let marked : (k : Kept) → IsAt parts k → is_marked k n ≡ true = λ k at. sym (c.is_marked.ensures k at.stands) ∙ c.if-is_marked.true in
-    let nothing : (k : Kept) → IsAt parts k → StoresNothing k (decision parts.schema parts.limits k (command.Commit name)).effect
+    let nothing : (k : Kept) → IsAt parts k → KeepsStored k (decision parts.schema parts.limits k (command.Commit name)).effect
     = λ k at. nothing_as k (decision parts.schema parts.limits k (command.Commit name)) (does (RollsBack n) reply.RolledBack) (closed_is parts k at name n (named k at) (closed k at) true (marked k at)) (rolls_nothing k n) in
     record {
       comes = λ k at.
@@ -69,6 +70,7 @@ returns-then-is_marked g c =
       images = λ k at saved. nothing_came (g.W.Station.content c.args.station.now) _ _ (g.W.Station.history c.args.station.now);
       memory = tt;
       next = λ k at. sym ((nothing k at).saved c.args.store.now.next);
+      still = λ k at none. refl;
       settled = c.requires.settled;
       silent = silent_start g.W.Station.now g.W.Station.history g.W.Station.speak_faults c.args.station.now;
       cause = no_cause (g.W.Station.disk_faults c.args.station.now);
@@ -107,6 +109,7 @@ returns g c =
           (λ (why : StoreStop). why ≡ stop.NoMemory → (k : Kept) → IsAt parts k → StaysSaved content history parts.schema k c.args.store.now c.args.station.now new.station) result
           (λ why stays is k at. stays is (ready k at)) c.commit_changes.ensures.memory;
       next = on_ok result (λ is k at. subst (λ (d : Decision). new.store.next ≡ saved_by k c.args.store.now.next d.effect) (sym (decided k at)) (is (ready k at))) c.commit_changes.ensures.next;
+      still = λ k at none. c.commit_changes.ensures.still (ready k at) (subst (λ (d : Decision). StoresNothing k d.effect) (decided k at) none);
       settled = c.commit_changes.ensures.settled;
       silent = c.commit_changes.ensures.silent;
       cause = c.commit_changes.ensures.cause;

@@ -28,6 +28,7 @@ returns-in-Some g c =
       images = λ m. c.store_changes.ensures.images m (Commits n) (commits_net m.kept n m.owner m.there);
       memory = tt;
       next = λ m. c.in_ok-ready.ensures.next m (Commits n) (commits_net m.kept n m.owner m.there);
+      still = λ m. c.store_changes.ensures.still m (Commits n) (commits_net m.kept n m.owner m.there);
       settled = c.in_ok-ready.ensures.settled;
       silent = c.store_changes.ensures.silent;
       cause = c.in_ok-ready.ensures.cause;
@@ -44,6 +45,7 @@ returns-in-None g c =
       images = λ m. c.store_changes.ensures.images m (Commits n) (commits_net m.kept n m.owner m.there);
       memory = tt;
       next = λ m. c.in_ok-ready.ensures.next m (Commits n) (commits_net m.kept n m.owner m.there);
+      still = λ m. c.store_changes.ensures.still m (Commits n) (commits_net m.kept n m.owner m.there);
       settled = c.in_ok-ready.ensures.settled;
       silent = c.store_changes.ensures.silent;
       cause = c.in_ok-ready.ensures.cause;
@@ -51,6 +53,9 @@ returns-in-None g c =
 
 pub returns-in_err-ready-clause-images : goal.returns-in_err-ready-clause-images
 returns-in_err-ready-clause-images g c m = c.store_changes.ensures.images m (Commits c.args.owner) (commits_net m.kept c.args.owner m.owner m.there)
+
+pub returns-in_err-ready-clause-still : goal.returns-in_err-ready-clause-still
+returns-in_err-ready-clause-still g c m = c.store_changes.ensures.still m (Commits c.args.owner) (commits_net m.kept c.args.owner m.owner m.there)
 
 pub returns-in_err-ready-clause-silent : goal.returns-in_err-ready-clause-silent
 returns-in_err-ready-clause-silent g c = c.store_changes.ensures.silent

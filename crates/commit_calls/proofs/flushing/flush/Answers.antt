@@ -14,7 +14,7 @@ use Rattle.commit_calls.specs.Ready.{MayMakeReady}
 use Rattle.commit_calls.specs.Commits.{Follows}
 use Rattle.commit_calls.proofs.Commitments.{if_err}
 use Rattle.commit_calls.proofs.Outcomes.{basic_is, flush_of_other, flush_ready, follows_comes}
-use Rattle.commit_saving.specs.Saving.{BecomesSaved, IsSavedThroughout, StaysSaved, saved_by}
+use Rattle.commit_saving.specs.Saving.{BecomesSaved, IsSavedThroughout, StaysSaved, StoresNothing, saved_by}
 use Rattle.commit_saving.proofs.Stored.{on_ok}
 use Rattle.commit_calls.proofs.flushing.flush.Goals as goal
 
@@ -52,6 +52,7 @@ returns-in-Basic g c =
           (λ (why : StoreStop). why ≡ stop.NoMemory → (k : Kept) → IsAt parts k → StaysSaved content history parts.schema k c.args.store.now c.args.station.now new.station) result
           (λ why stays is k at. stays is (ready k at)) c.flush_changes.ensures.memory;
       next = on_ok result (λ is k at. subst (λ (d : Decision). new.store.next ≡ saved_by k c.args.store.now.next d.effect) (sym (decided k at)) (is (ready k at))) c.flush_changes.ensures.next;
+      still = λ k at none. c.flush_changes.ensures.still (ready k at) (subst (λ (d : Decision). StoresNothing k d.effect) (decided k at) none);
       settled = c.flush_changes.ensures.settled;
       silent = c.flush_changes.ensures.silent;
       cause = c.flush_changes.ensures.cause;

@@ -1,9 +1,9 @@
-use Rattle.std.proofs.Common.{◌≡◌, true, sym, ap, ◌∙◌}
+use Rattle.std.proofs.Common.{◌≡◌, true, refl, sym, ap, ◌∙◌}
 use Rattle.std.specs.Prelude.{not, is_some}
 use Rattle.pss_machine.specs.Deciding.{is_over_full}
 use Rattle.pss_recovery.proofs.Silent.{silent_start}
 use Rattle.commit_calls.specs.Ready.{MayMakeReady, IsReady}
-use Rattle.commit_calls.proofs.Commitments.{becomes_as, becomes_same, full_nothing, may_save_as, next_as, no_cause, nothing_came, passes_as}
+use Rattle.commit_calls.proofs.Commitments.{becomes_as, becomes_same, full_nothing, may_save_as, next_as, no_cause, nothing_came, passes_as, unchanged_as}
 use Rattle.commit_calls.proofs.Readiness.{ready_of}
 use Rattle.commit_calls.proofs.storing.store_changes.Goals as goal
 
@@ -35,6 +35,7 @@ returns-in-Ok g c =
       images = λ m e net_is. passes_as old new n m c.in-Some.ready (is m) stay c.next-next.result (next_is m) store c.requires.behind (room m) e net_is (g.W.Station.content before) (g.W.Station.history before) (g.W.Station.history after) c.store_ready.ensures.images;
       memory = tt;
       next = λ m e net_is. next_as old new n m c.in-Some.ready (is m) stay c.next-next.result (next_is m) store c.requires.behind (room m) e net_is c.store_ready.new.store.next c.in-Ok.ensures.next;
+      still = λ m e net_is nothing. c.store_ready.ensures.still (unchanged_as old new n m c.in-Some.ready (is m) stay c.next-next.result (next_is m) store c.requires.behind (room m) e net_is nothing);
       settled = c.in-Ok.ensures.settled;
       silent = c.store_ready.ensures.silent;
       cause = c.in-Ok.ensures.cause;
@@ -57,6 +58,10 @@ returns-in-Err g c =
           (g.W.Station.content c.args.station.now) (g.W.Station.history c.args.station.now) (g.W.Station.history c.store_ready.new.station) c.store_ready.ensures.images;
       memory = λ is m. c.in-Err.ensures.memory is old.schema m.kept;
       next = tt;
+      still = λ m e net_is nothing.
+          c.store_ready.ensures.still
+          (unchanged_as old new n m c.in-Some.ready (ready_of old new n c.in_ok-ready.field-0 c.in-Some.ready c.in-Some.is c.in_ok-ready.ensures.ready m) c.in_ok-ready.ensures.rest
+          c.next-next.result (c.next-next.ensures old.schema m.kept m.at.stands.accounts) c.args.store.now c.requires.behind (ap is_some (sym c.in-Some.is) ∙ c.in_ok-ready.ensures.full m) e net_is nothing);
       settled = tt;
       silent = c.store_ready.ensures.silent;
       cause = c.in-Err.ensures.cause;
@@ -77,6 +82,7 @@ returns-in-None g c =
       images = λ m e net_is saved. nothing_came (g.W.Station.content station) _ _ (g.W.Station.history station);
       memory = tt;
       next = λ m e net_is. sym ((full_nothing old.schema old.limits m.kept n m.owner e m.there (ap is_some (sym c.in-None.is) ∙ c.in_ok-ready.ensures.full m)).saved store.next);
+      still = λ m e net_is nothing. refl;
       settled = c.requires.settled;
       silent = silent_start g.W.Station.now g.W.Station.history g.W.Station.speak_faults station;
       cause = no_cause (g.W.Station.disk_faults station);

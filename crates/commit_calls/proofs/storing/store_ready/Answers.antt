@@ -23,6 +23,7 @@ returns g c =
       images = subst (λ (cs : List Change). Came c.args.store.now (g.W.Station.content old) (g.W.Station.history old) (g.W.Station.history new) c.args.next cs) is c.save.ensures.images;
       memory = if_err _ (λ (why : StoreStop). why ≡ stop.NoMemory → (S : Schema) (k : Kept) → StaysSaved g.W.Station.content g.W.Station.history S k c.args.store.now old new) c.save.result (λ why stays is S k. stays is S k.catalog) c.save.ensures.memory;
       next = subst (λ (cs : List Change). OnOk c.save.result (c.save.new.store.next ≡ saved_next c.args.store.now.next c.args.next cs)) is c.save.ensures.next;
+      still = λ none. (c.save.ensures.still (is ∙ none)).0;
       settled = c.save.ensures.settled;
       silent = c.save.ensures.silent;
       cause = c.save.ensures.cause;

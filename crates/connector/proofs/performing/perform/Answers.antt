@@ -1,4 +1,7 @@
-use Rattle.std.proofs.Common.{rules}
+use Rattle.std.proofs.Common.{rules, refl, subst}
+use Rattle.pss_machine.specs.declared.command.Command.{Command}
+use Rattle.pss_machine.specs.Deciding.{decision}
+use Rattle.commit_saving.specs.Saving.{StoresNothing}
 use Rattle.connector.specs.Storing.{IsInMemory}
 use Rattle.connector.proofs.Performed.{performs}
 use Rattle.connector.proofs.Storings.{checkpoint_saved, checkpoint_images, memory_saved, memory_images, memory_next}
@@ -9,6 +12,12 @@ returns-in-Commit-clause-comes g c = performs c.args.parts.now c.commit.new.part
 
 pub returns-in-Flush-clause-comes : goal.returns-in-Flush-clause-comes
 returns-in-Flush-clause-comes g c = performs c.args.parts.now c.flush.new.parts c.args.command.now _ c.flush.result c.in-Flush.is c.flush.ensures.comes
+
+pub returns-in-Commit-clause-still : goal.returns-in-Commit-clause-still
+returns-in-Commit-clause-still g c other k at nothing = c.commit.ensures.still k at (subst (λ (x : Command). StoresNothing k (decision c.args.parts.now.schema c.args.parts.now.limits k x).effect) c.in-Commit.is nothing)
+
+pub returns-in-Flush-clause-still : goal.returns-in-Flush-clause-still
+returns-in-Flush-clause-still g c other k at nothing = c.flush.ensures.still k at (subst (λ (x : Command). StoresNothing k (decision c.args.parts.now.schema c.args.parts.now.limits k x).effect) c.in-Flush.is nothing)
 
 pub returns-in-Ok-clause-saved : goal.returns-in-Ok-clause-saved
 returns-in-Ok-clause-saved g c k at = checkpoint_saved c.args.parts.now c.args.command.now c.in-Checkpoint.is c.args.store.now c.checkpoint.new.self _ _ k c.in-Ok.ensures.told c.in-Ok.ensures.made
@@ -28,6 +37,7 @@ returns-in-Ok-perform_in_memory g c =
       images = λ k at. memory_images c.args.parts.now c.args.command.now memory k c.args.store.now _ _;
       memory = tt;
       next = λ k at. memory_next c.args.parts.now c.args.command.now memory k c.args.store.now;
+      still = λ other k at nothing. refl;
       emptied = search rules;
       settled = c.requires.settled;
       silent = search rules;

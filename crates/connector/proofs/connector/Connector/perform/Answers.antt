@@ -28,6 +28,12 @@ returns-in-Err-clause-images g c k keeps = c.in-Err.ensures.images k (is_at c.ar
 pub returns-in-Err-clause-memory : goal.returns-in-Err-clause-memory
 returns-in-Err-clause-memory g c is k keeps = c.in-Err.ensures.memory is k (is_at c.args.self.now k keeps c.requires.left)
 
+pub returns-in-Ok-clause-still : goal.returns-in-Ok-clause-still
+returns-in-Ok-clause-still g c other k keeps = c.in-Ok.ensures.still other k (is_at c.args.self.now k keeps c.requires.left)
+
+pub returns-in-Err-clause-still : goal.returns-in-Err-clause-still
+returns-in-Err-clause-still g c other k keeps = c.in-Err.ensures.still other k (is_at c.args.self.now k keeps c.requires.left)
+
 pub returns-in-Ok-clause-schema : goal.returns-in-Ok-clause-schema
 returns-in-Ok-clause-schema g c = (c.in-Ok.ensures.comes c.requires.kept.kept (is_at c.args.self.now c.requires.kept.kept c.requires.kept.keeps c.requires.left)).stay.schema
 

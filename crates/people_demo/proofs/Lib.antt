@@ -8,3 +8,4 @@ pub mod Beginning
 pub mod Shown
 pub mod Stopping
 pub mod Made
+pub mod Spared

@@ -20,6 +20,7 @@ use Rattle.connector.specs.Keeping.{store_of}
 use Rattle.line_service.specs.Turns.{IsWhole, after}
 use Rattle.script_service.specs.Turns.{Running, start, told_by, turn_from}
 use Rattle.script_service.specs.Keeping.{StandsFor}
+use Rattle.store_refusals.specs.Lines.{WasEmpty}
 use Rattle.people_demo.specs.People.{people}
 use Rattle.people_demo.specs.Lines.{demo_lines}
 use Rattle.people_demo.specs.Shows.{IsShownLine, Shows, shown, shown_line}
@@ -31,6 +32,7 @@ use Rattle.people_demo.specs.declared.tally.Tally.{Tally}
 use Rattle.people_demo.specs.inner.Begun.{Begins}
 use Rattle.people_demo.specs.inner.Showing.{IsShowing, Showing, begun, served_all}
 use Rattle.people_demo.specs.inner.Telling.{IsToldAt, Tells}
+use Rattle.people_demo.proofs.Beginning.{empty_kept}
 use Rattle.people_demo.proofs.Replied.{running_after, saved_told, tally_is}
 
 -- ---- after all rounds
@@ -75,14 +77,14 @@ module _ (rounds : ℕ) (held mid end : Option (List ℕ)) (x y : Show) (b : Beg
 -- ---- how it ends
 
 pub shows_told : (rounds : ℕ) (result : Result (Unit {0}) DemoStop) (line : List ℕ) (before middle after held holds : Option (List ℕ)) → middle ≡ before → Tells result line middle after → IsShownLine rounds held line
-    → IfSome held (λ octets. IfTold holds (StandsFor (shown rounds))) → Shows rounds result before after held holds
-shows_told rounds (Ok done) line before middle after held holds is told shown_ stands = ((line, shown_, told ∙ ap (λ (o : Option (List ℕ)). append_known o line) is), stands)
-shows_told rounds (Err stop.SpeakFault) line before middle after held holds is told shown_ stands =
-    (line, shown_, subst (λ (o : Option (List ℕ)). (k : ℕ) × (after ≡ append_known o (take k line))) is told)
-shows_told rounds (Err stop.NoMemory) line before middle after held holds is told shown_ stands = told ∙ is
-shows_told rounds (Err stop.DiskFault) line before middle after held holds is told shown_ stands = absurd told
-shows_told rounds (Err stop.NotEmpty) line before middle after held holds is told shown_ stands = absurd told
-shows_told rounds (Err (stop.Refused why)) line before middle after held holds is told shown_ stands = absurd told
+    → IfSome held (λ octets. IfTold holds (StandsFor (shown rounds))) → WasEmpty held → Shows rounds result before after held holds
+shows_told rounds (Ok done) line before middle after held holds is told shown_ stands blank = ((line, shown_, told ∙ ap (λ (o : Option (List ℕ)). append_known o line) is), stands, blank)
+shows_told rounds (Err stop.SpeakFault) line before middle after held holds is told shown_ stands blank =
+    ((line, shown_, subst (λ (o : Option (List ℕ)). (k : ℕ) × (after ≡ append_known o (take k line))) is told), blank)
+shows_told rounds (Err stop.NoMemory) line before middle after held holds is told shown_ stands blank = (told ∙ is, empty_kept held holds blank)
+shows_told rounds (Err stop.DiskFault) line before middle after held holds is told shown_ stands blank = absurd told
+shows_told rounds (Err stop.NotEmpty) line before middle after held holds is told shown_ stands blank = absurd told
+shows_told rounds (Err (stop.Refused why)) line before middle after held holds is told shown_ stands blank = absurd told
 
 -- ---- at each moment
 

@@ -6,7 +6,7 @@ use Rattle.std.specs.Io.KnownBytes.{append_known}
 use Rattle.pss_machine.specs.Limits.{standard}
 use Rattle.pss_machine.specs.Run.{first, replies}
 use Rattle.commit_saving.specs.Saving.{IfTold}
-use Rattle.store_refusals.specs.Lines.{IsFilled}
+use Rattle.store_refusals.specs.Lines.{IsFilled, IsFilledKept, WasEmpty}
 use Rattle.line_service.specs.Spoken.{SaidOf}
 use Rattle.line_service.specs.Turns.{after}
 use Rattle.script_service.specs.Turns.{Running, start, told_by, turn_from}
@@ -33,16 +33,16 @@ IsShownLine rounds held line = IfSome held (λ octets. line ≡ shown_line round
 abbrev pub HoldsShown : ℕ → (held holds : Option (List ℕ)) → Type 0
 HoldsShown rounds held holds = IfSome held (λ octets. IfTold holds (StandsFor (shown rounds)))
 
--- What was spoken by then, and what the store stands for, where its content was told before. A file that has octets is as it was; a store
--- that was made is mounted.
+-- What was spoken by then, and what the store stands for, where its content was told before. A store is made in an empty file alone, and a
+-- file that has octets is as it was, whatever the answer; a store that was made is mounted.
 abbrev pub Shows : ℕ → Result (Unit {0}) DemoStop → (before after held holds : Option (List ℕ)) → Type 0
 Shows rounds (Ok done) before after held holds =
-    ((line : List ℕ) × IsShownLine rounds held line × (after ≡ append_known before line)) × HoldsShown rounds held holds
+    ((line : List ℕ) × IsShownLine rounds held line × (after ≡ append_known before line)) × HoldsShown rounds held holds × WasEmpty held
 Shows rounds (Err stop.NotEmpty) before after held holds = IsFilled held × (after ≡ before) × (holds ≡ held)
 Shows rounds (Err (stop.Refused why)) before after held holds = (held ≡ None) × (after ≡ before)
-Shows rounds (Err stop.DiskFault) before after held holds = after ≡ before
-Shows rounds (Err stop.SpeakFault) before after held holds = (line : List ℕ) × IsShownLine rounds held line × SaidOf line before after
-Shows rounds (Err stop.NoMemory) before after held holds = after ≡ before
+Shows rounds (Err stop.DiskFault) before after held holds = (after ≡ before) × IsFilledKept held holds
+Shows rounds (Err stop.SpeakFault) before after held holds = ((line : List ℕ) × IsShownLine rounds held line × SaidOf line before after) × WasEmpty held
+Shows rounds (Err stop.NoMemory) before after held holds = (after ≡ before) × IsFilledKept held holds
 
 -- the disk failed
 abbrev pub is_disk_fault : {T : Type 0} → Result T DemoStop → Bool

@@ -1,10 +1,12 @@
 // The demonstration.
-ghost use Rattle.std.specs.Prelude.{◌≡◌, ◌≤◌, ◌⊎◌, List, ℕ, Err, IfErr, IfOk, OnOk, false};
+ghost use Rattle.std.specs.Prelude.{◌≡◌, ◌≢◌, ◌≤◌, ◌⊎◌, List, ℕ, Err, IfErr, IfOk, IfSome, OnOk, false};
 ghost use Rattle.std.specs.declared.option.Option.{Option};
 ghost use Rattle.pss_base.specs.Causes.{HasCauseIf};
 ghost use Rattle.pss_disk.specs.Moments.{IsSettled, Through};
+ghost use Rattle.pss_disk.specs.Reading.{OnlyReads};
 ghost use Rattle.pss_recovery.specs.Silence.{IsSilent};
 ghost use Rattle.line_service.specs.Turns.{IsWhole};
+ghost use Rattle.store_refusals.specs.Lines.{WasEmpty};
 ghost use Rattle.people_demo.specs.People as plain;
 ghost use Rattle.people_demo.specs.Shows.{HoldsShown, IsShownLine, Shows, is_disk_fault, is_speak_fault};
 ghost use Rattle.people_demo.specs.Tally.{demo_line};
@@ -80,6 +82,7 @@ fn init<W: Station>(alloc: Global, station: &mut W, schema: &Schema) -> Result<(
     ensures ended { IfErr result (λ why. ShowsNothing why (W.content station.old) (W.content station.new)) }
     ensures silent { IsSilent W.now W.history W.speak_faults station.old station.new }
     ensures disk { HasCauseIf (W.disk_faults station.old) (W.disk_faults station.new) (is_disk_fault result) }
+    ensures spared { result ≡ Err stop.NotEmpty → IfSome (W.content station.old) (λ octets. OnlyReads W.now W.content W.history W.speak_faults station.old station.new) }
 {
     let Ok(shape) = shape_of(alloc, schema) else {
         return Err(DemoStop::NoMemory);
@@ -98,6 +101,7 @@ fn mount<W: Station>(alloc: Global, station: &mut W, schema: &Schema) -> Result<
     ensures settled { OnOk result (IsSettled (W.content station.new) (W.now station.new)) }
     ensures silent { IsSilent W.now W.history W.speak_faults station.old station.new }
     ensures disk { HasCauseIf (W.disk_faults station.old) (W.disk_faults station.new) (is_disk_fault result) }
+    ensures taken { result ≢ Err stop.NotEmpty }
 {
     an_image_is_one_thing();
     match Store::mount(alloc, station, schema) {
@@ -118,6 +122,7 @@ fn make_store<W: Station>(
     ensures settled { OnOk result (IsSettled (W.content station.new) (W.now station.new)) }
     ensures silent { IsSilent W.now W.history W.speak_faults station.old station.new }
     ensures disk { HasCauseIf (W.disk_faults station.old) (W.disk_faults station.new) (is_disk_fault result) }
+    ensures spared { result ≡ Err stop.NotEmpty → IfSome (W.content station.old) (λ octets. OnlyReads W.now W.content W.history W.speak_faults station.old station.new) }
 {
     match init(alloc, station, schema) {
         Ok(()) => mount(alloc, station, schema),
@@ -146,6 +151,7 @@ fn begin<W: Station>(alloc: Global, station: &mut W) -> Result<Show, DemoStop>
     ensures settled { OnOk result (IsSettled (W.content station.new) (W.now station.new)) }
     ensures silent { IsSilent W.now W.history W.speak_faults station.old station.new }
     ensures disk { HasCauseIf (W.disk_faults station.old) (W.disk_faults station.new) (is_disk_fault result) }
+    ensures spared { result ≡ Err stop.NotEmpty → IfSome (W.content station.old) (λ octets. OnlyReads W.now W.content W.history W.speak_faults station.old station.new) }
 {
     let Ok(schema) = people(alloc) else {
         return Err(DemoStop::NoMemory);
@@ -164,9 +170,12 @@ fn run_rounds<W: Station>(alloc: Global, station: &mut W, rounds: u32) -> Result
     requires few { rounds ≤ 1000 }
     ensures shown { IfOk result (λ tally. IsShownLine rounds (W.content station.old) (demo_line rounds tally)) }
     ensures stands { OnOk result (HoldsShown rounds (W.content station.old) (W.content station.new)) }
+    ensures empty { OnOk result (WasEmpty (W.content station.old)) }
     ensures ended { IfErr result (λ why. ShowsNothing why (W.content station.old) (W.content station.new)) }
+    ensures settled { OnOk result (IsSettled (W.content station.new) (W.now station.new)) }
     ensures silent { IsSilent W.now W.history W.speak_faults station.old station.new }
     ensures disk { HasCauseIf (W.disk_faults station.old) (W.disk_faults station.new) (is_disk_fault result) }
+    ensures spared { result ≡ Err stop.NotEmpty → IfSome (W.content station.old) (λ octets. OnlyReads W.now W.content W.history W.speak_faults station.old station.new) }
 {
     a_mounted_store_stands();
     match begin(alloc, station) {
@@ -187,6 +196,7 @@ fn tell<W: Station>(
 ) -> Result<(), DemoStop>
     ensures told { Tells result (demo_line rounds tally) (W.now station.old).spoken (W.now station.new).spoken }
     ensures content { W.content station.new ≡ W.content station.old }
+    ensures disk_stays { (W.now station.new).disk ≡ (W.now station.old).disk }
     ensures moments { Through (W.history station.old) (W.history station.new)
         (λ m. IsToldAt result (demo_line rounds tally) (W.now station.old).spoken (W.now station.new).spoken m.spoken) }
     ensures disk { W.disk_faults station.new ≡ W.disk_faults station.old }
@@ -208,11 +218,15 @@ pub fn run_demo<W: Station>(alloc: Global, rounds: u32, station: &mut W) -> Resu
     requires some { 1 ≤ rounds }
     requires few { rounds ≤ 1000 }
     ensures shows { Shows rounds result (W.now station.old).spoken (W.now station.new).spoken (W.content station.old) (W.content station.new) }
+    // After `Ok` nothing is pending.
+    ensures settled { OnOk result (IsSettled (W.content station.new) (W.now station.new)) }
     // At each moment nothing was spoken or the whole line, but where speech failed.
     ensures moments { (line : List ℕ) × IsShownLine rounds (W.content station.old) line × Through (W.history station.old) (W.history station.new)
         (λ m. IsWhole line (W.now station.old).spoken m.spoken ⊎ ((result ≡ Err stop.SpeakFault) × (m.spoken ≡ (W.now station.new).spoken))) }
     ensures disk { HasCauseIf (W.disk_faults station.old) (W.disk_faults station.new) (is_disk_fault result) }
     ensures speech { HasCauseIf (W.speak_faults station.old) (W.speak_faults station.new) (is_speak_fault result) }
+    // A file that is refused was only read.
+    ensures spared { result ≡ Err stop.NotEmpty → IfSome (W.content station.old) (λ octets. OnlyReads W.now W.content W.history W.speak_faults station.old station.new) }
 {
     match run_rounds(alloc, station, rounds) {
         Ok(tally) => tell(alloc, station, rounds, tally),

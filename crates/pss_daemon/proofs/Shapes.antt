@@ -1,9 +1,10 @@
 -- Lists of two and of three words, and the one plan of words.
-use Rattle.std.proofs.Common.{◌≡◌, ℕ, List, [], ◌∷◌, length, get_or, slice_get, Some, sym, ap, ◌∙◌, arith}
+use Rattle.std.proofs.Common.{◌≡◌, ◌⊎◌, ⊎_elim, ℕ, List, [], ◌∷◌, length, get_or, slice_get, Some, sym, ap, ◌∙◌, arith}
 use Rattle.std.specs.Fmt.{decimal}
 use Rattle.std.proofs.lemmas.Fmt.{decimal_injective}
 use Rattle.pss_daemon.specs.declared.forms.Plan.{Plan}
 use Rattle.pss_daemon.specs.declared.forms.Plan.TheVariants.{Check, Init, Run, Demo}
+use Rattle.pss_daemon.specs.Ends.{IsCheck, IsDemo, IsNoPlan}
 use Rattle.pss_daemon.specs.Forms.{HasOneName, HasTwoNames, IsPlanOf}
 
 pub one_name : (words : List (List ℕ)) (command : List ℕ) → (length words ≡ 2) × (slice_get words 0 ≡ Some command) → HasOneName words command
@@ -39,3 +40,11 @@ demo_alone words rounds (Demo more store) is other =
     let texts : decimal rounds ≡ decimal more = ap (λ ws. get_or ws 1 []) (sym is.3.1 ∙ other.3.1) in
     let same : rounds ≡ more = decimal_injective rounds more (omega (arith, is.1)) (omega (arith, other.1)) texts in
     ap (λ n. Demo n 2) same ∙ ap (λ n. Demo more n) (sym other.2)
+
+-- words that have one plan do not ask for another, nor for none
+module _ (words : List (List ℕ)) (asked : Plan) (is : IsPlanOf words asked) (only : (plan : Plan) → IsPlanOf words plan → asked ≡ plan) where
+  pub no_check : ((at : ℕ) → asked ≡ Check at → ⊥) → IsCheck words ⊎ IsNoPlan words → ⊥
+  no_check other may = ⊎_elim (λ check. other check.0 (only (Check check.0) check.1)) (λ none. none asked is) may
+
+  pub no_demo : ((rounds store : ℕ) → asked ≡ Demo rounds store → ⊥) → IsDemo words ⊎ IsNoPlan words → ⊥
+  no_demo other may = ⊎_elim (λ demo. other demo.0 demo.1 (only (Demo demo.0 demo.1) demo.2)) (λ none. none asked is) may

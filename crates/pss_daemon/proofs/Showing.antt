@@ -1,12 +1,12 @@
 -- How a demonstration ends, by what it came to.
-use Rattle.std.proofs.Common.{◌≡◌, ◌⊎◌, ⊎_elim, inl, inr, ℕ, List, None, Err, Result, subst}
+use Rattle.std.proofs.Common.{◌≡◌, ◌⊎◌, ⊎_elim, inl, inr, ℕ, List, None, Err, Result, subst, sym}
 use Rattle.std.specs.declared.option.Option.{Option}
 use Rattle.pss_disk.specs.Moments.{Disk, Moment, Through}
 use Rattle.pss_disk.proofs.Passing.{then_come, weaker}
 use Rattle.pss_recovery.specs.declared.fault.MountFault.{MountFault}
 use Rattle.line_service.specs.Spoken.{HasSpoken}
 use Rattle.line_service.specs.Turns.{IsWhole}
-use Rattle.store_refusals.specs.Lines.{IsFilled, not_empty_line}
+use Rattle.store_refusals.specs.Lines.{IsFilled, IsFilledKept, not_empty_line}
 use Rattle.people_demo.specs.Shows.{IsShownLine}
 use Rattle.people_demo.specs.declared.demo.DemoStop.{DemoStop}
 use Rattle.people_demo.specs.declared.demo.DemoStop.TheVariants as stop
@@ -37,7 +37,7 @@ filled_shows rounds status.ScriptTooLong call filled same told = absurd told
 pub unmounted_shows : (rounds : ℕ) (ending : Status) (why : MountFault) (call : Call) → call.held ≡ None → TellsRefusal ending why call.before call.after → EndsShowing rounds ending call
 unmounted_shows rounds status.StoreRefused why call untold told = inr (untold, why, told.0, told.1, told.2)
 unmounted_shows rounds status.SpeakFault why call untold told = inr (inr (untold, why, told.0, told.1, told.2))
-unmounted_shows rounds status.NoMemory why call untold told = told
+unmounted_shows rounds status.NoMemory why call untold told = (told, subst (λ (held : Option (List ℕ)). IsFilledKept held call.holds) (sym untold) tt)
 unmounted_shows rounds status.Ok why call untold told = absurd told
 unmounted_shows rounds status.Usage why call untold told = absurd told
 unmounted_shows rounds status.SchemaRefused why call untold told = absurd told

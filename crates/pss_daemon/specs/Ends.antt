@@ -44,7 +44,7 @@ EndsTelling line told ending before after =
 
 -- what it comes to where a store is to be made
 abbrev pub made_of : Call → Made
-made_of call = record { text = call.schema; before = call.before; after = call.after; held = call.held; holds = call.holds }
+made_of call = record { text = call.schema; before = call.before; after = call.after; held = call.held; holds = call.holds; disk = call.disk }
 
 -- How a call ends, by what its words ask for: what was spoken by then, and how often the schema's source had failed before and has now.
 abbrev pub Ends : Status → List (List ℕ) → Call → (old new : ℕ) → Type 0

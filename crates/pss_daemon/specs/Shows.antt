@@ -2,11 +2,12 @@
 use Rattle.std.specs.Prelude.{ℕ, ◌≡◌, ◌⊎◌, List, None, Some, IfSome}
 use Rattle.std.specs.declared.option.Option.{Option}
 use Rattle.std.specs.Io.KnownBytes.{append_known}
+use Rattle.pss_disk.specs.Moments.{IsOnlyImage}
 use Rattle.pss_recovery.specs.declared.fault.MountFault.{MountFault}
 use Rattle.commit_saving.specs.Saving.{IfTold}
 use Rattle.line_service.specs.Spoken.{SaidOf}
 use Rattle.line_service.specs.Turns.{IsWhole}
-use Rattle.store_refusals.specs.Lines.{not_empty_line, refusal_of}
+use Rattle.store_refusals.specs.Lines.{IsFilledKept, WasEmpty, not_empty_line, refusal_of}
 use Rattle.script_service.specs.Keeping.{StandsFor}
 use Rattle.people_demo.specs.Shows.{IsShownLine, shown}
 use Rattle.pss_serving.specs.Making.{OfFilled}
@@ -26,13 +27,19 @@ OfDemoFault Told call = OfFilled Told call.held call.holds ⊎ OfUnmounted Told 
 abbrev pub OfShown : (List ℕ → Type 0) → ℕ → (held : Option (List ℕ)) → Type 0
 OfShown Told rounds held = (line : List ℕ) × IsShownLine rounds held line × Told line
 
--- what was spoken by then, and what the store stands for
+-- a store was made in an empty file, and stands for what is kept and stored after so many rounds; nothing is pending
+pub record HasShown (rounds : ℕ) (call : Call) : Type 0 where
+  pub was_empty : WasEmpty call.held
+  pub stands : IfSome call.held (λ octets. IfTold call.holds (StandsFor (shown rounds)))
+  pub settled : IfSome call.disk (λ disk. (octets : List ℕ) × (call.holds ≡ Some octets) × IsOnlyImage disk octets)
+
+-- What was spoken by then, and what the store stands for. A file that has octets is as it was, whatever the answer.
 abbrev pub EndsShowing : ℕ → Status → Call → Type 0
-EndsShowing rounds status.Ok call = OfShown (λ told. call.after ≡ append_known call.before told) rounds call.held × IfSome call.held (λ octets. IfTold call.holds (StandsFor (shown rounds)))
+EndsShowing rounds status.Ok call = OfShown (λ told. call.after ≡ append_known call.before told) rounds call.held × HasShown rounds call
 EndsShowing rounds status.StoreRefused call = OfDemoFault (λ told. call.after ≡ append_known call.before told) call
-EndsShowing rounds status.SpeakFault call = OfShown (λ told. SaidOf told call.before call.after) rounds call.held ⊎ OfDemoFault (λ told. SaidOf told call.before call.after) call
-EndsShowing rounds status.DiskFault call = call.after ≡ call.before
-EndsShowing rounds status.NoMemory call = call.after ≡ call.before
+EndsShowing rounds status.SpeakFault call = (OfShown (λ told. SaidOf told call.before call.after) rounds call.held × WasEmpty call.held) ⊎ OfDemoFault (λ told. SaidOf told call.before call.after) call
+EndsShowing rounds status.DiskFault call = (call.after ≡ call.before) × IsFilledKept call.held call.holds
+EndsShowing rounds status.NoMemory call = (call.after ≡ call.before) × IsFilledKept call.held call.holds
 EndsShowing rounds status.Usage call = ⊥
 EndsShowing rounds status.SchemaRefused call = ⊥
 EndsShowing rounds status.ReadFault call = ⊥

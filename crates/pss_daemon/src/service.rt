@@ -3,10 +3,10 @@ ghost use Rattle.std.specs.Prelude.{◌≡◌, ◌≤◌, ◌⊎◌, ℕ, List, 
 ghost use Rattle.std.specs.declared.option.Option.{Option};
 ghost use Rattle.pss_disk.specs.Moments.{Through};
 ghost use Rattle.pss_serving.specs.Counts.{HasCauses, counts_of};
-ghost use Rattle.pss_serving.specs.Outcomes.{IsAlwaysKept, IsAlwaysRight, call_of, ends_before_script};
+ghost use Rattle.pss_serving.specs.Outcomes.{IsAlwaysKept, IsAlwaysRight, IsSpared, call_of, ends_before_script};
 ghost use Rattle.pss_serving.specs.Spoken.{IsCut};
 ghost use Rattle.pss_daemon.specs.Complete.{IsComplete};
-ghost use Rattle.pss_daemon.specs.Ends.{Ends, IsRun, SaidWhole};
+ghost use Rattle.pss_daemon.specs.Ends.{Ends, IsCheck, IsDemo, IsNoPlan, IsRun, SaidWhole};
 ghost use Rattle.pss_daemon.specs.Shows.{EndsShowing, WholeShowing};
 
 use crate::forms::Plan;
@@ -35,6 +35,7 @@ fn demonstrate<W: Station>(alloc: Global, rounds: u32, station: &mut W) -> Statu
         (record { schema = schema; script = script; speech = W.speak_faults station.new; disk = W.disk_faults station.new }) }
     ensures moments { Through (W.history station.old) (W.history station.new)
         (λ m. WholeShowing rounds (W.content station.old) (W.now station.old).spoken m.spoken ⊎ IsCut result (W.now station.new).spoken m.spoken) }
+    ensures spared { IsTrue (ends_before_script result) → IsSpared (W.content station.old) (W.history station.old) (W.history station.new) (W.now station.old) }
 {
     match run_demo(alloc, rounds, station) {
         Ok(()) => Status::Ok,
@@ -79,6 +80,12 @@ pub fn pssd<P: Source, C: Source, W: Station>(
     // The script is read only under `run`, so not under `check`; and only where the schema's text is served.
     ensures unasked { (IsRun words.now → ⊥) → script.new ≡ script.old }
     ensures unread { IsTrue (ends_before_script result) → script.new ≡ script.old }
+    // Under `check`, and where the words are none of the forms, the store's file is not touched.
+    ensures untouched { (IsCheck words.now ⊎ IsNoPlan words.now) → (W.content station.new ≡ W.content station.old) × ((W.now station.new).disk ≡ (W.now station.old).disk) }
+    // Where words, text or file are refused, a crash at any moment leaves the file as it was.
+    ensures spared { IsTrue (ends_before_script result) → IsSpared (W.content station.old) (W.history station.old) (W.history station.new) (W.now station.old) }
+    // The schema's text is not read under `demo`, nor where the words are none of the forms.
+    ensures unasked_schema { (IsDemo words.now ⊎ IsNoPlan words.now) → schema.new ≡ schema.old }
     // Each reply is spoken in one call: at each moment whole replies were spoken. Where speech failed, the last one may
     // be cut.
     ensures moments { Through (W.history station.old) (W.history station.new)
@@ -89,7 +96,8 @@ pub fn pssd<P: Source, C: Source, W: Station>(
     // After any first lines of the script, and so after those that were taken: each serializable transaction that was
     // committed answered and changed the catalog as if it ran alone, in the order of commits; read-committed ones were
     // answered from their own changes, and else from what was committed last; no key has two holders; each reference
-    // that was followed was given before, and no serial was given twice.
+    // that was followed was given before, and no serial was given twice. What is stored then, and an image stands for, are
+    // good objects under a next serial that is above each that a commit gave which changed something, and not above the machine's.
     ensures right { IsAlwaysRight (P.left schema.old) (C.left script.old) }
 {
     scripts_are_right();

@@ -1,10 +1,12 @@
 -- How a call of the service ends, where its text is sound.
-use Rattle.std.proofs.Common.{◌≡◌, ◌∙◌, ◌⊎◌, ⊎_elim, inl, inr, ℕ, List, true, None, Some, IfSome, take, refl, ap, subst}
+use Rattle.std.proofs.Common.{◌≡◌, ◌∙◌, ◌⊎◌, ⊎_elim, inl, inr, ℕ, List, true, None, Some, IfSome, take, refl, ap, subst, arith}
 use Rattle.std.specs.declared.option.Option.{Option}
 use Rattle.pss_base.specs.Causes.{HasCauseIf}
+use Rattle.pss_base.specs.declared.lines.LineStep.{LineStep}
 use Rattle.pss_disk.specs.Moments.{Moment, Through}
 use Rattle.pss_disk.proofs.Passing.{weaker}
 use Rattle.type_layout.specs.declared.schema.Schema.{Schema}
+use Rattle.type_layout.specs.Sound.{IsSoundSchema}
 use Rattle.psdl_tree.specs.Trees.{Definitions}
 use Rattle.psdl_tree.specs.Views.{tree_view}
 use Rattle.psdl_directory.specs.Declarations.{all_declarations}
@@ -14,6 +16,7 @@ use Rattle.psdl_syntax.specs.Syntax.{IsTextOf}
 use Rattle.pss_machine.specs.Limits.{standard}
 use Rattle.line_service.specs.Runs.{lines_of}
 use Rattle.script_service.specs.Turns.{script_limits}
+use Rattle.script_service.specs.Bounds.{StoredIsBetween}
 use Rattle.script_service.specs.Rightful.{RunsAreRight}
 use Rattle.pss_serving.specs.Checked.{HasFault, IsOneThing, IsSound}
 use Rattle.pss_serving.specs.Counts.{Counts, HasCauses, has_disk_failed, has_read_failed, has_speech_failed}
@@ -87,8 +90,11 @@ kept_still (Some bytes) (Some octets) script before a now = λ tree is M next st
 
 -- ---- a law of runs, whatever this one came to
 
-pub always : TextsAreSound → RunsAreRight → ScriptsAreRight
-always sound right None script = tt
-always sound right (Some bytes) None = tt
-always sound right (Some bytes) (Some lines) = λ tree is M next good n.
-    right (schema (all_declarations tree)) standard M next (take n (lines_of script_limits lines)) (sound tree bytes is.0 is.1) good
+pub always : TextsAreSound → RunsAreRight → StoredIsBetween → ScriptsAreRight
+always sound right stored None script = tt
+always sound right stored (Some bytes) None = tt
+always sound right stored (Some bytes) (Some lines) = λ tree is M next good n.
+    let S : Schema = schema (all_declarations tree) in
+    let first : List LineStep = take n (lines_of script_limits lines) in
+    let shape : IsSoundSchema S = sound tree bytes is.0 is.1 in
+    record { machine = right S standard M next first shape good; stored = stored S standard M next first shape (omega arith) good }

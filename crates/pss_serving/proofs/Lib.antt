@@ -8,3 +8,4 @@ pub mod NewStores
 pub mod Served
 pub mod Refused
 pub mod EndOfRun
+pub mod Spared

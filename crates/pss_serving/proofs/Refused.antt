@@ -29,8 +29,8 @@ use Rattle.pss_serving.proofs.Since.{since_by}
 pub refused_ends : (ending : Status) (why : MountFault) (S : Schema) (call : Call) → IfSome call.held (IsRefusal S why) → call.holds ≡ call.held
     → TellsRefusal ending why call.before call.after → EndsOverStore ending call S
 refused_ends status.StoreRefused why S call refusal same told = ((why, told.0, refusal, told.1, told.2), same)
-refused_ends status.SpeakFault why S call refusal same told = inl (why, told.0, refusal, told.1, told.2)
-refused_ends status.NoMemory why S call refusal same told = inl told
+refused_ends status.SpeakFault why S call refusal same told = inl ((why, told.0, refusal, told.1, told.2), same)
+refused_ends status.NoMemory why S call refusal same told = inl (told, same)
 refused_ends status.Ok why S call refusal same told = absurd told
 refused_ends status.Usage why S call refusal same told = absurd told
 refused_ends status.SchemaRefused why S call refusal same told = absurd told

@@ -1,14 +1,15 @@
 -- How checking a text ends, and how serving a script over one does.
-use Rattle.std.specs.Prelude.{ℕ, ◌≡◌, ◌⊎◌, List, take, Bool, true, false, IfSome}
+use Rattle.std.specs.Prelude.{ℕ, ◌≡◌, ◌⊎◌, List, take, Bool, true, false, IfSome, IsSomeAnd}
 use Rattle.std.specs.declared.option.Option.{Option}
 use Rattle.std.specs.declared.option.Option.TheVariants.{Some}
 use Rattle.std.specs.Io.KnownBytes.{append_known}
 use Rattle.pss_base.specs.Causes.{Rose}
-use Rattle.pss_disk.specs.Moments.{Disk, Moment}
+use Rattle.pss_base.specs.declared.lines.LineStep.{LineStep}
+use Rattle.pss_disk.specs.Moments.{Disk, IsSettled, Moment, Through}
 use Rattle.pss_catalog.specs.Catalog.{Catalog, IsGood}
 use Rattle.page_store.specs.Stores.{AllHave}
 use Rattle.pss_recovery.specs.declared.fault.MountFault.{MountFault}
-use Rattle.pss_recovery.specs.Mounts.{FromSync}
+use Rattle.pss_recovery.specs.Mounts.{FromSync, IsSameButGate}
 use Rattle.pss_recovery.specs.Stands.{IsRefusal, Stands}
 use Rattle.store_refusals.specs.Lines.{refusal_of}
 use Rattle.type_layout.specs.declared.schema.Schema.{Schema}
@@ -18,10 +19,11 @@ use Rattle.psdl_directory.specs.Declarations.{all_declarations}
 use Rattle.psdl_check.specs.Schemas.{schema}
 use Rattle.line_service.specs.Runs.{Comes, SaidByLines, Says, lines_of}
 use Rattle.line_service.specs.Spoken.{SaidOf}
-use Rattle.line_service.specs.Turns.{IsWhole}
+use Rattle.line_service.specs.Turns.{IsWhole, after}
 use Rattle.line_service.specs.declared.serving.Ending.{Ending}
 use Rattle.line_service.specs.declared.serving.Ending.TheVariants as ending
 use Rattle.script_service.specs.Turns.{Running, turn_from, start, script_limits, run_over}
+use Rattle.script_service.specs.Bounds.{IsBetween}
 use Rattle.script_service.specs.Keeping.{IsLeft, OnlyStandsFor, Passes}
 use Rattle.script_service.specs.Rightful.{IsRightful}
 use Rattle.pss_serving.specs.Checked.{IsSound, HasFault, checked_text}
@@ -109,11 +111,11 @@ OfRefusal S Told held = (why : MountFault) × (line : List ℕ) × IfSome held (
 abbrev pub SaysIn : Ending → Call → Schema → Type 0
 SaysIn ending call S = OfStore S (λ first. Says turn_from first script_limits ending (record { script = call.script; left = call.left; before = call.before; after = call.after }) (IsLeft call.holds call.disk)) call.held
 
--- some first bytes were spoken of what there is to say
+-- Some first bytes were spoken of what there is to say. Where that is why text or store are refused, the store's file is as it was.
 abbrev pub SaidServing : Call → Type 0
 SaidServing call =
-    OfFault (λ told. SaidOf told call.before call.after) call.schema
-    ⊎ OfServed (λ S. OfRefusal S (λ told. SaidOf told call.before call.after) call.held ⊎ SaysIn ending.SpeakFault call S) call.schema
+    (OfFault (λ told. SaidOf told call.before call.after) call.schema × (call.holds ≡ call.held))
+    ⊎ OfServed (λ S. (OfRefusal S (λ told. SaidOf told call.before call.after) call.held × (call.holds ≡ call.held)) ⊎ SaysIn ending.SpeakFault call S) call.schema
 
 -- whole replies were spoken of what there is to say over a store
 abbrev pub WholeOver : Schema → (held script before after : Option (List ℕ)) → Type 0
@@ -145,14 +147,15 @@ EndsOverStore status.Ok call S = SaysIn ending.End call S
 EndsOverStore status.ScriptTooLong call S = SaysIn ending.TooLong call S
 EndsOverStore status.ReadFault call S = SaysIn ending.ReadFault call S
 EndsOverStore status.StoreRefused call S = OfRefusal S (λ told. call.after ≡ append_known call.before told) call.held × (call.holds ≡ call.held)
-EndsOverStore status.SpeakFault call S = OfRefusal S (λ told. SaidOf told call.before call.after) call.held ⊎ SaysIn ending.SpeakFault call S
-EndsOverStore status.DiskFault call S = (call.after ≡ call.before) ⊎ SaysIn ending.DiskFault call S
-EndsOverStore status.NoMemory call S = (call.after ≡ call.before) ⊎ SaysIn ending.NoMemory call S
+EndsOverStore status.SpeakFault call S = (OfRefusal S (λ told. SaidOf told call.before call.after) call.held × (call.holds ≡ call.held)) ⊎ SaysIn ending.SpeakFault call S
+EndsOverStore status.DiskFault call S = ((call.after ≡ call.before) × IsSameButGate call.held call.holds) ⊎ SaysIn ending.DiskFault call S
+EndsOverStore status.NoMemory call S = ((call.after ≡ call.before) × (call.holds ≡ call.held)) ⊎ SaysIn ending.NoMemory call S
 EndsOverStore status.Usage call S = ⊥
 EndsOverStore status.SchemaRefused call S = ⊥
 
 -- How serving a script over a text and a store ends: what was spoken by then and what the store stands for, and how often the text's source
--- had failed before and has now. Where text or store are refused, the store's file is as it was.
+-- had failed before and has now. Where text or store are refused, or memory is wanting before the script is read, the store's file is as it
+-- was; where the disk fails then, it is so but for the gate that mounting closes.
 abbrev pub EndsServing : Status → Call → (old new : ℕ) → Type 0
 EndsServing status.Ok call old new = OfServed (SaysIn ending.End call) call.schema
 EndsServing status.SchemaRefused call old new = OfFault (λ told. call.after ≡ append_known call.before told) call.schema × (call.holds ≡ call.held)
@@ -160,8 +163,8 @@ EndsServing status.StoreRefused call old new = OfServed (λ S. OfRefusal S (λ t
 EndsServing status.ScriptTooLong call old new = OfServed (SaysIn ending.TooLong call) call.schema
 EndsServing status.ReadFault call old new = (Rose old new × (call.after ≡ call.before) × (call.holds ≡ call.held)) ⊎ ((new ≡ old) × OfServed (SaysIn ending.ReadFault call) call.schema)
 EndsServing status.SpeakFault call old new = SaidServing call
-EndsServing status.DiskFault call old new = (call.after ≡ call.before) ⊎ OfServed (SaysIn ending.DiskFault call) call.schema
-EndsServing status.NoMemory call old new = (call.after ≡ call.before) ⊎ OfServed (SaysIn ending.NoMemory call) call.schema
+EndsServing status.DiskFault call old new = ((call.after ≡ call.before) × IsSameButGate call.held call.holds) ⊎ OfServed (SaysIn ending.DiskFault call) call.schema
+EndsServing status.NoMemory call old new = ((call.after ≡ call.before) × (call.holds ≡ call.held)) ⊎ OfServed (SaysIn ending.NoMemory call) call.schema
 EndsServing status.Usage call old new = ⊥
 
 -- ---- what a crash may leave
@@ -183,13 +186,25 @@ abbrev pub IsAlwaysKept : (text held script before : Option (List ℕ)) → (his
 IsAlwaysKept text held script before history after now =
     IfSome text (λ bytes. (tree : Definitions) → IsSound bytes tree → IsKeptOver (schema (all_declarations tree)) held script before history after now)
 
--- What holds of the machine after every number of the lines that are served of a script, over the schema of a text without a fault and from
--- each good catalog: so also after those that were taken, whichever way serving them ended.
+-- After these lines, from these objects and the next serial on: what holds of the machine, and of the next serial that is stored then
+-- where the station tells of its disk. An image stands for what is stored, so this says of it that its objects are good, that its next
+-- serial is not above the machine's, and that it is above each serial that a commit gave which changed something.
+pub record IsRightAfter (S : Schema) (M : Catalog) (next : ℕ) (lines : List LineStep) : Type 0 where
+  pub machine : IsRightful S M next (run_over S standard M next lines)
+  pub stored : IsSomeAnd (after turn_from (start S standard M next true) lines).saved (IsBetween S (after turn_from (start S standard M next true) lines) (run_over S standard M next lines).lists.history)
+
+-- So after every number of the lines that are served of a script, over the schema of a text without a fault and from each good catalog: so
+-- also after those that were taken, whichever way serving them ended.
 abbrev pub IsAlwaysRight : (text script : Option (List ℕ)) → Type 0
 IsAlwaysRight text script =
     IfSome text (λ bytes. IfSome script (λ lines. (tree : Definitions) → IsSound bytes tree
     → (M : Catalog) (next : ℕ) → IsGood (schema (all_declarations tree)) M next
-    → (n : ℕ) → IsRightful (schema (all_declarations tree)) M next (run_over (schema (all_declarations tree)) standard M next (take n (lines_of script_limits lines)))))
+    → (n : ℕ) → IsRightAfter (schema (all_declarations tree)) M next (take n (lines_of script_limits lines))))
+
+-- A call spared the file, where its content was told: each moment that came has the disk as it was before the call, or the content as it was
+-- then as its only image. So a crash at any moment leaves the file as it was, or what a crash before the call might have left.
+abbrev pub IsSpared : (held : Option (List ℕ)) → (history after : List Moment) → Moment → Type 0
+IsSpared held history after now = IfSome held (λ octets. Through history after (λ m. (m.disk ≡ now.disk) ⊎ IsSettled held m))
 
 -- so of every text and script
 abbrev pub ScriptsAreRight : Type 0

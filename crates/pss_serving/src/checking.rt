@@ -5,7 +5,7 @@ ghost use Rattle.pss_disk.specs.Moments.{Through};
 ghost use Rattle.psdl_tree.specs.Views.{tree_view};
 ghost use Rattle.pss_serving.specs.Checked.{IsOneThing, spoken_of};
 ghost use Rattle.pss_serving.specs.Counts.{HasCauses, counts_of};
-ghost use Rattle.pss_serving.specs.Outcomes.{EndsChecking, OfText, ends_before_script};
+ghost use Rattle.pss_serving.specs.Outcomes.{EndsChecking, IsSpared, OfText, ends_before_script};
 ghost use Rattle.line_service.specs.Spoken.{HasSpoken};
 ghost use Rattle.line_service.specs.Turns.{IsWhole};
 ghost use Rattle.pss_serving.specs.Spoken.{IsCut};
@@ -36,6 +36,8 @@ fn print_checked(alloc: Global, sound: &SoundText) -> Result<Bytes, NoMemory>
 fn tell<W: Station>(alloc: Global, sound: &SoundText, station: &mut W) -> Told
     ensures told { IsTold result (spoken_of (tree_view sound.now.tree) sound.now.schema) (W.now station.old).spoken (W.now station.new).spoken }
     ensures moments { Through (W.history station.old) (W.history station.new) (HasSpoken (W.now station.new).spoken (W.now station.old).disk) }
+    ensures disk { (W.now station.new).disk ≡ (W.now station.old).disk }
+    ensures content { W.content station.new ≡ W.content station.old }
     ensures cause { HasCauseIf (W.speak_faults station.old) (W.speak_faults station.new) (is_fault result) }
     ensures other { W.disk_faults station.new ≡ W.disk_faults station.old }
 {
@@ -56,9 +58,13 @@ pub fn tell_checked<P: Source, W: Station>(alloc: Global, schema: &mut P, statio
     ensures causes { (script : ℕ) → HasCauses result
         (counts_of P.faults (λ n. n) W.speak_faults W.disk_faults schema.old script station.old)
         (counts_of P.faults (λ n. n) W.speak_faults W.disk_faults schema.new script station.new) }
+    // The store's file is not touched.
+    ensures disk { ((W.now station.new).disk ≡ (W.now station.old).disk) × (W.content station.new ≡ W.content station.old) }
     // At each moment nothing was spoken or all, but where speech failed.
     ensures moments { Through (W.history station.old) (W.history station.new)
         (λ m. OfText (λ told. IsWhole told (W.now station.old).spoken m.spoken) (P.left schema.old) ⊎ IsCut result (W.now station.new).spoken m.spoken) }
+    // Where the text is refused, a crash at any moment leaves the file as it was.
+    ensures spared { IsTrue (ends_before_script result) → IsSpared (W.content station.old) (W.history station.old) (W.history station.new) (W.now station.old) }
 {
     match read_checked(alloc, schema) {
         Checked::Sound(sound) => match tell(alloc, &sound, station) {

@@ -10,7 +10,7 @@ ghost use Rattle.store_refusals.specs.Lines.{not_empty_line};
 ghost use Rattle.pss_serving.specs.Checked.{IsOneThing};
 ghost use Rattle.pss_serving.specs.Counts.{HasCauses, counts_of, has_disk_failed, has_speech_failed};
 ghost use Rattle.pss_serving.specs.Making.{EndsMaking, MakesStore, TellsFilled, WholeMaking};
-ghost use Rattle.pss_serving.specs.Outcomes.{ends_before_script};
+ghost use Rattle.pss_serving.specs.Outcomes.{IsSpared, ends_before_script};
 ghost use Rattle.pss_serving.specs.Spoken.{IsCut};
 
 use crate::reading::{Checked, read_checked};
@@ -43,11 +43,12 @@ pub fn refuse_file<W: Station>(station: &mut W) -> Status
 fn make_store<W: Station>(alloc: Global, schema: &Schema, station: &mut W) -> Status
     requires { IsSoundSchema schema.now }
     ensures ends { (text : Option (List ℕ)) → MakesStore result schema.now
-        (record { text = text; before = (W.now station.old).spoken; after = (W.now station.new).spoken; held = W.content station.old; holds = W.content station.new }) }
+        (record { text = text; before = (W.now station.old).spoken; after = (W.now station.new).spoken; held = W.content station.old; holds = W.content station.new; disk = (W.now station.new).disk }) }
     ensures moments { Through (W.history station.old) (W.history station.new)
         (λ m. IsWhole not_empty_line (W.now station.old).spoken m.spoken ⊎ IsCut result (W.now station.new).spoken m.spoken) }
     ensures speech { HasCauseIf (W.speak_faults station.old) (W.speak_faults station.new) (has_speech_failed result) }
     ensures disk { HasCauseIf (W.disk_faults station.old) (W.disk_faults station.new) (has_disk_failed result) }
+    ensures spared { IsTrue (ends_before_script result) → IsSpared (W.content station.old) (W.history station.old) (W.history station.new) (W.now station.old) }
 {
     let Ok(shape) = shape_of(alloc, schema) else {
         return Status::NoMemory;
@@ -64,7 +65,7 @@ fn make_store<W: Station>(alloc: Global, schema: &Schema, station: &mut W) -> St
 /// what is refused.
 pub fn init_store<P: Source, W: Station>(alloc: Global, schema: &mut P, station: &mut W) -> Status
     ensures ends { EndsMaking result
-        (record { text = P.left schema.old; before = (W.now station.old).spoken; after = (W.now station.new).spoken; held = W.content station.old; holds = W.content station.new })
+        (record { text = P.left schema.old; before = (W.now station.old).spoken; after = (W.now station.new).spoken; held = W.content station.old; holds = W.content station.new; disk = (W.now station.new).disk })
         (P.faults schema.old) (P.faults schema.new) }
     // The text is refused only where it is no sound one.
     ensures one { IsTrue (ends_before_script result) → IfSome (P.left schema.old) IsOneThing }
@@ -74,6 +75,8 @@ pub fn init_store<P: Source, W: Station>(alloc: Global, schema: &mut P, station:
     // At each moment nothing was spoken or a whole line, but where speech failed.
     ensures moments { Through (W.history station.old) (W.history station.new)
         (λ m. WholeMaking (P.left schema.old) (W.now station.old).spoken m.spoken ⊎ IsCut result (W.now station.new).spoken m.spoken) }
+    // Where text or file are refused, a crash at any moment leaves the file as it was.
+    ensures spared { IsTrue (ends_before_script result) → IsSpared (W.content station.old) (W.history station.old) (W.history station.new) (W.now station.old) }
 {
     text_is_sound();
     match read_checked(alloc, schema) {

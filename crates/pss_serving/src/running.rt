@@ -9,7 +9,7 @@ ghost use Rattle.store_refusals.specs.Lines.{refusal_of};
 ghost use Rattle.pss_serving.specs.Checked.{IsOneThing};
 ghost use Rattle.pss_serving.specs.Counts.{HasCauses, counts_of, has_disk_failed, has_read_failed, has_speech_failed};
 ghost use Rattle.pss_serving.specs.Endings.{status_of_ending};
-ghost use Rattle.pss_serving.specs.Outcomes.{EndsOverStore, EndsServing, IsAlwaysKept, IsAlwaysRight, IsKeptOver, IsOrWhole, TellsRefusal, WholeServing, call_of, ends_before_script};
+ghost use Rattle.pss_serving.specs.Outcomes.{EndsOverStore, EndsServing, IsAlwaysKept, IsAlwaysRight, IsKeptOver, IsOrWhole, IsSpared, TellsRefusal, WholeServing, call_of, ends_before_script};
 ghost use Rattle.pss_serving.specs.Spoken.{IsCut};
 
 use crate::laws::scripts_are_right;
@@ -84,6 +84,7 @@ fn serve_store<C: Source, W: Station>(
     ensures moments { Through (W.history station.old) (W.history station.new)
         (λ m. IsOrWhole schema (W.content station.old) (C.left script.old) (W.now station.old).spoken m.spoken ⊎ IsCut result (W.now station.new).spoken m.spoken) }
     ensures kept { IsKeptOver schema (W.content station.old) (C.left script.old) (W.now station.old).spoken (W.history station.old) (W.history station.new) (W.now station.old) }
+    ensures spared { IsTrue (ends_before_script result) → IsSpared (W.content station.old) (W.history station.old) (W.history station.new) (W.now station.old) }
 {
     an_image_is_one_thing();
     match Store::mount(alloc, station, &schema) {
@@ -117,7 +118,10 @@ pub fn run_script<P: Source, C: Source, W: Station>(
         (λ m. WholeServing (P.left schema.old) (W.content station.old) (C.left script.old) (W.now station.old).spoken m.spoken ⊎ IsCut result (W.now station.new).spoken m.spoken) }
     // A crash leaves what was committed by then, and the commit that is answered next wholly or not at all.
     ensures kept { IsAlwaysKept (P.left schema.old) (W.content station.old) (C.left script.old) (W.now station.old).spoken (W.history station.old) (W.history station.new) (W.now station.old) }
-    // What was committed by then is as if done alone, in the order of commits; and so of any first lines.
+    // Where text or store are refused, a crash at any moment leaves the file as it was.
+    ensures spared { IsTrue (ends_before_script result) → IsSpared (W.content station.old) (W.history station.old) (W.history station.new) (W.now station.old) }
+    // What was committed by then is as if done alone, in the order of commits, and what is stored are good objects under a next
+    // serial between those that were committed and the machine's; and so of any first lines.
     ensures right { IsAlwaysRight (P.left schema.old) (C.left script.old) }
 {
     text_is_sound();

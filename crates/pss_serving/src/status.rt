@@ -4,7 +4,7 @@ ghost use Rattle.std.specs.Prelude.{◌≡◌};
 /// How a call of the service ended. Its number is the exit status of the program.
 #[derive(Clone, Copy, Debug, PartialEq, Eq, Drop)]
 pub enum Status {
-    /// All was done: the script was read to its end, and each reply was spoken.
+    /// All that the words ask for was done, and what there was to say was spoken.
     Ok,
     /// The words are none of the forms.
     Usage,

@@ -27,6 +27,7 @@ pub enum Told {
 pub fn refuse<W: Station>(alloc: Global, fault: &SchemaFault, station: &mut W) -> Told
     ensures told { IsTold result (refusal_line fault.now) (W.now station.old).spoken (W.now station.new).spoken }
     ensures moments { Through (W.history station.old) (W.history station.new) (HasSpoken (W.now station.new).spoken (W.now station.old).disk) }
+    ensures disk { (W.now station.new).disk ≡ (W.now station.old).disk }
     ensures content { W.content station.new ≡ W.content station.old }
     ensures cause { HasCauseIf (W.speak_faults station.old) (W.speak_faults station.new) (is_fault result) }
     ensures other { W.disk_faults station.new ≡ W.disk_faults station.old }

@@ -1,5 +1,5 @@
 -- What is spoken of a store that is refused.
-use Rattle.std.specs.Prelude.{ℕ, List, [], ◌∷◌, ◌++◌, codes, decimal, length, ◌<◌, None, Some, IfSome}
+use Rattle.std.specs.Prelude.{ℕ, ◌≡◌, List, [], ◌∷◌, ◌++◌, codes, decimal, length, ◌<◌, None, Some, IfSome}
 use Rattle.std.specs.declared.option.Option.{Option}
 use Rattle.pss_base.specs.declared.damage.DamageKind.{DamageKind}
 use Rattle.pss_base.specs.declared.damage.DamageKind.TheVariants as kind
@@ -27,6 +27,14 @@ not_empty_line = codes "store NotEmpty" ++ 10 ∷ []
 -- the file has octets
 abbrev pub IsFilled : Option (List ℕ) → Type 0
 IsFilled held = IfSome held (λ octets. 0 < length octets)
+
+-- where the content was told, it had no octets
+abbrev pub WasEmpty : Option (List ℕ) → Type 0
+WasEmpty held = IfSome held (λ octets. length octets ≡ 0)
+
+-- where the content was told and had octets, it is as it was
+abbrev pub IsFilledKept : (held holds : Option (List ℕ)) → Type 0
+IsFilledKept held holds = IfSome held (λ octets. 0 < length octets → holds ≡ held)
 
 -- the shape of the store is not that of the schema, first at this home
 abbrev pub shape_line : ℕ → List ℕ

@@ -1,5 +1,5 @@
 -- How a demonstration begins.
-use Rattle.std.specs.Prelude.{ℕ, ◌≡◌, List, None, IfSome, is_some}
+use Rattle.std.specs.Prelude.{ℕ, ◌≡◌, List, length, None, IfSome, is_some}
 use Rattle.std.specs.declared.option.Option.{Option}
 use Rattle.std.specs.FinMap.{empty}
 use Rattle.pss_base.specs.declared.stop.StoreStop.{StoreStop}
@@ -14,7 +14,7 @@ use Rattle.pss_recovery.specs.declared.fault.MountFault.TheVariants as mount
 use Rattle.pss_recovery.specs.declared.mounting.Mounted.{Mounted}
 use Rattle.commit_saving.specs.Saving.{IfTold}
 use Rattle.connector.specs.Keeping.{HasObjects}
-use Rattle.store_refusals.specs.Lines.{IsFilled}
+use Rattle.store_refusals.specs.Lines.{IsFilled, IsFilledKept, WasEmpty}
 use Rattle.people_demo.specs.People.{people}
 use Rattle.people_demo.specs.inner.Showing.{IsShowing, begun}
 use Rattle.people_demo.specs.declared.demo.DemoStop.{DemoStop}
@@ -43,20 +43,21 @@ of_mount mount.NoMemory = stop.NoMemory
 abbrev pub ShowsNothing : DemoStop → (held holds : Option (List ℕ)) → Type 0
 ShowsNothing stop.NotEmpty held holds = IsFilled held × (holds ≡ held)
 ShowsNothing (stop.Refused why) held holds = held ≡ None
-ShowsNothing stop.DiskFault held holds = Unit {0}
+ShowsNothing stop.DiskFault held holds = IsFilledKept held holds
 ShowsNothing stop.SpeakFault held holds = ⊥
-ShowsNothing stop.NoMemory held holds = Unit {0}
+ShowsNothing stop.NoMemory held holds = IsFilledKept held holds
 
 -- ---- what was made
 
--- where the content was told, it is told and stands for no people
+-- where the content was told, it had no octets, and it is told and stands for no people
 abbrev pub IsNew : (held holds : Option (List ℕ)) → Type 0
-IsNew held holds = IfSome held (λ octets. IfTold holds (Stands people empty 1))
+IsNew held holds = IfSome held (λ octets. (length octets ≡ 0) × IfTold holds (Stands people empty 1))
 
 -- what is mounted of it: no people, where the content was told
 pub record IsMade (held holds : Option (List ℕ)) (mounted : Mounted) : Type 0 where
   pub catalog : Catalog
   pub objects : HasObjects people catalog mounted
+  pub was_empty : WasEmpty held
   pub none : IfSome held (λ octets. (catalog ≡ empty) × (mounted.next ≡ 1))
   pub stands : IfSome held (λ octets. IfTold holds (IsMounted people catalog mounted.next mounted.store))
 
@@ -64,5 +65,6 @@ pub record IsMade (held holds : Option (List ℕ)) (mounted : Mounted) : Type 0 
 pub record Begins (held holds : Option (List ℕ)) (show : Show) : Type 0 where
   pub catalog : Catalog
   pub next : ℕ
+  pub was_empty : WasEmpty held
   pub none : IfSome held (λ octets. (catalog ≡ empty) × (next ≡ 1))
   pub is : IsShowing show (begun catalog next (is_some held)) holds

@@ -1,9 +1,11 @@
-use Rattle.std.proofs.Common.{inr}
-use Rattle.pss_daemon.specs.declared.forms.Plan.TheVariants.{Run}
+use Rattle.std.proofs.Common.{inr, refl}
+use Rattle.pss_daemon.specs.declared.forms.Plan.TheVariants.{Check, Demo, Init, Run}
 use Rattle.pss_serving.specs.Outcomes.{call_of}
 use Rattle.pss_serving.specs.declared.status.Status.TheVariants as status
+use Rattle.pss_serving.proofs.Spared.{spared_by, spoken_spares}
 use Rattle.pss_daemon.proofs.Complete.{check_complete, demo_complete, init_complete, run_complete, usage_complete}
 use Rattle.pss_daemon.proofs.Ending.{check_moments, cut_moments, demo_moments, init_moments, run_moments, usage_moments}
+use Rattle.pss_daemon.proofs.Shapes.{no_check, no_demo}
 use Rattle.pss_daemon.proofs.service.pssd.Goals as goal
 
 -- ---- the words are no form
@@ -19,6 +21,14 @@ returns-in-Ok-speak-clause-kept g c = λ run. absurd (c.in_default.not-Ok (Run r
 
 pub returns-in-Ok-speak-clause-right : goal.returns-in-Ok-speak-clause-right
 returns-in-Ok-speak-clause-right g c = c.scripts_are_right.ensures (g.P.Source.left c.args.schema.now) (g.C.Source.left c.args.script.now)
+
+pub returns-in-Ok-speak-clause-spared : goal.returns-in-Ok-speak-clause-spared
+returns-in-Ok-speak-clause-spared g c = λ before.
+    let held = g.W.Station.content c.args.station.now in
+    let first = g.W.Station.now c.args.station.now in
+    let a = g.W.Station.history c.args.station.now in
+    let b = g.W.Station.history c.speak.new.station in
+    spared_by held a b first (spoken_spares held first a b _ _ refl c.speak.ensures.moments)
 
 pub returns-in-Err-clause-complete : goal.returns-in-Err-clause-complete
 returns-in-Err-clause-complete g c = usage_complete c.args.words.now (call_of g.P.Source.left g.C.Source.left g.W.Station.now g.W.Station.content c.args.schema.now c.args.script.now c.args.script.now c.args.station.now c.speak.new.station) _ _ status.SpeakFault (λ plan is. c.in_default.not-Ok plan (c.plan.ensures.only plan is))
@@ -47,6 +57,13 @@ returns-in-Check-clause-kept g c = λ run. cc (c.in-Ok.is, c.in-Check.is, c.plan
 pub returns-in-Check-clause-right : goal.returns-in-Check-clause-right
 returns-in-Check-clause-right g c = c.scripts_are_right.ensures (g.P.Source.left c.args.schema.now) (g.C.Source.left c.args.script.now)
 
+pub returns-in-Check-clause-untouched : goal.returns-in-Check-clause-untouched
+returns-in-Check-clause-untouched g c = λ may. (c.tell_checked.ensures.disk.1, c.tell_checked.ensures.disk.0)
+
+pub returns-in-Check-clause-unasked_schema : goal.returns-in-Check-clause-unasked_schema
+returns-in-Check-clause-unasked_schema g c = λ may.
+    absurd (no_demo c.args.words.now (Check c.in-Check.schema) (rw c.in-Check.is at c.in-Ok.ensures.ok) (λ plan is. cc (c.in-Ok.is, c.in-Check.is, c.plan.ensures.only plan is)) (λ rounds store same. cc same) may)
+
 -- ---- a script is served
 
 pub returns-in-Run-clause-complete : goal.returns-in-Run-clause-complete
@@ -55,6 +72,14 @@ returns-in-Run-clause-complete g c =
 
 pub returns-in-Run-clause-moments : goal.returns-in-Run-clause-moments
 returns-in-Run-clause-moments g c = run_moments c.args.words.now (g.P.Source.left c.args.schema.now) (g.W.Station.content c.args.station.now) (g.C.Source.left c.args.script.now) (g.W.Station.now c.args.station.now).spoken (g.W.Station.now c.run_script.new.station).spoken (g.W.Station.history c.args.station.now) (g.W.Station.history c.run_script.new.station) c.run_script.result (c.in-Run.schema, c.in-Run.store, rw c.in-Run.is at c.in-Ok.ensures.ok) c.run_script.ensures.moments
+
+pub returns-in-Run-clause-untouched : goal.returns-in-Run-clause-untouched
+returns-in-Run-clause-untouched g c = λ may.
+    absurd (no_check c.args.words.now (Run c.in-Run.schema c.in-Run.store) (rw c.in-Run.is at c.in-Ok.ensures.ok) (λ plan is. cc (c.in-Ok.is, c.in-Run.is, c.plan.ensures.only plan is)) (λ at same. cc same) may)
+
+pub returns-in-Run-clause-unasked_schema : goal.returns-in-Run-clause-unasked_schema
+returns-in-Run-clause-unasked_schema g c = λ may.
+    absurd (no_demo c.args.words.now (Run c.in-Run.schema c.in-Run.store) (rw c.in-Run.is at c.in-Ok.ensures.ok) (λ plan is. cc (c.in-Ok.is, c.in-Run.is, c.plan.ensures.only plan is)) (λ rounds store same. cc same) may)
 
 -- ---- a store is made
 
@@ -70,6 +95,14 @@ returns-in-Init-clause-kept g c = λ run. cc (c.in-Ok.is, c.in-Init.is, c.plan.e
 
 pub returns-in-Init-clause-right : goal.returns-in-Init-clause-right
 returns-in-Init-clause-right g c = c.scripts_are_right.ensures (g.P.Source.left c.args.schema.now) (g.C.Source.left c.args.script.now)
+
+pub returns-in-Init-clause-untouched : goal.returns-in-Init-clause-untouched
+returns-in-Init-clause-untouched g c = λ may.
+    absurd (no_check c.args.words.now (Init c.in-Init.schema c.in-Init.store) (rw c.in-Init.is at c.in-Ok.ensures.ok) (λ plan is. cc (c.in-Ok.is, c.in-Init.is, c.plan.ensures.only plan is)) (λ at same. cc same) may)
+
+pub returns-in-Init-clause-unasked_schema : goal.returns-in-Init-clause-unasked_schema
+returns-in-Init-clause-unasked_schema g c = λ may.
+    absurd (no_demo c.args.words.now (Init c.in-Init.schema c.in-Init.store) (rw c.in-Init.is at c.in-Ok.ensures.ok) (λ plan is. cc (c.in-Ok.is, c.in-Init.is, c.plan.ensures.only plan is)) (λ rounds store same. cc same) may)
 
 -- ---- a store of people is demonstrated
 
@@ -94,3 +127,7 @@ returns-in-Demo-clause-kept g c = λ run. cc (c.in-Ok.is, c.in-Demo.is, c.plan.e
 
 pub returns-in-Demo-clause-right : goal.returns-in-Demo-clause-right
 returns-in-Demo-clause-right g c = c.scripts_are_right.ensures (g.P.Source.left c.args.schema.now) (g.C.Source.left c.args.script.now)
+
+pub returns-in-Demo-clause-untouched : goal.returns-in-Demo-clause-untouched
+returns-in-Demo-clause-untouched g c = λ may.
+    absurd (no_check c.args.words.now (Demo c.in-Demo.rounds c.in-Demo.store) (rw c.in-Demo.is at c.in-Ok.ensures.ok) (λ plan is. cc (c.in-Ok.is, c.in-Demo.is, c.plan.ensures.only plan is)) (λ at same. cc same) may)

@@ -1,9 +1,10 @@
-use Rattle.std.proofs.Common.{inl, inr, List, ℕ}
+use Rattle.std.proofs.Common.{inl, inr, refl, List, ℕ}
 use Rattle.std.specs.declared.option.Option.{Option}
 use Rattle.psdl_tree.specs.Views.{tree_view}
 use Rattle.pss_serving.specs.declared.status.Status.TheVariants as status
 use Rattle.pss_serving.proofs.Outcomes.{checking_whole, checking_cut}
 use Rattle.pss_serving.proofs.Found.{sound_of, text_of}
+use Rattle.pss_serving.proofs.Spared.{spared_by, spoken_spares}
 use Rattle.pss_serving.proofs.checking.tell_checked.Goals as goal
 
 pub returns-in-Whole-clause-ends : goal.returns-in-Whole-clause-ends
@@ -41,6 +42,14 @@ returns-in-SpeakFault-refuse-clause-moments g c = checking_cut _ _ _ _ _ _ c.ref
 pub returns-in-Refused-clause-moments : goal.returns-in-Refused-clause-moments
 returns-in-Refused-clause-moments g c =
     checking_whole _ _ _ _ _ _ status.NoMemory (inl (c.in-Refused.fault, c.in-Refused.ensures.found, inl c.in-NoMemory-refuse.ensures.told)) c.refuse.ensures.moments
+
+pub returns-in-Whole-refuse-clause-spared : goal.returns-in-Whole-refuse-clause-spared
+returns-in-Whole-refuse-clause-spared g c = λ before.
+    let held = g.W.Station.content c.args.station.now in
+    let first = g.W.Station.now c.args.station.now in
+    let a = g.W.Station.history c.args.station.now in
+    let b = g.W.Station.history c.refuse.new.station in
+    spared_by held a b first (spoken_spares held first a b _ _ refl c.refuse.ensures.moments)
 
 pub returns-in-Whole-refuse-clause-one : goal.returns-in-Whole-refuse-clause-one
 returns-in-Whole-refuse-clause-one g c = λ ended. c.in-Refused.ensures.one

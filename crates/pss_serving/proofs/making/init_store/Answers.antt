@@ -8,6 +8,7 @@ use Rattle.pss_serving.specs.declared.status.Status.TheVariants as status
 use Rattle.pss_serving.proofs.Found.{sound_of}
 use Rattle.pss_serving.proofs.NewStores.{making_causes, making_ends, making_moments}
 use Rattle.pss_serving.proofs.Outcomes.{making_cut, making_whole}
+use Rattle.pss_serving.proofs.Spared.{spared_by, spoken_spares}
 use Rattle.pss_serving.proofs.making.init_store.Goals as goal
 
 pub make_store-requires : goal.make_store-requires
@@ -26,6 +27,7 @@ returns-in-Sound-clause-ends g c =
       after = (g.W.Station.now c.make_store.new.station).spoken;
       held = g.W.Station.content c.args.station.now;
       holds = g.W.Station.content c.make_store.new.station;
+      disk = (g.W.Station.now c.make_store.new.station).disk;
     } in
     making_ends c.make_store.result (tree_view c.in-Sound.sound.tree) made (g.P.Source.faults c.args.schema.now) (g.P.Source.faults c.read_checked.new.schema) (sound_of text c.in-Sound.sound c.in-Sound.ensures.found)
     (subst (λ (S : Schema). MakesStore c.make_store.result S made) c.in-Sound.ensures.found.1 (c.make_store.ensures.ends text))
@@ -49,6 +51,14 @@ returns-in-Whole-clause-one g c = λ ended. c.in-Refused.ensures.one
 
 pub returns-in-Whole-clause-moments : goal.returns-in-Whole-clause-moments
 returns-in-Whole-clause-moments g c = making_whole _ _ _ _ _ _ status.SchemaRefused (inl (c.in-Refused.fault, c.in-Refused.ensures.found, inr c.in-Whole.ensures.told)) c.refuse.ensures.moments
+
+pub returns-in-Whole-clause-spared : goal.returns-in-Whole-clause-spared
+returns-in-Whole-clause-spared g c = λ before.
+    let held = g.W.Station.content c.args.station.now in
+    let first = g.W.Station.now c.args.station.now in
+    let a = g.W.Station.history c.args.station.now in
+    let b = g.W.Station.history c.refuse.new.station in
+    spared_by held a b first (spoken_spares held first a b _ _ refl c.refuse.ensures.moments)
 
 pub returns-in-SpeakFault-clause-moments : goal.returns-in-SpeakFault-clause-moments
 returns-in-SpeakFault-clause-moments g c = making_cut _ _ _ _ _ _ c.refuse.ensures.moments

@@ -7,6 +7,7 @@ use Rattle.pss_serving.specs.declared.status.Status.TheVariants as status
 use Rattle.pss_serving.proofs.EndOfRun.{causes_of, ends_of, kept_none, kept_of, kept_still, moments_of}
 use Rattle.pss_serving.proofs.Found.{sound_of}
 use Rattle.pss_serving.proofs.Outcomes.{serving_cut, serving_whole}
+use Rattle.pss_serving.proofs.Spared.{spared_by, spoken_spares}
 use Rattle.pss_serving.proofs.running.run_script.Goals as goal
 
 pub serve_store-requires : goal.serve_store-requires
@@ -67,6 +68,14 @@ returns-in-Whole-clause-kept g c = kept_none _ _ _ _ _ _ (g.P.Source.left c.args
 
 pub returns-in-Whole-clause-right : goal.returns-in-Whole-clause-right
 returns-in-Whole-clause-right g c = c.scripts_are_right.ensures (g.P.Source.left c.args.schema.now) (g.C.Source.left c.args.script.now)
+
+pub returns-in-Whole-clause-spared : goal.returns-in-Whole-clause-spared
+returns-in-Whole-clause-spared g c = λ before.
+    let held = g.W.Station.content c.args.station.now in
+    let first = g.W.Station.now c.args.station.now in
+    let a = g.W.Station.history c.args.station.now in
+    let b = g.W.Station.history c.refuse.new.station in
+    spared_by held a b first (spoken_spares held first a b _ _ refl c.refuse.ensures.moments)
 
 pub returns-in-SpeakFault-clause-moments : goal.returns-in-SpeakFault-clause-moments
 returns-in-SpeakFault-clause-moments g c = serving_cut _ _ _ _ _ _ _ _ c.refuse.ensures.moments

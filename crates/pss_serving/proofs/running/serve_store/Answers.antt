@@ -8,6 +8,7 @@ use Rattle.pss_serving.specs.declared.status.Status.TheVariants as status
 use Rattle.pss_serving.proofs.AtMoments.{quiet_call}
 use Rattle.pss_serving.proofs.Served.{is_first, mounted_ends, mounted_moments, mounted_over}
 use Rattle.pss_serving.proofs.Refused.{no_disk_fault, refused_counts, refused_ends, refused_moments, refused_over, still_over}
+use Rattle.pss_serving.proofs.Spared.{no_ending, refused_spares, spared_by}
 use Rattle.pss_serving.proofs.running.serve_store.Goals as goal
 
 -- ---- the store is mounted
@@ -50,6 +51,9 @@ returns-in-Ok-clause-kept g c =
     (g.W.Station.history c.serve_script.new.station) c.mount.ensures.silent.said c.mount.ensures.images c.mount.ensures.silent.moments
     (c.serve_script.ensures.moments has.catalog (is_first c.args.schema c.in-Ok.mounted held content has))
 
+pub returns-in-Ok-clause-spared : goal.returns-in-Ok-clause-spared
+returns-in-Ok-clause-spared g c = rw c.status_of.ensures (no_ending c.serve_script.result _)
+
 -- ---- the disk failed
 
 pub returns-in-DiskFault-clause-moments : goal.returns-in-DiskFault-clause-moments
@@ -88,4 +92,7 @@ returns g c =
           (g.W.Station.history c.args.station.now) first c.refuse_store.result refl told c.mount.ensures.silent.moments c.refuse_store.ensures.moments;
       kept = refused_over c.args.schema script first (g.W.Station.history c.args.station.now) (g.W.Station.history c.mount.new.w) c.an_image_is_one_thing.ensures why held (g.W.Station.history c.refuse_store.new.station)
           c.in-Err.ensures.refused (λ none. ap g.W.Station.history (c.refuse_store.ensures.untold none)) c.mount.ensures.images c.mount.ensures.silent.moments;
+      spared = λ before. spared_by held (g.W.Station.history c.args.station.now) (g.W.Station.history c.refuse_store.new.station) first
+          (refused_spares held first (g.W.Station.history c.args.station.now) (g.W.Station.history c.mount.new.w) (g.W.Station.history c.refuse_store.new.station) (g.W.Station.content c.mount.new.w) after now
+          (c.in-Err.ensures.same c.in_default.not-DiskFault) (c.in-Err.ensures.refused_stays c.in_default.not-DiskFault) (c.in-Err.ensures.refused_settled c.in_default.not-DiskFault) c.refuse_store.ensures.moments);
     }

@@ -41,20 +41,22 @@ fn folder_of(name: &str) -> &str {
     }
 }
 
-// Makes a file, and makes sure that its folder has it, where that folder can be opened.
-fn make(rt: &HostRuntime, name: &str) -> io::Result<File> {
-    let file = open_whole(rt, name, true)?;
-    if let Ok(folder) = fs::open(rt, folder_of(name)) {
-        folder.sync_all()?;
+// Makes sure that a file is in its folder, where that folder can be opened.
+fn settle_in_folder(rt: &HostRuntime, name: &str) -> io::Result<()> {
+    match fs::open(rt, folder_of(name)) {
+        Ok(folder) => folder.sync_all(),
+        Err(_) => Ok(()),
     }
-    Ok(file)
 }
 
+// Opens a file, and makes it where there is none. One that was there may have come just now, so its folder is synced too.
 fn open_or_make(rt: &HostRuntime, name: &str) -> io::Result<File> {
-    match open_whole(rt, name, false) {
-        Err(error) if error.kind() == ErrorKind::NotFound => make(rt, name),
-        opened => opened,
-    }
+    let file = match open_whole(rt, name, false) {
+        Err(error) if error.kind() == ErrorKind::NotFound => open_whole(rt, name, true)?,
+        opened => opened?,
+    };
+    settle_in_folder(rt, name)?;
+    Ok(file)
 }
 
 // The store's file, which nobody else holds.

@@ -1,6 +1,6 @@
 // Each call fails in turn.
 use crate::calling::{Ended, Failing, NONE, Texts, call};
-use crate::crashes::{Served, bounds_at, letter_in};
+use crate::crashes::{Served, bounds_at, letter_in, readings_of};
 use case_lines::append_moment;
 use pss_base::{Bytes, NoMemory};
 use std::alloc::Global;
@@ -28,14 +28,13 @@ fn append_moments(
 ) -> Result<(), NoMemory> {
     let spoken = ended.station.spoken();
     let calls = ended.station.calls();
-    let schema = served.texts.schema;
     let before = bounds_at(served, whole_lines(spoken));
     append_moment(out, &ended.station, calls.saturating_sub(1), |image| {
-        letter_in(alloc, image, schema, before)
+        letter_in(alloc, image, served, before)
     })?;
     let behind = bounds_at(served, spoken.len());
     append_moment(out, &ended.station, calls, |image| {
-        letter_in(alloc, image, schema, behind)
+        letter_in(alloc, image, served, behind)
     })?;
     out.extend(b"\n")
 }
@@ -66,9 +65,11 @@ pub fn append_calls(
     texts: Texts,
 ) -> Result<(), NoMemory> {
     let whole = call(alloc, b"run", store, texts, NONE)?;
+    let readings = readings_of(alloc, store, texts)?;
     let served = Served {
         texts,
         replies: whole.station.spoken(),
+        readings: &readings,
     };
     for number in 0..whole.station.calls() {
         append_failing(alloc, out, store, served, number)?;

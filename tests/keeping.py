@@ -129,6 +129,7 @@ def kept_files(folder):
     expect_run("the first run", ["run", cells, store], FIRST, 0, FIRST_REPLIES)
     expect_store("the first flush", store, empty[:JOURNAL] + APPENDED + empty[JOURNAL + len(APPENDED) :])
     expect_uncounted(store, contents(store))
+    expect_last_serial(folder, empty)
     expect_run("the second run", ["run", cells, store], b"open s1 basic rw\npid s1 000000010000000000000001\nget s1 i1 v\ncreate s1 Cells 8\n", 0, b"OK\nOK i1 000000010000000000000001\nOK 7\nOK i2 000000010000000000000002\n")
     expect_run("another text", ["run", notes, store], FIRST, 3, b"store ShapeDiffers 1\n")
     expect_run("checkpoint", ["run", cells, store], b"checkpoint\n", 0, b"OK\n")
@@ -155,6 +156,15 @@ def expect_uncounted(store, octets):
         put(store, octets[:at] + some + octets[at + 1 :])
         expect_run(name, ["run", cells, store], b"open s basic ro\ncount s Cells\n", 0, b"OK\nOK 0\n")
     put(store, octets)
+
+
+def expect_last_serial(folder, empty):
+    """A store whose next serial is the last but one: that one is given, and no other, also by the next run."""
+    store, last = os.path.join(folder, "last"), f"{1:08x}{2**64 - 2:016x}".encode()
+    put(store, empty[:16] + (2**64 - 2).to_bytes(8, "big") + empty[24:])
+    script = b"open s1 basic rw\ncreate s1 Cells 7\ncreate s1 Cells 8\nflush s1\ncount s1 Cells\n"
+    expect_run("the last serial", ["run", cells, store], script, 0, b"OK\nOK i1 " + last + b"\nSERIALS\nOK\nOK 1\n")
+    expect_run("behind the last serial", ["run", cells, store], script, 0, b"OK\nSERIALS\nSERIALS\nOK\nOK 1\n")
 
 
 def made_empty(folder):

@@ -203,7 +203,7 @@ def pages(folder):
     """Each page has a folder of its own, in which the stores of its examples stay from one block to the next."""
     found = glob.glob(os.path.join(top, "*.md")) + glob.glob(os.path.join(top, "docs", "*"))
     for path in each("the pages", sorted(found)):
-        own = os.path.join(folder, os.path.basename(path))
+        own = os.path.join(folder, os.path.relpath(path, top).replace(os.sep, "_"))
         os.mkdir(own)
         for name, to in [("pssd", program), ("examples", examples)]:
             os.symlink(os.path.abspath(to), os.path.join(own, name))

@@ -15,7 +15,7 @@ journal_cases = os.environ.get("JOURNAL_CASES") or os.path.join(top, "crates", "
 page_cases = os.environ.get("PAGE_CASES") or os.path.join(top, "crates", "page_cases", "out", "page_cases")
 recovery_cases = os.environ.get("RECOVERY_CASES") or os.path.join(top, "crates", "recovery_cases", "out", "recovery_cases")
 # A run has so many seconds. A build that is not optimised may need more.
-LONGEST = int(os.environ.get("PSSD_SECONDS") or 60)
+LONGEST = float(os.environ.get("PSSD_SECONDS") or 60)
 USAGE = b"usage: pssd check SCHEMA | init SCHEMA STORE | run SCHEMA STORE | demo N STORE\n"
 
 results = {"passed": 0, "failed": 0}

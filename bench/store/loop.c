@@ -50,9 +50,10 @@ int main(int count, char **words) {
         return 6;
     while ((got = read(0, piece, sizeof piece)) > 0)
         for (ssize_t i = 0; i < got; i++)
-            if (piece[i] != '\n')
-                line[length++ % (LONGEST - 1)] = piece[i];
-            else {
+            if (piece[i] != '\n') {
+                if (length < LONGEST - 1)
+                    line[length++] = piece[i];
+            } else {
                 line[length] = 0, length = 0;
                 if (!serve(line))
                     return 6;

@@ -209,6 +209,23 @@ def contested_down_a_chain(size):
     return filled(size, front, lambda n: chain(n).replace(" : ", " of A : "), "")
 
 
+PROVIDED = """abstract storagetype A {};
+abstract storagehome J of A {};
+storagetype T implements A {};
+storagehome H of T implements J {};
+"""
+
+
+def long_catalog_name(size):
+    """Half of the text: the name of a catalog. The other half: what it provides."""
+    return filled(size, f"{PROVIDED}catalog {'c' * (size // 2)} {{", lambda n: f"provides J j{n:x};", "};\n")
+
+
+def catalogs_in_long_module(size):
+    """Half of the text: the name of a module. The other half: catalogs in it."""
+    return filled(size, f"{PROVIDED}module {'m' * (size // 2)} {{", lambda n: f"catalog c{n:x} {{ provides J j; }};", "};\n")
+
+
 HOSTILE = [
     factories_under_heirs,
     factories_under_homes,
@@ -232,4 +249,6 @@ HOSTILE = [
     contested_in_turn,
     contested_own,
     contested_down_a_chain,
+    long_catalog_name,
+    catalogs_in_long_module,
 ]

@@ -4,7 +4,7 @@ use Rattle.type_layout.specs.Types.{PlainMember, Str, RefTo}
 use Rattle.type_layout.specs.declared.key.Key.{Key}
 use Rattle.type_layout.specs.declared.schema.Factory.{Factory}
 use Rattle.type_layout.specs.declared.schema.Home.{Home}
-use Rattle.type_layout.specs.declared.schema.Provided.{Provided}
+use Rattle.type_layout.specs.Scopes.{Provided}
 use Rattle.type_layout.specs.declared.schema.Schema.{Schema}
 
 -- a number that stays, a name, and a boss who is one of the people

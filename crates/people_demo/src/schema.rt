@@ -9,8 +9,8 @@ use pss_base::{Bytes, NoMemory};
 use std::alloc::Global;
 use type_layout::{
     DeclaredFactories, DeclaredFactory, Factories, HeldFactories, Home, HomeList, HomeNo, HomeNos,
-    Indexes, Key, KeyList, KeyNo, KeyNos, Layout, Member, Members, Names, PlacedNames, Provided,
-    ProvidedList, Schema, Ty,
+    Indexes, Key, KeyList, KeyNo, KeyNos, Layout, Member, Members, Names, PlacedNames,
+    ProvidedList, Provision, Schema, Scope, ScopeNo, Scopes, Ty,
 };
 
 const PEOPLE: HomeNo = HomeNo(1);
@@ -160,15 +160,18 @@ fn keys(alloc: Global) -> Result<KeyList, NoMemory>
 fn provided(alloc: Global) -> Result<ProvidedList, NoMemory>
     ensures { IfOk result (λ made. made ≡ plain.provided) }
 {
-    let catalog = named(alloc, b"People")?;
-    let name = named(alloc, b"persons")?;
-    let mut provided = ProvidedList::new(alloc);
-    provided.push(Provided {
-        catalog,
-        name,
+    let mut scopes = Scopes::new(alloc);
+    scopes.push(Scope {
+        outer: None,
+        name: named(alloc, b"People")?,
+    })?;
+    let mut provisions = Vec::new(alloc);
+    provisions.push(Provision {
+        catalog: ScopeNo(0),
+        name: named(alloc, b"persons")?,
         home: PEOPLE,
     })?;
-    Ok(provided)
+    Ok(ProvidedList::new(scopes, provisions))
 }
 
 /// The schema of people: one storage home with a key, of a type with a number that stays, a name, and a reference to a boss.

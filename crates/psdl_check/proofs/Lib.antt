@@ -27,6 +27,7 @@ pub mod Judging
 pub mod Counted
 pub mod Counting
 pub mod Provisioning
+pub mod Catalogued
 pub mod Stating
 pub mod Numbers
 pub mod Introduced

@@ -6,7 +6,7 @@ use Rattle.type_layout.specs.declared.schema.Schema.{Schema}
 use Rattle.type_layout.specs.Schemas.{given, nth}
 use Rattle.type_layout.specs.ShapeText.{lines_from}
 use Rattle.psdl_directory.specs.declared.fault.CheckFault.{CheckFault}
-use Rattle.psdl_directory.specs.declared.fault.CheckKind.TheVariants.{Limit}
+use Rattle.psdl_directory.specs.declared.fault.CheckKind.TheVariants.{Limit, NoMemory}
 use Rattle.psdl_directory.specs.Declarations.{Declaration}
 use Rattle.psdl_directory.specs.Lookup.{at}
 use Rattle.psdl_lineage.specs.Descent.{concrete_homes}
@@ -35,3 +35,7 @@ all_faults all = or_else (faults all) (long_shape all)
 -- the fault that is given
 abbrev pub first_fault : List Declaration → Option CheckFault
 first_fault all = least (all_faults all)
+
+-- want of memory, which is told at the first byte of a text
+abbrev pub no_memory : CheckFault
+no_memory = fault NoMemory (record { line = 1; column = 1; offset = 0 })

@@ -16,6 +16,7 @@ pub mod LineLengths
 pub mod Lists
 pub mod Masks
 pub mod MemberLines
+pub mod Modules
 pub mod NextHomes
 pub mod NumbersIn
 pub mod Referring

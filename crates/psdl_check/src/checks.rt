@@ -5,12 +5,11 @@ ghost use Rattle.psdl_directory.specs.Declarations.{all_declarations};
 ghost use Rattle.psdl_directory.specs.Directories.{all_of};
 ghost use Rattle.psdl_directory.specs.Fault.{least};
 ghost use Rattle.psdl_directory.specs.Headers as of;
-ghost use Rattle.psdl_directory.specs.declared.fault.CheckKind.TheVariants as kinds;
 ghost use Rattle.psdl_lineage.specs.Lineages.{text_of};
 ghost use Rattle.psdl_rules.specs.Faults.{faults};
 ghost use Rattle.psdl_standings.specs.Texts as told;
 ghost use Rattle.psdl_standings.specs.Turns.{AreInTurn};
-ghost use Rattle.psdl_check.specs.Faults.{first_fault};
+ghost use Rattle.psdl_check.specs.Faults.{first_fault, no_memory};
 ghost use Rattle.psdl_check.specs.Schemas as schemas;
 ghost use Rattle.psdl_check.specs.inner.Verdicts.{IsVerdict};
 
@@ -92,10 +91,10 @@ fn judge(alloc: Global, tree: &Tree) -> Result<Verdict, NoMemory>
 }
 
 /// The schema of a text in which nothing is wrong, or the least of its faults, by place and then by kind. Want of memory
-/// is told with the place 1:1.
+/// is told at the first byte, 1:1.
 pub fn check(alloc: Global, tree: &Tree) -> Result<Schema, CheckFault>
     ensures schema { IfOk result (λ s. (first_fault (all_declarations (tree_view tree.now)) ≡ None) × (s ≡ schemas.schema (all_declarations (tree_view tree.now)))) }
-    ensures fault { IfErr result (λ f. (f.kind ≡ kinds.NoMemory) ⊎ (first_fault (all_declarations (tree_view tree.now)) ≡ Some f)) }
+    ensures fault { IfErr result (λ f. (f ≡ no_memory) ⊎ (first_fault (all_declarations (tree_view tree.now)) ≡ Some f)) }
 {
     match judge(alloc, tree) {
         Ok(Verdict::Sound(schema)) => Ok(schema),

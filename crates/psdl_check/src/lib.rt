@@ -15,6 +15,7 @@ mod layout_members;
 mod layouts;
 mod line_lengths;
 mod members;
+mod modules;
 mod numbering;
 mod provided_homes;
 mod referents;

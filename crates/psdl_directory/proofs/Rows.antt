@@ -75,3 +75,10 @@ all_named paths rows at found total is end so_far =
     let zero : at ≡ 0 = omega arith in
     let none : path_at paths at ≡ [] = ap (λ (n : ℕ). path_at paths n) zero ∙ ap (λ (ps : List Path). path_at ps 0) (sym is) ∙ path-zero rows in
     sym (append-nil found) ∙ ap (λ (p : Path). found ++ p) (sym none) ∙ so_far
+
+-- each module's path by that of the scope round it
+pub module-is : (rows : List Row) (n : ℕ) (d : Row) → HasParents rows → n < length rows → path_at (paths_of rows) (n + 1) ≡ (get_or rows n d).name.now ∷ path_at (paths_of rows) ((get_or rows n d).parent)
+module-is rows n d fits lt =
+    let e : n + 1 - 1 ≡ n = omega arith in
+    let is = path-is rows (n + 1) d fits (omega arith) (omega arith) in
+    rw e at is

@@ -6,7 +6,7 @@ ghost use Rattle.psdl_directory.specs.inner.Named.{AreNamed};
 use crate::declaration::{Declaration, What};
 use crate::flat::{Flat, flatten};
 use crate::kind::kind_of;
-use crate::number::{DeclarationNo, SpellingNo};
+use crate::number::{DeclarationNo, ModuleNo, SpellingNo};
 use crate::scoped::Scoped;
 use crate::scopes::Scopes;
 use crate::spelling::Spelling;
@@ -16,6 +16,13 @@ use psdl_tree::{Name, NamePart, Tree};
 use pss_base::{NoMemory, Place};
 use std::alloc::Global;
 use std::collections::BTreeMap;
+
+/// A module: the one round it, where there is one, and its own name.
+#[derive(Clone, Copy)]
+pub struct Module<'a> {
+    pub outer: Option<ModuleNo>,
+    pub name: &'a [u8],
+}
 
 /// All declarations in the order of the text.
 #[derive(Drop)]
@@ -37,10 +44,10 @@ fn below(number: Option<DeclarationNo>, limit: usize) -> Option<DeclarationNo>
 }
 
 impl<'a> Directory<'a> {
-    ghost use Rattle.std.specs.Prelude.{◌≡◌, ◌<◌, ◌+◌, ℕ, List, Some, None, length, map, IfOk, IfSome, IfNone};
+    ghost use Rattle.std.specs.Prelude.{◌≡◌, ◌<◌, ◌+◌, ◌∷◌, ℕ, List, Some, None, length, map, IfOk, IfSome, IfNone};
     ghost use Rattle.psdl_tree.specs.Views.{name_view, tree_view};
     ghost use Rattle.psdl_directory.specs.Declarations.{all_declarations};
-    ghost use Rattle.psdl_directory.specs.Directories.{all_of};
+    ghost use Rattle.psdl_directory.specs.Directories.{all_of, paths_of, path_of};
     ghost use Rattle.psdl_directory.specs.Lookup.{lower, at, first_of, outwards, first_inside, inwards, beginning, meaning, definition, first, origin};
     ghost use Rattle.psdl_directory.specs.Spelled.{number_of, spelled_by};
     ghost use Rattle.psdl_directory.specs.inner.Flattened.{all_in};
@@ -136,6 +143,34 @@ impl<'a> Directory<'a> {
         ensures { IfOk result (λ names. map (λ n. n.now) names.items ≡ (at (all_of self.now) number).path) }
     {
         self.scopes.names(alloc, self.scope(number))
+    }
+
+    /// How many modules there are.
+    pub fn module_count(&self) -> usize
+        ensures { result + 1 ≡ length (paths_of self.now) }
+    {
+        self.scopes.modules()
+    }
+
+    /// A module. The one round it has a lower number.
+    pub fn module(&self, number: ModuleNo) -> Module<'a>
+        requires { number + 1 < length (paths_of self.now) }
+        ensures path { path_of self.now (Some number) ≡ result.name.now ∷ path_of self.now result.outer }
+        ensures before { IfSome result.outer (λ outer. outer < number) }
+    {
+        let row = self.scopes.row_of(number);
+        Module {
+            outer: self.scopes.module_in(row.parent),
+            name: row.name,
+        }
+    }
+
+    /// The module that a declaration stands in, where it stands in one.
+    pub fn module_of(&self, number: DeclarationNo) -> Option<ModuleNo>
+        ensures there { IfSome result (λ number. number + 1 < length (paths_of self.now)) }
+        ensures path { path_of self.now result ≡ (at (all_of self.now) number).path }
+    {
+        self.scopes.module_in(self.scope(number))
     }
 
     fn table(&self, spelling: Spelling) -> &BTreeMap<Scoped, DeclarationNo>

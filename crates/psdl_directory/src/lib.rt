@@ -19,12 +19,12 @@ mod tables;
 mod uses;
 
 pub use declaration::{Declaration, What};
-pub use directory::Directory;
+pub use directory::{Directory, Module};
 pub use fault::{CheckFault, CheckKind};
 pub use headers::{Header, headers_of};
 pub use kind::{is_forward, same_kind};
 pub use least::{Least, late_fault_changes_nothing, noting_goes_by_parts, noting_leaves_least};
-pub use number::{DeclarationNo, SpellingNo};
+pub use number::{DeclarationNo, ModuleNo, SpellingNo};
 pub use spelling::Spelling;
 pub use spellings::Spellings;
 pub use uses::{Use, name_place, resolve};

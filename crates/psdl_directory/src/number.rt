@@ -66,3 +66,35 @@ impl SpellingNo {
         self.index
     }
 }
+
+/// The number of a module, from 0. A module that is opened again is one module.
+#[derive(Clone, Copy, PartialEq, Eq, PartialOrd, Ord)]
+pub struct ModuleNo {
+    index: usize,
+}
+
+impl Model for ModuleNo {
+    ghost use Rattle.std.specs.Prelude.{ℕ};
+
+    ghost Value = { ℕ };
+
+    ghost view = { λ n. n.index };
+
+    ghost inverse = { λ n. record { index = n } };
+}
+
+impl ModuleNo {
+    /// The number of the module at an index.
+    pub fn new(index: usize) -> ModuleNo
+        ensures { result ≡ index }
+    {
+        ModuleNo { index }
+    }
+
+    /// The index of the module.
+    pub fn index(self) -> usize
+        ensures { result ≡ self }
+    {
+        self.index
+    }
+}

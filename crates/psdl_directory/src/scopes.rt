@@ -1,7 +1,8 @@
 // The text and its modules, by number.
-ghost use Rattle.std.specs.Prelude.{◌≡◌, ◌<◌, ◌∷◌, [], length, map, IfSome, IfOk, option_map};
-ghost use Rattle.psdl_directory.specs.inner.Scopes.{outer, path_at, Grows, AreDistinct};
+ghost use Rattle.std.specs.Prelude.{◌≡◌, ◌<◌, ◌+◌, ◌∷◌, [], length, map, Some, IfSome, IfOk, option_map};
+ghost use Rattle.psdl_directory.specs.inner.Scopes.{outer, path_at, path_in, Grows, AreDistinct};
 
+use crate::number::ModuleNo;
 use pss_base::NoMemory;
 use std::alloc::Global;
 use std::collections::BTreeMap;
@@ -17,8 +18,8 @@ pub(crate) struct ModuleName<'a> {
 /// A module: the scope that it stands in, and its name.
 #[derive(Clone, Copy)]
 pub(crate) struct Row<'a> {
-    parent: usize,
-    name: &'a [u8],
+    pub parent: usize,
+    pub name: &'a [u8],
 }
 
 /// The scopes of a text. The whole text is the scope 0. A module that is opened again is one scope.
@@ -67,6 +68,26 @@ impl<'a> Scopes<'a> {
         self.rows.len() + 1
     }
 
+    /// How many modules there are: the scopes but for that of the text.
+    pub(crate) fn modules(&self) -> usize
+        ensures { result + 1 ≡ length self.now }
+    {
+        self.rows.len()
+    }
+
+    /// The module whose scope this is. None: it is the scope of the text.
+    pub(crate) fn module_in(&self, scope: usize) -> Option<ModuleNo>
+        requires { scope < length self.now }
+        ensures path { path_in self.now result ≡ path_at self.now scope }
+        ensures there { IfSome result (λ number. number + 1 ≡ scope) }
+    {
+        let _rows = &self.rows;
+        if scope == 0 {
+            return None;
+        }
+        Some(ModuleNo::new(scope - 1))
+    }
+
     /// The scope round this one.
     pub(crate) fn outer(&self, scope: usize) -> Option<usize>
         requires { scope < length self.now }
@@ -78,6 +99,15 @@ impl<'a> Scopes<'a> {
             return None;
         }
         Some(rows[scope - 1].parent)
+    }
+
+    /// The scope round a module, and the name that it has there.
+    pub(crate) fn row_of(&self, number: ModuleNo) -> Row<'a>
+        requires { number + 1 < length self.now }
+        ensures path { path_in self.now (Some number) ≡ result.name.now ∷ path_at self.now result.parent }
+        ensures lower { result.parent < number + 1 }
+    {
+        self.rows[number.index()]
     }
 
     // The scope round this one, and the name that this one has in it.

@@ -9,7 +9,7 @@ use Rattle.std.proofs.lemmas.Slice.Eq.{bytes_eq-Decides}
 use Rattle.psdl_tree.specs.declared.names.Identifier.{Identifier}
 use Rattle.psdl_tree.specs.Trees.{Definitions, Provision}
 use Rattle.type_layout.specs.declared.schema.Home.{Home}
-use Rattle.type_layout.specs.declared.schema.Provided.{Provided}
+use Rattle.type_layout.specs.Scopes.{Provided}
 use Rattle.type_layout.specs.Schemas.{nth, home_at}
 use Rattle.type_layout.specs.Sound.{same_provided, are_distinct, is_name}
 use Rattle.psdl_directory.specs.declared.fault.CheckKind.TheVariants.{Redefined}

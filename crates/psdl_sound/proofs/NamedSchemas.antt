@@ -5,7 +5,7 @@ use Rattle.std.specs.List.{slice_get, list_all, flat_map, enumerate_from}
 use Rattle.std.proofs.lemmas.Bool.{and_parts, and_from}
 use Rattle.psdl_tree.specs.Trees.{Definitions}
 use Rattle.type_layout.specs.declared.schema.Factory.{Factory}
-use Rattle.type_layout.specs.declared.schema.Provided.{Provided}
+use Rattle.type_layout.specs.Scopes.{Provided}
 use Rattle.type_layout.specs.Names.{scoped as behind_scopes, IsScopedName, IsNamedSchema}
 use Rattle.type_layout.specs.Sound.{is_name}
 use Rattle.type_layout.specs.Types.{PlainMember}

@@ -4,7 +4,7 @@ use Rattle.std.specs.List.{slice_get, list_all}
 use Rattle.std.specs.Str.{bytes_eq}
 use Rattle.psdl_tree.specs.Trees.{Definitions}
 use Rattle.type_layout.specs.declared.schema.Factory.{Factory}
-use Rattle.type_layout.specs.declared.schema.Provided.{Provided}
+use Rattle.type_layout.specs.Scopes.{Provided}
 use Rattle.type_layout.specs.declared.schema.Schema.{Schema}
 use Rattle.type_layout.specs.Schemas.{home_at, members_at, descends, has_key}
 use Rattle.type_layout.specs.Sound.{EachHome, EachKey, AreMembers, key_name, same_provided, are_distinct}

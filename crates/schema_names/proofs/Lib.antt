@@ -2,3 +2,5 @@ pub mod Entering
 pub mod Finding
 pub mod Placing
 pub mod Rooted
+pub mod Hashing
+pub mod Leading

@@ -1,17 +1,14 @@
 -- The names of a home by its number.
-use Rattle.std.proofs.Common.{ℕ, zero, suc, ◌≡◌, List, [], ◌∷◌, ◌++◌, Bool, length, find, position, slice_get, Option, Some, None, refl, sym, ◌∙◌, ap, subst, arith, ◌+◌, ◌-◌, ◌≤◌, IsSomeAnd, MatchOption, true, false, cond, nat_lt, ltb-false, ltb-true, get_or, is_some, IfSome}
-use Rattle.std.specs.Option.{option_map, option_and_then}
-use Rattle.std.specs.List.{position_or_len}
-use Rattle.std.proofs.lemmas.List.Folds.{find_at}
+use Rattle.std.proofs.Common.{ℕ, zero, suc, ◌≡◌, List, [], ◌∷◌, ◌++◌, length, find, position, slice_get, Option, Some, None, refl, sym, ◌∙◌, ap, subst, arith, ◌+◌, ◌-◌, IsSomeAnd, MatchOption, false, nat_lt, ltb-false, ltb-true, get_or, is_some, IfSome}
+use Rattle.std.specs.Option.{option_map}
 use Rattle.std.proofs.lemmas.Option.{slice_get_past, slice_get-get_or}
 use Rattle.std.specs.Str.{bytes_eq}
 use Rattle.type_layout.specs.declared.home.HomeNo.{HomeNo}
 use Rattle.type_layout.specs.declared.key.Key.{Key}
-use Rattle.type_layout.specs.declared.schema.Factory.{Factory}
 use Rattle.type_layout.specs.declared.schema.Home.{Home}
 use Rattle.type_layout.specs.declared.schema.Schema.{Schema}
 use Rattle.type_layout.specs.Schemas.{given, nth, home_at}
-use Rattle.pss_machine.specs.Names.{key_named, factory_named, member_named}
+use Rattle.pss_machine.specs.Names.{key_named, member_named}
 use Rattle.schema_names.specs.Tables.{value_at}
 use Rattle.schema_names.specs.declared.named.HomeNames.{HomeNames}
 use Rattle.schema_names.specs.inner.Homes.{AreNamesOf, AreNamesOfAll, AreNamesAt}

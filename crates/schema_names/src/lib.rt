@@ -3,6 +3,7 @@
 
 mod members;
 mod named;
+mod provided;
 mod roots;
 mod table;
 

@@ -4,15 +4,21 @@ ghost use Rattle.std.specs.Option.{option_map};
 ghost use Rattle.type_layout.specs.Schemas.{home_at as home_in};
 ghost use Rattle.type_layout.specs.Sound.{IsSoundSchema};
 ghost use Rattle.pss_machine.specs.Names.{is_name_of, home_named, key_named, factory_named, member_named};
-ghost use Rattle.schema_names.specs.inner.Homes.{AreNamesOf, AreNamesOfAll, AreNamesAt, lesser};
+ghost use Rattle.schema_names.specs.inner.Homes.{AreNamesOf, AreNamesOfAll, AreNamesAt, MayFind, lesser};
+ghost use Rattle.schema_names.specs.Found.{home_provided};
+ghost use Rattle.schema_names.specs.inner.Hashed.{is_called};
 
 use crate::members::{keys_by_name, members_by_name};
-use crate::roots::{homes_by_name, provided_by_name};
+use crate::provided::{ProvidedPlaces, first_called, place_of, places_of};
+use crate::roots::homes_by_name;
 use crate::table::{NameTable, read};
 use pss_base::NoMemory;
 use std::alloc::Global;
 use std::marker::Model;
-use type_layout::{Home, HomeNo, Indexes, Key, KeyNo, Schema, home_at};
+use type_layout::{Home, HomeNo, Indexes, Key, KeyNo, ProvidedList, Schema, home_at};
+
+// So many provisions are compared with a word one by one.
+const FEW: usize = 4;
 
 // The names of what one home has.
 #[derive(Drop)]
@@ -26,7 +32,8 @@ struct HomeNames {
 pub struct NamedSchema {
     schema: Schema,
     homes: NameTable<HomeNo>,
-    provided: NameTable<HomeNo>,
+    // None where the provisions are few.
+    provided: Option<ProvidedPlaces>,
     // For each home, from number 1.
     of_homes: Vec<HomeNames>,
 }
@@ -43,7 +50,7 @@ impl Model for NamedSchema {
 
     ghost view = { λ n. n.schema };
 
-    ghost invariant = { λ n. HasTables n.schema n.homes.entries n.provided.entries n.of_homes.items };
+    ghost invariant = { λ n. HasTables n.schema n.homes.entries n.provided n.of_homes.items };
 }
 
 // The names of what a home has.
@@ -70,6 +77,16 @@ fn names_of_all(alloc: Global, schema: &Schema) -> Result<Vec<HomeNames>, NoMemo
     Ok(all)
 }
 
+// A table of the provisions, but for few.
+fn places_of_many(alloc: Global, list: &ProvidedList) -> Result<Option<ProvidedPlaces>, NoMemory>
+    ensures { IfOk result (λ places. MayFind list.now places) }
+{
+    if list.parts().provisions.len() <= FEW {
+        return Ok(None);
+    }
+    Ok(Some(places_of(alloc, list)?))
+}
+
 impl NamedSchema {
     /// The schema, with tables of its names. They take memory in the lengths of the names, those of members and keys that a
     /// home has from others once for each home. Factories are found by the tables that they bring.
@@ -80,7 +97,7 @@ impl NamedSchema {
         ensures { IfOk result (λ named. named ≡ schema) }
     {
         let homes = homes_by_name(alloc, schema.homes.as_slice())?;
-        let provided = provided_by_name(alloc, schema.provided.as_slice())?;
+        let provided = places_of_many(alloc, &schema.provided)?;
         let of_homes = names_of_all(alloc, &schema)?;
         Ok(NamedSchema {
             schema,
@@ -104,7 +121,28 @@ impl NamedSchema {
     {
         match self.home_called(word) {
             Some(home) => Some(home),
-            None => read(&self.provided, word),
+            None => self.home_provided(word),
+        }
+    }
+
+    // The place of the first provision that the word names.
+    fn provision(&self, word: &[u8]) -> Option<usize>
+        ensures { result ≡ position (is_called word.now) self.now.provided }
+    {
+        let list = &self.schema.provided;
+        match &self.provided {
+            Some(places) => place_of(places, list, word),
+            None => first_called(list, word),
+        }
+    }
+
+    // The home that a catalog provides under a word.
+    fn home_provided(&self, word: &[u8]) -> Option<HomeNo>
+        ensures { result ≡ home_provided self.now.provided word.now }
+    {
+        match self.provision(word) {
+            Some(place) => self.schema.provided.home(place),
+            None => None,
         }
     }
 

@@ -18,3 +18,6 @@ pub mod Apart
 pub mod KeysTell
 pub mod Records
 pub mod Sounding
+pub mod Scoping
+pub mod Ending
+pub mod Provisions

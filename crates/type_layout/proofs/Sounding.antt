@@ -8,7 +8,7 @@ use Rattle.type_layout.specs.declared.key.KeyNo.{KeyNo}
 use Rattle.type_layout.specs.declared.key.Key.{Key}
 use Rattle.type_layout.specs.declared.schema.Factory.{Factory}
 use Rattle.type_layout.specs.declared.schema.Home.{Home}
-use Rattle.type_layout.specs.declared.schema.Provided.{Provided}
+use Rattle.type_layout.specs.Scopes.{Provided}
 use Rattle.type_layout.specs.Types.{PlainMember}
 use Rattle.type_layout.specs.Schemas.{nth, home_at}
 use Rattle.type_layout.specs.Sound.{EachMember, EachHome, EachKey, AreMembers, IsSoundSchema, IsKeyMember}

@@ -11,6 +11,7 @@ pub mod Keys
 pub mod ShapeText
 pub mod NamePlaces
 pub mod Factories
+pub mod Scopes
 pub mod Sound
 pub mod Names
 pub mod Testing

@@ -2,7 +2,7 @@
 use Rattle.std.specs.Prelude.{ℕ, ◌≡◌, List, ◌∷◌, ◌++◌, Some, codes, IsTrue}
 use Rattle.std.specs.List.{slice_get, flat_map, list_all}
 use Rattle.type_layout.specs.declared.schema.Factory.{Factory}
-use Rattle.type_layout.specs.declared.schema.Provided.{Provided}
+use Rattle.type_layout.specs.Scopes.{Provided}
 use Rattle.type_layout.specs.declared.schema.Schema.{Schema}
 use Rattle.type_layout.specs.Types.{PlainType, Seq, Arr, Struct, Enum, PlainFields, no_fields, field_and}
 use Rattle.type_layout.specs.Sound.{is_name, EachMember, EachHome, EachKey}

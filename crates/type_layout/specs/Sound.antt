@@ -7,7 +7,7 @@ use Rattle.type_layout.specs.declared.key.KeyNo.{KeyNo}
 use Rattle.type_layout.specs.declared.key.Key.{Key}
 use Rattle.type_layout.specs.declared.schema.Factory.{Factory}
 use Rattle.type_layout.specs.declared.schema.Home.{Home}
-use Rattle.type_layout.specs.declared.schema.Provided.{Provided}
+use Rattle.type_layout.specs.Scopes.{Provided}
 use Rattle.type_layout.specs.declared.schema.Schema.{Schema}
 use Rattle.type_layout.specs.Types.{PlainType, Seq, Arr, Struct, Enum, RefTo, PlainFields, no_fields, field_and, PlainMember}
 use Rattle.type_layout.specs.Defaults.{default_record}

@@ -1,7 +1,7 @@
 // What a text of types and homes stands for.
 ghost use Rattle.std.specs.Prelude.{◌≡◌, ◌++◌, ◌∷◌, [], OnOk, OnErr};
 
-use crate::{Factories, HomeNo, Indexes, KeyList, KeyNos, Layout};
+use crate::{Factories, HomeNo, Indexes, KeyList, KeyNos, Layout, ProvidedList};
 use pss_base::{Bytes, NoMemory};
 use std::alloc::Global;
 use std::marker::Model;
@@ -68,55 +68,6 @@ impl HomeList {
         ensures { result.now ≡ self.now }
     {
         &self.homes
-    }
-}
-
-/// A storage home that a catalog provides under a name.
-#[derive(Drop)]
-pub struct Provided {
-    pub catalog: Bytes,
-    pub name: Bytes,
-    pub home: HomeNo,
-}
-
-/// What the catalogs of a schema provide.
-#[derive(Drop)]
-pub struct ProvidedList {
-    provided: Vec<Provided>,
-}
-
-impl Model for ProvidedList {
-    ghost use Rattle.std.specs.Prelude.{List};
-    ghost use Rattle.type_layout.specs.declared.schema.Provided.{Provided};
-
-    ghost Value = { List Provided };
-
-    ghost view = { λ l. l.provided.items };
-}
-
-impl ProvidedList {
-    /// None. It takes no memory.
-    pub fn new(alloc: Global) -> ProvidedList
-        ensures { result ≡ [] }
-    {
-        ProvidedList {
-            provided: Vec::new(alloc),
-        }
-    }
-
-    /// Puts one last. `NoMemory`: the list is as before.
-    pub fn push(&mut self, provided: Provided) -> Result<(), NoMemory>
-        ensures ok { OnOk result (self.new ≡ self.old ++ provided ∷ []) }
-        ensures err { OnErr result (self.new ≡ self.old) }
-    {
-        self.provided.push(provided)?;
-        Ok(())
-    }
-
-    pub fn as_slice(&self) -> &[Provided]
-        ensures { result.now ≡ self.now }
-    {
-        &self.provided
     }
 }
 

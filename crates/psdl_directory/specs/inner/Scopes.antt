@@ -1,5 +1,5 @@
 -- The scopes that rows stand for.
-use Rattle.std.specs.Prelude.{◌≡◌, ℕ, ◌<◌, ◌≤◌, List, [], ◌∷◌, ◌++◌, length, Option, Some, None, Bool}
+use Rattle.std.specs.Prelude.{◌≡◌, ℕ, ◌+◌, ◌<◌, ◌≤◌, List, [], ◌∷◌, ◌++◌, length, Option, Some, None, Bool}
 use Rattle.std.specs.BTreeMap.{BTreeMap, get}
 use Rattle.std.specs.Cmp.Lexicographic.{slice_cmp}
 use Rattle.std.specs.Ordering.{is_eq, nat_cmp, ordering_then}
@@ -13,6 +13,11 @@ use Rattle.psdl_directory.specs.Declarations.{Path}
 
 abbrev pub path_at : List Path → ℕ → Path
 path_at paths n = get_or paths n []
+
+-- the path of a module, whose scope comes behind that of the text; without a module that of the text
+abbrev pub path_in : List Path → Option ℕ → Path
+path_in paths None = []
+path_in paths (Some n) = path_at paths (n + 1)
 
 abbrev pub outer : Path → Option Path
 outer [] = None

@@ -1,5 +1,5 @@
 -- The tables of a schema's names.
-use Rattle.std.specs.Prelude.{ℕ, List, [], ◌∷◌, Option, Some, None, IsSomeAnd, min}
+use Rattle.std.specs.Prelude.{ℕ, List, [], ◌∷◌, Option, Some, None, IfSome, IsSomeAnd, length, min}
 use Rattle.std.specs.declared.vec.Vec.{Vec}
 use Rattle.type_layout.specs.declared.home.HomeNo.{HomeNo}
 use Rattle.type_layout.specs.declared.key.Key.{Key}
@@ -7,7 +7,10 @@ use Rattle.type_layout.specs.declared.schema.Home.{Home}
 use Rattle.type_layout.specs.declared.schema.Schema.{Schema}
 use Rattle.type_layout.specs.Schemas.{home_at}
 use Rattle.schema_names.specs.Tables.{Finds}
-use Rattle.schema_names.specs.Found.{home_called, home_provided, member_called, key_called}
+use Rattle.schema_names.specs.Found.{home_called, member_called, key_called}
+use Rattle.schema_names.specs.inner.Hashed.{AreFound}
+use Rattle.schema_names.specs.declared.provided.ProvidedPlaces.{ProvidedPlaces}
+use Rattle.type_layout.specs.Scopes.{Provided}
 use Rattle.schema_names.specs.declared.named.HomeNames.{HomeNames}
 
 -- the tables of one home
@@ -25,10 +28,14 @@ AreNamesOfAll keys _ _ = ⊥
 abbrev pub AreNamesAt : Schema → HomeNo → HomeNames → Type 0
 AreNamesAt S h names = IsSomeAnd (home_at S h) (λ home. AreNamesOf S.keys home names)
 
+-- a table, if there is one, has the places of all that is provided
+abbrev pub MayFind : List Provided → Option ProvidedPlaces → Type 0
+MayFind list places = IfSome places (λ places. AreFound (length list) list places.firsts.entries places.others.items)
+
 -- all tables of a schema
-pub record HasTables {Y Z : Type 0} (S : Schema) (homes : List (Vec ℕ Y × HomeNo)) (provided : List (Vec ℕ Z × HomeNo)) (of_homes : List HomeNames) : Type 0 where
+pub record HasTables {Y : Type 0} (S : Schema) (homes : List (Vec ℕ Y × HomeNo)) (provided : Option ProvidedPlaces) (of_homes : List HomeNames) : Type 0 where
   pub homes_ : Finds homes (home_called S.homes)
-  pub provided_ : Finds provided (home_provided S.provided)
+  pub provided_ : MayFind S.provided provided
   pub each : AreNamesOfAll S.keys S.homes of_homes
 
 -- the lesser of two homes, or the one that there is

@@ -12,7 +12,7 @@ use Rattle.cdr_codec.specs.Primitives.{One, Two, Four, Eight, Primitive, Pad, Pl
 use Rattle.cdr_codec.specs.Reading.{Reader, judged_at, value_at}
 use Rattle.cdr_codec.specs.Steps.{is_step, steps_of, begun}
 use Rattle.cdr_codec.specs.Taken.{Counter, then_takes, pid_takes, times_take, items_take, value_takes, fields_take}
-use Rattle.cdr_codec.proofs.Laws.{size-append, joined-append, behind, IsReader}
+use Rattle.cdr_codec.proofs.Readers.{size-append, joined-append, behind, IsReader}
 use Rattle.cdr_codec.proofs.Ones.{MayBe}
 use Rattle.cdr_codec.proofs.Types.{judged_law, value_law, may_lead, may_measure}
 

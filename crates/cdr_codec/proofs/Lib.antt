@@ -1,7 +1,7 @@
 pub mod Sizes
 pub mod Octets
 pub mod Loop
-pub mod Laws
+pub mod Readers
 pub mod Ones
 pub mod Texts
 pub mod Types

@@ -26,7 +26,8 @@ use Rattle.cdr_codec.specs.Reading.{◌>>=◌, judged_at, text_at, value_at, fie
 use Rattle.cdr_codec.specs.Widths.{octets_in, number_width}
 use Rattle.cdr_codec.specs.Places.{IsFound, end_of, count_at, places_of, part_of, part_read, AreRead, indexes_at}
 use Rattle.cdr_codec.specs.Spelled.{SpellsRecord, SpellsRecordWith}
-use Rattle.cdr_codec.proofs.Laws.{AreOctets, done, ok_is, bind_ok}
+use Rattle.cdr_codec.specs.Laws.{AreOctets}
+use Rattle.cdr_codec.proofs.Readers.{done, ok_is, bind_ok}
 use Rattle.cdr_codec.proofs.Standing.{stands_in}
 use Rattle.cdr_codec.proofs.Types.{value_law}
 use Rattle.cdr_codec.proofs.Records.{sound_fields, joined-pieces, members_again}

@@ -16,7 +16,7 @@ use Rattle.cdr_codec.specs.declared.fault.Stop.{Stop}
 use Rattle.cdr_codec.specs.declared.fault.Stop.TheVariants as errors
 use Rattle.cdr_codec.specs.Taken.{IsFault, value_takes}
 use Rattle.cdr_codec.specs.Widths.{octets_in, number_width, FitsNumber, number_value}
-use Rattle.cdr_codec.proofs.Laws.{done}
+use Rattle.cdr_codec.proofs.Readers.{done}
 use Rattle.cdr_codec.proofs.Octets.{first_octet}
 
 -- a number that is found, as the type's value

@@ -9,7 +9,8 @@ use Rattle.cdr_codec.specs.declared.fault.RecordFault.TheVariants as fault
 use Rattle.cdr_codec.specs.Primitives.{Primitive, Letters, width_of, refuses, fault_at, given, judged, refusal, Piece, joined, size_of}
 use Rattle.cdr_codec.specs.Reading.{Reader, plain_at, one_at}
 use Rattle.cdr_codec.proofs.Octets.{IsNumber, turned_back}
-use Rattle.cdr_codec.proofs.Laws.{AreOctets, done, failed, Takes, IsReader}
+use Rattle.cdr_codec.specs.Laws.{AreOctets}
+use Rattle.cdr_codec.proofs.Readers.{done, failed, Takes, IsReader}
 
 given_ok : {A : Type 0} (o : Option RecordFault) (r : A) (y : A) → given {B = Result A RecordFault} o (Ok r) Err ≡ Ok y → (o ≡ None) × (r ≡ y)
 given_ok None r y e = (refl, cc)

@@ -13,7 +13,9 @@ use Rattle.cdr_codec.specs.declared.fault.RecordFault.{RecordFault}
 use Rattle.cdr_codec.specs.declared.fault.RecordFault.TheVariants.{Rest, NoMemory}
 use Rattle.cdr_codec.specs.Primitives.{One, Two, Four, Eight, Primitive, Flag, Plain, Logical, Enumerator, TextLength, ItemCount, Home, Serial, width_of, Piece, joined, size_of, followed, pads, aligned, letters, each_piece, pieces, field_pieces, judged, refusal, IsRefusedAmong, Agree, HasRest, IsRefused}
 use Rattle.cdr_codec.specs.Reading.{◌>>=◌, judged_at, fields_at, members_at, record_at, Answers}
-use Rattle.cdr_codec.proofs.Laws.{AreOctets, done, failed, bind_id, ok_is, bind_ok, bind_err, joined-append, IsReader, both_law}
+use Rattle.cdr_codec.specs.Spelled.{SpellsRecord}
+use Rattle.cdr_codec.specs.Laws.{AreOctets, HasOneRefusal, HasNoRecord, HasRecordOrRefusal}
+use Rattle.cdr_codec.proofs.Readers.{done, failed, bind_id, ok_is, bind_ok, bind_err, joined-append, IsReader, both_law}
 use Rattle.cdr_codec.proofs.Ones.{MayBe}
 use Rattle.cdr_codec.proofs.Types.{judged_law, bind_same, no_pad, FieldsAre, fields_law}
 
@@ -207,3 +209,18 @@ pub refused_always : (members : List PlainMember) → IsSoundLayout members → 
 refused_always members sound bytes (Ok vs) f e r = (let again = refused_again members sound bytes f r in let no : done vs ≡ Err f = sym e ∙ again in cc)
 refused_always members sound bytes (Err g) f (inl memory) r = inr memory
 refused_always members sound bytes (Err g) f (inr e) r = (let again = refused_again members sound bytes f r in inl (let same : failed {A = List PlainValue} g ≡ Err f = sym e ∙ again in cc))
+
+-- ---- one thing
+
+pub one_refusal : HasOneRefusal
+one_refusal members bytes f g sound p q = (let same : failed {A = List PlainValue} f ≡ Err g = sym (refused_again members sound bytes f p) ∙ refused_again members sound bytes g q in cc)
+
+pub no_record : HasNoRecord
+no_record members bytes f sound refused spelled = (let no : done spelled.values ≡ Err f = sym (record_again members sound bytes spelled.values (spelled.is_record, spelled.spelled)) ∙ refused_again members sound bytes f refused in cc)
+
+pub record_or_refusal : HasRecordOrRefusal
+record_or_refusal members bytes sound o = by_reading (record_at members bytes) refl
+  where
+    by_reading : (read : Result (List PlainValue) RecordFault) → record_at members bytes ≡ read → SpellsRecord members bytes ⊎ ((f : RecordFault) × IsRefused members bytes f)
+    by_reading (Ok vs) e = (let found = record_found members sound bytes vs o e in inl (record { values = vs; is_record = found.0; spelled = found.1 }))
+    by_reading (Err f) e = inr (f, record_refused members sound bytes f o e)

@@ -23,7 +23,7 @@ use Rattle.cdr_codec.specs.Primitives.{One, Two, Four, Eight, Primitive, Pad, Pl
 use Rattle.cdr_codec.specs.Reading.{◌>>=◌, Reader, plain_at, one_at, pads_at, found_at, judged_at, seen, letters_at, text_at, times_at, items_at, pid_of, pid_at, value_at, fields_at}
 use Rattle.cdr_codec.specs.Widths.{octets_in, number_width}
 use Rattle.cdr_codec.specs.Places.{IsFound, end_of, behind_numbers, count_at, places_of}
-use Rattle.cdr_codec.proofs.Laws.{done, ok_is, bind_ok}
+use Rattle.cdr_codec.proofs.Readers.{done, ok_is, bind_ok}
 use Rattle.cdr_codec.proofs.Types.{or_false, not_none}
 use Rattle.cdr_codec.proofs.Loop.{fields_drop, members_drop}
 

@@ -12,7 +12,8 @@ use Rattle.cdr_codec.specs.declared.fault.RecordFault.TheVariants as fault
 use Rattle.cdr_codec.specs.Primitives.{Letters, given, judged, refusal, letters}
 use Rattle.cdr_codec.specs.Reading.{plain_at, letters_at}
 use Rattle.cdr_codec.proofs.Octets.{first_octet}
-use Rattle.cdr_codec.proofs.Laws.{AreOctets, done, failed, bind_id, IsReader, seen_law}
+use Rattle.cdr_codec.specs.Laws.{AreOctets}
+use Rattle.cdr_codec.proofs.Readers.{done, failed, bind_id, IsReader, seen_law}
 use Rattle.cdr_codec.proofs.Ones.{piece_law}
 
 -- ---- octets of 0

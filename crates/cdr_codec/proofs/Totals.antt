@@ -12,7 +12,7 @@ use Rattle.cdr_codec.specs.Primitives.{Flag, aligned, field_pieces, record_piece
 use Rattle.cdr_codec.specs.Reading.{judged_at, Answers, record_at}
 use Rattle.cdr_codec.specs.Steps.{steps_of, steps_until}
 use Rattle.cdr_codec.specs.Taken.{fields_take, members_take}
-use Rattle.cdr_codec.proofs.Laws.{AreOctets}
+use Rattle.cdr_codec.specs.Laws.{AreOctets}
 use Rattle.cdr_codec.proofs.Ones.{MayBe}
 use Rattle.cdr_codec.proofs.Types.{judged_law}
 use Rattle.cdr_codec.proofs.Counts.{Counts, both_counts, number_counts, fields_count}

@@ -17,7 +17,7 @@ use Rattle.cdr_codec.specs.declared.fault.Found.{Found}
 use Rattle.cdr_codec.specs.Primitives.{One, Two, Four, Eight, Primitive, Pad, Plain, Logical, Enumerator, TextLength, ItemCount, Home, Serial, width_of, refuses, fault_at, Piece, followed, pads, aligned, letters, home_of, serial_of, each_piece, pieces, field_pieces}
 use Rattle.cdr_codec.specs.Reading.{◌>>=◌, Reader, plain_at, one_at, pads_at, found_at, judged_at, letters_at, text_at, times_at, items_at, pid_of, pid_at, value_at, fields_at}
 use Rattle.cdr_codec.proofs.Octets.{IsNumber}
-use Rattle.cdr_codec.proofs.Laws.{done, bind_id, IsReader, nothing_law, both_law, seen_law}
+use Rattle.cdr_codec.proofs.Readers.{done, bind_id, IsReader, nothing_law, both_law, seen_law}
 use Rattle.cdr_codec.proofs.Ones.{MayBe, one_law}
 use Rattle.cdr_codec.proofs.Texts.{IsText, letters_law}
 

@@ -6,3 +6,4 @@ pub mod Lengths
 pub mod Widths
 pub mod Places
 pub mod Spelled
+pub mod Laws

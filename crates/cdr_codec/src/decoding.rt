@@ -23,13 +23,15 @@ use type_layout::{Layout, Record};
 /// The record of a sound layout that the octets spell, all of them. `found` says that they spell it, and
 /// `only` that octets which spell a record are never refused. The refusals are those of `RecordFault`:
 /// some record of the layout has the octets up to a primitive, none has them through it, and it is
-/// refused with this fault (`refused`); and where that holds, no other answer comes (`always`).
+/// refused with this fault (`refused`); and where that holds, no other answer comes (`always`). Here the
+/// octets of a string and its NUL are one primitive, and `BadNul` has the place of the first wrong one.
+/// Octets have a record or a refusal, one of them (`octets_are_a_record_or_refused`).
 ///
 /// A step is one number, or one string with its length; the padding in front is part of it. A record takes
 /// as many as it has of these (`taken`), and a refusal as many as stand in front of what is refused, and
 /// one for the number that was begun (`until`). There are at most as many as octets, and one more
-/// (`steps`). Memory is taken for what was read, never for a length alone.
-/// The depth of calls is that of the types.
+/// (`steps`). Memory is taken for what was read, and for a length no more than for as many values as octets
+/// are left. The depth of calls is that of the types.
 pub fn decode_record<L: Ledger>(
     alloc: Global,
     layout: &Layout,

@@ -1,12 +1,10 @@
 -- What a reader owes to the pieces that it reads.
-use Rattle.std.proofs.Common.{◌≡◌, ℕ, ◌+◌, ◌<◌, ◌≤◌, List, [], ◌∷◌, ◌++◌, length, get_or, drop, Some, Result, Ok, Err, refl, sym, ap, subst, ◌∙◌, append_assoc, arith, ◌⊎◌, inl, inr, length-append}
+use Rattle.std.proofs.Common.{◌≡◌, ℕ, ◌+◌, ◌≤◌, List, [], ◌∷◌, ◌++◌, length, drop, Some, Result, Ok, Err, refl, sym, ap, subst, ◌∙◌, append_assoc, arith, ◌⊎◌, inl, inr, length-append}
 use Rattle.std.proofs.lemmas.List.{drop_at, drop-drop, length-drop}
 use Rattle.cdr_codec.specs.declared.fault.RecordFault.{RecordFault}
 use Rattle.cdr_codec.specs.Primitives.{Piece, joined, size_of, followed, refusal, IsRefusedAmong}
 use Rattle.cdr_codec.specs.Reading.{◌>>=◌, Reader}
-
-abbrev pub AreOctets : List ℕ → Type 0
-AreOctets bytes = (i : ℕ) → get_or bytes i 0 < 256
+use Rattle.cdr_codec.specs.Laws.{AreOctets}
 
 abbrev pub done : {A : Type 0} → A → Result A RecordFault
 done x = Ok x

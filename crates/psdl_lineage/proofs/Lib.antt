@@ -16,5 +16,6 @@ pub mod Texts
 pub mod Naming
 pub mod Rooted
 pub mod Past
+pub mod Conformance
 pub mod Inherited
 pub mod Supplying

@@ -1,4 +1,5 @@
 pub mod Descent
+pub mod Conformance
 pub mod Graph
 pub mod Lineages
 pub mod Sources

@@ -8,6 +8,7 @@ mod families;
 mod graph;
 mod homes;
 mod joined;
+mod laws;
 mod lineage;
 mod lines;
 mod marks;
@@ -20,6 +21,7 @@ mod walk;
 
 pub use conformity::Conformity;
 pub use graph::Graph;
+pub use laws::conforming_is_descent;
 pub use lineage::Lineage;
 pub use marks::Marks;
 pub use sorts::{is_concrete_home, is_home, is_storage_type, same_sort};

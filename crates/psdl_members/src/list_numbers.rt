@@ -23,7 +23,7 @@ impl ListNumbers {
         }
     }
 
-    /// How many there are. Their numbers are less than that.
+    /// More than each of their numbers.
     pub fn len(&self) -> usize
         ensures { (list : List ℕ) (n : ℕ) → list_number self.now list ≡ Some n → n < result }
     {

@@ -71,7 +71,7 @@ fn add_concrete<'d>(
     Ok(())
 }
 
-/// Adds the keys, or the factories, that a home has in its body.
+/// Adds the keys, or the factories, that a home has in its body. Without memory nothing is said of what was found.
 pub fn add_lists<'d>(
     found: &mut Vec<Listed<'d>>,
     kind: ListKind,

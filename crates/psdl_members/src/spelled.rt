@@ -9,7 +9,7 @@ use psdl_tree::Identifier;
 use pss_base::NoMemory;
 use std::alloc::Global;
 
-/// Adds the number of an identifier's spelling.
+/// Adds the number of an identifier's spelling. Without memory nothing is said of the numbers and the spellings.
 pub fn add_number(
     alloc: Global,
     numbers: &mut Vec<usize>,
@@ -24,7 +24,7 @@ pub fn add_number(
     Ok(())
 }
 
-/// Adds the numbers of the spellings of identifiers, in their order.
+/// Adds the numbers of the spellings of identifiers, in their order. Without memory it is as with one.
 pub fn add_numbers(
     alloc: Global,
     numbers: &mut Vec<usize>,

@@ -193,13 +193,13 @@ module _ (all : List Declaration) (none : first_fault all ≡ None) where
     pub is_type : type_of_home all h ≡ Some home_type
     pub is_layout : layout all (standings all) (referents all) home_type ≡ Some layout_members
 
-  laid_is : (h : ℕ) (laid : IsLaid h) → home_layout all (standings all) h ≡ laid.layout_members
+  pub laid_is : (h : ℕ) (laid : IsLaid h) → home_layout all (standings all) h ≡ laid.layout_members
   laid_is h laid =
       ap (λ (o : Option ℕ). given (option_and_then (layout all (standings all) (referents all)) o) [] (λ ms. ms)) laid.is_type
       ∙ ap (λ (o : Option (List PlainMember)). given o [] (λ ms. ms)) laid.is_layout
 
   -- the layout of a home begins with those of its line
-  line_layout : (h g : ℕ) → IsConcrete all h → Line all h g → (laid : IsLaid h) → (base : IsLaid g) × (more : List PlainMember) × (laid.layout_members ≡ base.layout_members ++ more)
+  pub line_layout : (h g : ℕ) → IsConcrete all h → Line all h g → (laid : IsLaid h) → (base : IsLaid g) × (more : List PlainMember) × (laid.layout_members ≡ base.layout_members ++ more)
   line_layout h g home line laid =
       let other : IsConcrete all g = line_concrete all none h g home line in
       let whole : IsWhole all none h = concrete_whole h home in
@@ -216,10 +216,11 @@ module _ (all : List Declaration) (none : first_fault all ≡ None) where
       let split = both_there (map lm (members all u)) (map lm (flat_map f begins.0)) laid.layout_members (ap all_there (sym parts) ∙ laid.is_layout) in
       (record { home_type = u; layout_members = split.0; is_type = type.1; is_layout = split.2 }, split.1, split.3)
 
-  -- a key's members have one type in its home and in one that has it, and may be keyed
-  pub key_types : (n : ℕ) (i : Introduced) → IsKey all n i → (k h : ℕ) → IsHome all k h → IsLaid h → has_key (home_of all (standings all) h) (record { 0 = n }) ≡ true
-      → (j p : ℕ) → slice_get (indexes (home_layout all (standings all) i.home) i.listed.members) j ≡ Some p → IsKeyMember (members_at (schema all) (home_no all i.home)) (home_layout all (standings all) h) p
-  key_types n i key k h home laid on j p is =
+  -- a key's members are the same in its home and in one that has it, and may be keyed
+  pub key_member : (n : ℕ) (i : Introduced) → IsKey all n i → (k h : ℕ) → IsHome all k h → IsLaid h → has_key (home_of all (standings all) h) (record { 0 = n }) ≡ true
+      → (j p : ℕ) → slice_get (indexes (home_layout all (standings all) i.home) i.listed.members) j ≡ Some p
+      → (m : PlainMember) × (slice_get (members_at (schema all) (home_no all i.home)) p ≡ Some m) × (slice_get (home_layout all (standings all) h) p ≡ Some m) × (may_be_keyed m.type ≡ true)
+  key_member n i key k h home laid on j p is =
       let g : ℕ = i.home in
       let concrete : IsConcrete all h = home_concrete all k h home in
       let line : Line all h g = key_on_line all none n i key h concrete on in
@@ -238,4 +239,9 @@ module _ (all : List Declaration) (none : first_fault all ≡ None) where
       let state = state_at all (members all r.0.home_type) ms (each_there (map (layout_member all (standings all) (referents all)) (members all r.0.home_type)) ms r.0.is_layout) p m there in
       let plain : is_compound all (standings all) state.0 ≡ false =
       listed_plain g r.0.home_type (introducer all none n i key) r.0.is_type i.listed (key_told all g i.listed key.is_listed) word.0 word.1 state.0 state.1 (place.one_name d ∙ state.2.one_name) in
-      (m, m, ap (λ (l : List PlainMember). slice_get l p) whole ∙ there, ap (λ (l : List PlainMember). slice_get l p) further ∙ front_get ms r.1 p m there, refl, not_compound all state.0 m.type state.2.its_type plain)
+      (m, ap (λ (l : List PlainMember). slice_get l p) whole ∙ there, ap (λ (l : List PlainMember). slice_get l p) further ∙ front_get ms r.1 p m there, not_compound all state.0 m.type state.2.its_type plain)
+
+  -- so they have one type
+  pub key_types : (n : ℕ) (i : Introduced) → IsKey all n i → (k h : ℕ) → IsHome all k h → IsLaid h → has_key (home_of all (standings all) h) (record { 0 = n }) ≡ true
+      → (j p : ℕ) → slice_get (indexes (home_layout all (standings all) i.home) i.listed.members) j ≡ Some p → IsKeyMember (members_at (schema all) (home_no all i.home)) (home_layout all (standings all) h) p
+  key_types n i key k h home laid on j p is = let r = key_member n i key k h home laid on j p is in (r.0, r.0, r.1, r.2, refl, r.3)

@@ -43,3 +43,4 @@ mod CompleteStandings
 mod CompleteLayouts
 mod SoundCatalogs
 mod SoundSchemas
+mod BaseLayouts

@@ -3,3 +3,4 @@ pub mod TextLaws
 pub mod SoundCatalogs
 pub mod SoundSchemas
 pub mod SmallLiterals
+pub mod BaseLayouts

@@ -1,4 +1,5 @@
 // Laws on the schemas of texts.
+ghost use Rattle.psdl_sound.specs.BaseLayouts.{KeysKeepMembers, LayoutsBeginWithBases};
 ghost use Rattle.psdl_sound.specs.SoundCatalogs.{SchemasHaveSoundCatalogs};
 ghost use Rattle.psdl_sound.specs.SoundHomes.{SchemasHaveSoundHomes};
 ghost use Rattle.psdl_sound.specs.SoundSchemas.{SchemasAreSound};
@@ -43,4 +44,12 @@ pub fn literals_are_small()
 /// text.
 pub fn text_is_sound()
     ensures { TextsAreSound }
+{}
+
+/// In the schema of each text that has a tree and no fault, the members of a home begin with those
+/// of its base, each with its name and type. So a key has the same members in each home that has
+/// it: those of the home that introduces it.
+pub fn layouts_begin_with_bases()
+    ensures layouts { LayoutsBeginWithBases }
+    ensures keys { KeysKeepMembers }
 {}

@@ -4,6 +4,6 @@
 mod laws;
 
 pub use laws::{
-    identifiers_are_names, literals_are_small, schema_has_sound_catalogs, schema_has_sound_homes,
-    schema_is_named, schema_is_sound, text_is_sound,
+    identifiers_are_names, layouts_begin_with_bases, literals_are_small, schema_has_sound_catalogs,
+    schema_has_sound_homes, schema_is_named, schema_is_sound, text_is_sound,
 };

@@ -1,5 +1,5 @@
 // A station in memory, which keeps a record of all calls.
-ghost use Rattle.std.specs.Prelude.{◌≡◌, [], ◌+◌, ◌<◌, ◌≤◌, length, Some, OnOk, OnErr, IfOk, IfSome, IsErr, IsTrue, slice_get};
+ghost use Rattle.std.specs.Prelude.{◌≡◌, [], ◌+◌, ◌<◌, ◌≤◌, length, Some, OnOk, OnErr, IfOk, IfSome, IsErr, IsFalse, IsTrue, slice_get};
 ghost use Rattle.pss_base.specs.Causes.{HasCause};
 ghost use Rattle.pss_base.specs.Feed.{is_listed};
 ghost use Rattle.pss_disk.specs.Moments.{Through, IsStill, DuringSpeak, DuringWrite, DuringSync, IsImage, spoke, wrote, synced};
@@ -175,6 +175,7 @@ impl MemStation {
         ensures listed { IsTrue (is_listed (length self.old.calls) self.old.failing) → IsErr result }
         ensures ok { OnOk result (self.new ≡ recorded Call.Quiet self.old) }
         ensures err { OnErr result (FailedDisk Call.Quiet self.old self.new) }
+        ensures unlisted { IsFalse (is_listed (length self.old.calls) self.old.failing) → OnErr result (self.new ≡ disk_failed self.old) }
         ensures cause { HasCause self.old.disk_faults self.new.disk_faults result }
     {
         if self.is_listed() {
@@ -192,6 +193,7 @@ impl MemStation {
         ensures listed { IsTrue (is_listed (length self.old.calls) self.old.failing) → IsErr result }
         ensures ok { OnOk result (self.new ≡ recorded (Call.Wrote at bytes.now) self.old) }
         ensures err { OnErr result (FailedDisk (Call.Tore at bytes.now) self.old self.new) }
+        ensures unlisted { IsFalse (is_listed (length self.old.calls) self.old.failing) → OnErr result (self.new ≡ disk_failed self.old) }
         ensures cause { HasCause self.old.disk_faults self.new.disk_faults result }
     {
         if self.is_listed() {
@@ -209,6 +211,7 @@ impl MemStation {
         ensures listed { IsTrue (is_listed (length self.old.calls) self.old.failing) → IsErr result }
         ensures ok { OnOk result (self.new ≡ recorded Call.Synced self.old) }
         ensures err { OnErr result (FailedDisk Call.Quiet self.old self.new) }
+        ensures unlisted { IsFalse (is_listed (length self.old.calls) self.old.failing) → OnErr result (self.new ≡ disk_failed self.old) }
         ensures cause { HasCause self.old.disk_faults self.new.disk_faults result }
     {
         if self.is_listed() {
@@ -226,6 +229,7 @@ impl MemStation {
         ensures listed { IsTrue (is_listed (length self.old.calls) self.old.failing) → IsErr result }
         ensures ok { OnOk result (self.new ≡ recorded (Call.Spoke bytes.now) self.old) }
         ensures err { OnErr result (FailedSpeech (Call.Spoke (half bytes.now)) self.old self.new) }
+        ensures unlisted { IsFalse (is_listed (length self.old.calls) self.old.failing) → OnErr result (self.new ≡ speech_failed self.old) }
         ensures cause { HasCause self.old.speak_faults self.new.speak_faults result }
     {
         if self.is_listed() {
@@ -264,10 +268,12 @@ impl Station for MemStation {
         ensures once { length (moments_of self.new) ≤ length (moments_of self.old) + 1 }
         ensures cause { HasCause self.old.disk_faults self.new.disk_faults result }
         ensures other { self.new.speak_faults ≡ self.old.speak_faults }
-        // A call that is listed fails. One that succeeds is recorded, and so is one that fails where there is memory.
+        // A call that is listed fails, any other only for want of memory, and it does nothing then. One that succeeds is
+        // recorded, and so is one that is listed, where there is memory.
         ensures listed { IsTrue (is_listed (length self.old.calls) self.old.failing) → IsErr result }
         ensures ok { OnOk result (self.new ≡ recorded Call.Quiet self.old) }
         ensures err { OnErr result (FailedDisk Call.Quiet self.old self.new) }
+        ensures unlisted { IsFalse (is_listed (length self.old.calls) self.old.failing) → OnErr result (self.new ≡ disk_failed self.old) }
     {
         self.try_pass()?;
         Ok(self.bytes().len() as u64)
@@ -285,6 +291,7 @@ impl Station for MemStation {
         ensures listed { IsTrue (is_listed (length self.old.calls) self.old.failing) → IsErr result }
         ensures ok { OnOk result (self.new ≡ recorded Call.Quiet self.old) }
         ensures err { OnErr result (FailedDisk Call.Quiet self.old self.new) }
+        ensures unlisted { IsFalse (is_listed (length self.old.calls) self.old.failing) → OnErr result (self.new ≡ disk_failed self.old) }
     {
         self.try_pass()?;
         give(self.bytes(), at as usize, buf);
@@ -305,6 +312,7 @@ impl Station for MemStation {
         ensures listed { IsTrue (is_listed (length self.old.calls) self.old.failing) → IsErr result }
         ensures ok { OnOk result (self.new ≡ recorded (Call.Wrote at bytes.now) self.old) }
         ensures err { OnErr result (FailedDisk (Call.Tore at bytes.now) self.old self.new) }
+        ensures unlisted { IsFalse (is_listed (length self.old.calls) self.old.failing) → OnErr result (self.new ≡ disk_failed self.old) }
     {
         self.try_write(at as u32, bytes)?;
         Ok(())
@@ -321,6 +329,7 @@ impl Station for MemStation {
         ensures listed { IsTrue (is_listed (length self.old.calls) self.old.failing) → IsErr result }
         ensures ok { OnOk result (self.new ≡ recorded Call.Synced self.old) }
         ensures err { OnErr result (FailedDisk Call.Quiet self.old self.new) }
+        ensures unlisted { IsFalse (is_listed (length self.old.calls) self.old.failing) → OnErr result (self.new ≡ disk_failed self.old) }
     {
         self.try_sync()?;
         Ok(())
@@ -338,6 +347,7 @@ impl Station for MemStation {
         ensures listed { IsTrue (is_listed (length self.old.calls) self.old.failing) → IsErr result }
         ensures ok { OnOk result (self.new ≡ recorded (Call.Spoke bytes.now) self.old) }
         ensures err { OnErr result (FailedSpeech (Call.Spoke (half bytes.now)) self.old self.new) }
+        ensures unlisted { IsFalse (is_listed (length self.old.calls) self.old.failing) → OnErr result (self.new ≡ speech_failed self.old) }
     {
         self.try_speak(bytes)?;
         Ok(())

@@ -136,6 +136,9 @@ impl<F: FileExt + OpenFile + Drop, O: Write + Drop> Station for RealStation<F, O
         // The count rises at each failure, and stands still at its last value.
         ensures count { file_faults self.new ≡ counted (is_err result) (file_faults self.old) }
         ensures none { IsNone (file_of self.old) → IsErr result }
+        // A call of the disk leaves the writer as it was, and no call changes the file that is the disk.
+        ensures file { file_of self.new ≡ file_of self.old }
+        ensures writer { writer_of self.new ≡ writer_of self.old }
     {
         if let Some(file) = &self.file {
             if let Ok(metadata) = file.metadata() {
@@ -152,6 +155,8 @@ impl<F: FileExt + OpenFile + Drop, O: Write + Drop> Station for RealStation<F, O
         ensures other { speech_faults self.new ≡ speech_faults self.old }
         ensures count { file_faults self.new ≡ counted (is_err result) (file_faults self.old) }
         ensures none { IsNone (file_of self.old) → IsErr result }
+        ensures file { file_of self.new ≡ file_of self.old }
+        ensures writer { writer_of self.new ≡ writer_of self.old }
     {
         if let Some(file) = &self.file {
             if read_all_at(file, at, buf).is_ok() {
@@ -169,6 +174,8 @@ impl<F: FileExt + OpenFile + Drop, O: Write + Drop> Station for RealStation<F, O
         ensures other { speech_faults self.new ≡ speech_faults self.old }
         ensures count { file_faults self.new ≡ counted (is_err result) (file_faults self.old) }
         ensures none { IsNone (file_of self.old) → IsErr result }
+        ensures file { file_of self.new ≡ file_of self.old }
+        ensures writer { writer_of self.new ≡ writer_of self.old }
     {
         if let Some(file) = &self.file {
             if file.write_all_at(bytes, at).is_ok() {
@@ -184,6 +191,8 @@ impl<F: FileExt + OpenFile + Drop, O: Write + Drop> Station for RealStation<F, O
         ensures other { speech_faults self.new ≡ speech_faults self.old }
         ensures count { file_faults self.new ≡ counted (is_err result) (file_faults self.old) }
         ensures none { IsNone (file_of self.old) → IsErr result }
+        ensures file { file_of self.new ≡ file_of self.old }
+        ensures writer { writer_of self.new ≡ writer_of self.old }
     {
         if let Some(file) = &self.file {
             if sync_file(file).is_ok() {
@@ -203,6 +212,7 @@ impl<F: FileExt + OpenFile + Drop, O: Write + Drop> Station for RealStation<F, O
         ensures written { OnOk result (Appends (O.contents (writer_of self.old)) (O.contents (writer_of self.new)) bytes.now) }
         ensures part { OnErr result ((k : ℕ) × Appends (O.contents (writer_of self.old)) (O.contents (writer_of self.new)) (take k bytes.now)) }
         ensures count { speech_faults self.new ≡ counted (is_err result) (speech_faults self.old) }
+        ensures file { file_of self.new ≡ file_of self.old }
     {
         let count = write_bytes(&mut self.out, bytes);
         if count == bytes.len() && self.out.flush().is_ok() {

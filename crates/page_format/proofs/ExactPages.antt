@@ -1,4 +1,4 @@
--- Pages are right, or wrong at one place by one kind.
+-- Pages are right, or wrong at one place by one kind: exactly one of the two.
 use Rattle.std.proofs.Common.{ℕ, zero, suc, ◌≡◌, ⊎_elim, inl, inr, ◌+◌, ◌-◌, ◌<◌, List, [], ◌∷◌, ◌++◌, length, take, drop, get_or, refl, sym, ap, ◌∙◌, subst, append_assoc, append-nil, arith}
 use Rattle.std.proofs.Math.Seq.{drop-cons}
 use Rattle.std.proofs.lemmas.Bool.{cases_order}
@@ -9,6 +9,7 @@ use Rattle.page_format.specs.Laws.{ArePagesOneThing}
 use Rattle.page_format.specs.PageDamage.{AreRightEntries, AreWrongEntries, IsBadPage, IsPageDamage, IsWrongEntry, IsWrongThere}
 use Rattle.page_format.specs.Pages.{AreGiven, ArePages, IsGiven, IsPage, IsSmall, entries_end, entries_from, entries_in, entries_of, entries_start, entry_at, entry_count, place_of, record_length, serials_of}
 use Rattle.page_format.specs.Places.{slot_start}
+use Rattle.page_format.proofs.FoundPages.{IsGood, pages_found}
 
 entries_split : (image : List ℕ) (k m at : ℕ) → entries_from (k + m) image at ≡ entries_from k image at ++ entries_from m image (place_of k image at)
 entries_split image zero m at = ap (λ n. entries_from n image at) (let e : 0 + m ≡ m = omega arith in e)
@@ -74,12 +75,6 @@ module _ (image : List ℕ) (start next : ℕ) (seen : List ℕ) where
   whole_not_wrong slot at k p g (inl t) = right_before (entry_count image start) at k t t.more (record { fit = p.fit; given = g })
   whole_not_wrong slot at k p g (inr v) = v.left (v.place ∙ p.end)
 
--- a page that is right behind those before it
-record IsGood (image : List ℕ) (next : ℕ) (before : List ℕ) (slot : ℕ) : Type 0 where
-  page : IsPage image (slot_start slot) slot
-  given : AreGiven next (serials_of (entries_in image before)) (serials_of (entries_of image (slot_start slot)))
-  packed : IsSmall image slot → (j : ℕ) → j < length before → IsSmall image (get_or before j 0) → ⊥
-
 good_not_bad : (image : List ℕ) (next : ℕ) (before : List ℕ) (slot at : ℕ) (k : DamageKind) → IsGood image next before slot → IsBadPage image next before slot at k → ⊥
 good_not_bad image next before slot at k g (inl head) = head.wrong g.page.head
 good_not_bad image next before slot at k g (inr (inl entries)) = whole_not_wrong image (slot_start slot) next (serials_of (entries_in image before)) slot at k g.page g.given entries.1
@@ -139,4 +134,4 @@ one_place next slots at other k l image d e =
     same eq = bad_once image next (take e.page slots) (get_or slots e.page 0) at other k l (subst (λ n. IsBadPage image next (take n slots) (get_or slots n 0) at k) eq d.wrong) e.wrong
 
 pub pages_one_thing : ArePagesOneThing
-pages_one_thing = record { one_place = one_place; not_damaged = not_damaged }
+pages_one_thing = record { either = pages_found; one_place = one_place; not_damaged = not_damaged }

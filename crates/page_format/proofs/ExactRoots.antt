@@ -8,6 +8,7 @@ use Rattle.page_format.specs.Laws.{AreRootsOneThing, AreSameRoots}
 use Rattle.page_format.specs.Places.{area_start}
 use Rattle.page_format.specs.Roots.{AreStrange, Follows, HasRoot, IsCurrent, IsNoStore, IsRoot, IsRootDamage, IsWrongField, IsWrongFirst, epoch_in, next_in, page_count_in, shape_length_in, slot_in}
 use Rattle.page_format.specs.declared.root.Root.{Root}
+use Rattle.page_format.proofs.FoundRoots.{root_found}
 
 not_both_follow : (x y : ℕ) → x ≡ (y + 1) % 2 ^ 64 → y ≡ (x + 1) % 2 ^ 64 → ⊥
 not_both_follow x y p q = omega (arith, p, q)
@@ -77,4 +78,4 @@ not_both : (at : ℕ) (image : List ℕ) → IsRootDamage image at → IsNoStore
 not_both at image d n = ⊎_elim (λ short. omega (arith, short, d.long)) (λ none. ⊎_elim (λ s. none.0 s.0.first) (λ f. has_one image f.area f.current none) d.why) n
 
 pub roots_one_thing : AreRootsOneThing
-roots_one_thing = record { one_root = one_root; one_place = one_place; not_damaged = not_damaged; not_none = not_none; not_both = not_both }
+roots_one_thing = record { either = root_found; one_root = one_root; one_place = one_place; not_damaged = not_damaged; not_none = not_none; not_both = not_both }

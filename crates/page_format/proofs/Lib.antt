@@ -2,12 +2,15 @@ pub mod Adding
 pub mod Answered
 pub mod Buffers
 pub mod Choosing
+pub mod Decisions
 pub mod NextEntry
 pub mod EntryOctets
 pub mod ExactPages
 pub mod ExactRoots
 pub mod Fields
 pub mod Filling
+pub mod FoundPages
+pub mod FoundRoots
 pub mod Growing
 pub mod Heads
 pub mod Leaving

@@ -1,5 +1,5 @@
 -- What the definitions come to.
-use Rattle.std.specs.Prelude.{ℕ, ◌≡◌, ◌+◌, ◌-◌, ◌<◌, ◌≤◌, List, length, slice_index}
+use Rattle.std.specs.Prelude.{ℕ, ◌≡◌, ◌⊎◌, ◌+◌, ◌-◌, ◌<◌, ◌≤◌, List, length, slice_index}
 use Rattle.pss_base.specs.declared.damage.DamageKind.{DamageKind}
 use Rattle.pss_disk.specs.Parts.{octet_at}
 use Rattle.redo_journal.specs.Journal.{journal_end, journal_start}
@@ -44,15 +44,17 @@ pub record AreSameRoots (root other : Root) : Type 0 where
   pub shape_ : root.shape ≡ other.shape
   pub slots_ : root.slots ≡ other.slots
 
--- an image has one root, or is no store, or its roots are damaged at one place
+-- of these an image has exactly one: one root, no store at all, roots that are damaged at one place
 pub record AreRootsOneThing : Type 0 where
+  pub either : (image : List ℕ) → ((root : Root) × HasRoot root image) ⊎ IsNoStore image ⊎ ((at : ℕ) × IsRootDamage image at)
   pub one_root : (root other : Root) (image : List ℕ) → HasRoot root image → HasRoot other image → AreSameRoots root other
   pub one_place : (at other : ℕ) (image : List ℕ) → IsRootDamage image at → IsRootDamage image other → at ≡ other
   pub not_damaged : (root : Root) (at : ℕ) (image : List ℕ) → HasRoot root image → IsRootDamage image at → ⊥
   pub not_none : (root : Root) (image : List ℕ) → HasRoot root image → IsNoStore image → ⊥
   pub not_both : (at : ℕ) (image : List ℕ) → IsRootDamage image at → IsNoStore image → ⊥
 
--- the pages of some slots are right, or damaged at one place by one kind
+-- the pages of some slots are either right, or damaged at one place by one kind
 pub record ArePagesOneThing : Type 0 where
+  pub either : (next : ℕ) (slots image : List ℕ) → ArePages next slots image ⊎ ((at : ℕ) × (k : DamageKind) × IsPageDamage next slots at k image)
   pub one_place : (next : ℕ) (slots : List ℕ) (at other : ℕ) (k l : DamageKind) (image : List ℕ) → IsPageDamage next slots at k image → IsPageDamage next slots other l image → (at ≡ other) × (k ≡ l)
   pub not_damaged : (next : ℕ) (slots : List ℕ) (at : ℕ) (k : DamageKind) (image : List ℕ) → ArePages next slots image → IsPageDamage next slots at k image → ⊥

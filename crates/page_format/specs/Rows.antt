@@ -1,19 +1,13 @@
 -- The objects that pages give, whatever is told of the disk.
-use Rattle.std.specs.Prelude.{ℕ, ◌≡◌, ◌+◌, ◌*◌, ◌<◌, ◌≤◌, List, [], ◌∷◌, length, None, Some, IsSome, ⊤}
-use Rattle.std.specs.declared.option.Option.{Option}
+use Rattle.std.specs.Prelude.{ℕ, ◌≡◌, ◌+◌, ◌*◌, ◌<◌, ◌≤◌, List, [], ◌∷◌, length, IsSome, ⊤}
 use Rattle.std.specs.List.{AllByRecursion}
 use Rattle.pss_base.specs.declared.put.Put.{Put}
-use Rattle.page_format.specs.Objects.{IsRightPut}
-
--- the octets of a record; none where there is none
-abbrev pub record_octets : Option (List ℕ) → List ℕ
-record_octets None = []
-record_octets (Some octets) = octets
+use Rattle.page_format.specs.Objects.{IsRightPut, octets_left}
 
 -- the octets of the records, and 16 for each
 abbrev pub weights : List Put → ℕ
 weights [] = 0
-weights (row ∷ rows) = 16 + length (record_octets row.bytes) + weights rows
+weights (row ∷ rows) = 16 + length (octets_left row.bytes) + weights rows
 
 -- each has another serial than those behind it
 abbrev pub AreApart : List Put → Type 0

@@ -10,15 +10,15 @@ pub fn a_store_stays()
     ensures store { IsStoreKept }
 {}
 
-/// An image has at most one current root with right fields and is damaged at one place at most, and no two of these hold:
-/// that it has a root, that it has none at all, that it is damaged. So what `read_root` answers is the only answer. The
-/// function does nothing: its contract is the law.
+/// Each image has a current root with right fields, or is no store, or its roots are damaged: exactly one of the three, and
+/// the root and the place of the damage are one too. So what `read_root` answers is the only answer. The function does
+/// nothing: its contract is the law.
 pub fn roots_are_one_thing()
     ensures { AreRootsOneThing }
 {}
 
-/// In an image the pages of some slots are damaged at one place by one kind at most, and never both damaged and right. So
-/// what `gather` answers is the only answer. The function does nothing: its contract is the law.
+/// In each image the pages of some slots are right, or damaged: exactly one of the two, and the damage has one place and one
+/// kind. So what `gather` answers is the only answer. The function does nothing: its contract is the law.
 pub fn pages_are_one_thing()
     ensures { ArePagesOneThing }
 {}

@@ -37,7 +37,7 @@ pub use laws::{a_store_stays, pages_are_one_thing, roots_are_one_thing};
 pub use marks::{flags, mark};
 pub use new_page::NewPage;
 pub use objects::Stored;
-pub use packing::pack;
+pub use packing::{pack, record_of};
 pub use places::Places;
 pub use root::Root;
 pub use roots::read_root;

@@ -167,7 +167,7 @@ fn root_of<W: Station>(alloc: Global, w: &mut W, len: u64) -> Result<Root, RootF
     }
 }
 
-/// Reads the current root of a store, and tests it. Each length is tested before it makes room.
+/// Reads the current root of a store, and tests it.
 pub fn read_root<W: Station>(alloc: Global, w: &mut W) -> Result<Root, RootFault>
     ensures root { IfOk result (λ root. IfSome (W.content w.old) (HasRoot root)) }
     ensures limits { IfOk result (λ root. IsWithinLimits root) }

@@ -171,7 +171,8 @@ fn are_settled(changes: &[Put]) -> bool
     true
 }
 
-/// Whether changes that are settled as they stand, the last of which has this serial, are so with one more behind them.
+/// Tells that changes that are settled as they stand, the last of which has this serial, are so with one more behind them.
+/// Where it does not, they may be so too.
 #[inline(always)]
 pub fn stay_settled(are: bool, last: u64, put: &Put) -> bool
     requires { IsRightPut put.now }

@@ -29,7 +29,7 @@ impl Slots {
         }
     }
 
-    /// None, with room for so many: adding these takes no memory.
+    /// None, to which so many are to be added.
     pub fn with_room(alloc: Global, len: usize) -> Result<Slots, NoMemory>
         ensures { IfOk result (λ slots. slots ≡ []) }
     {

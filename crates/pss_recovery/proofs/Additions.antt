@@ -17,7 +17,7 @@ use Rattle.storage_home.proofs.Keeping.{come, others, same_or_not, sum_with}
 use Rattle.storage_home.proofs.Naming.{placed}
 use Rattle.pss_recovery.specs.Loading.{IsFree}
 use Rattle.pss_recovery.specs.inner.Adding.{IsAddable, MayAdd, MayCome, MayMake, addition}
-use Rattle.pss_recovery.specs.Bodies.{record_octets}
+use Rattle.page_format.specs.Objects.{octets_left}
 
 -- an object with keys that nobody holds
 module _ (S : Schema) (M : Catalog) (s : ℕ) (object : Object) (free : IsFree S M object) where
@@ -89,11 +89,11 @@ pub added : (homes new : Homes) (row : Put) (keys : List (KeyNo × List ℕ)) (c
     → (m : MayAdd homes row keys) → IsKept m.schema (insert m.catalog row.serial m.object) new
 added homes new row keys changes e f m = subst (λ (cs : List Change). (n : MayMake homes cs) → IsKept n.schema (over n.catalog n.steps) new) e f (may_make homes row keys m)
 
-pub weight_is : (S : Schema) (home : ℕ) (object : Object) (bytes : Option (List ℕ)) → IsState S home bytes (Some object) → weight S object ≡ 16 + length (record_octets bytes)
+pub weight_is : (S : Schema) (home : ℕ) (object : Object) (bytes : Option (List ℕ)) → IsState S home bytes (Some object) → weight S object ≡ 16 + length (octets_left bytes)
 weight_is S home object None state = absurd state
 weight_is S home object (Some octets) state = ap (λ l. 16 + length l) (sym state.2)
 
-pub fits : (S : Schema) (row : Put) (object : Object) (sum : ℕ) → IsState S row.home row.bytes (Some object) → sum + (16 + length (record_octets row.bytes)) ≤ most → sum + weight S object ≤ most
+pub fits : (S : Schema) (row : Put) (object : Object) (sum : ℕ) → IsState S row.home row.bytes (Some object) → sum + (16 + length (octets_left row.bytes)) ≤ most → sum + weight S object ≤ most
 fits S row object sum stored le = omega (arith, le, weight_is S row.home object row.bytes stored)
 
 -- what may be added to a catalog that is kept is loaded by it

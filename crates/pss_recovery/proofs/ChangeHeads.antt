@@ -5,7 +5,8 @@ use Rattle.std.proofs.lemmas.Nat.{from_be_bytes-to_be_bytes_4, from_be_bytes-to_
 use Rattle.std.specs.declared.option.Option.{Option}
 use Rattle.std.specs.Int.{from_be_bytes, to_be_bytes, w32, w64}
 use Rattle.pss_base.specs.declared.put.Put.{Put}
-use Rattle.pss_recovery.specs.Bodies.{IsSpellable, change_head, change_octets, record_octets}
+use Rattle.page_format.specs.Objects.{octets_left}
+use Rattle.pss_recovery.specs.Bodies.{IsSpellable, change_head, change_octets}
 use Rattle.pss_recovery.specs.declared.head.ChangeHead.{ChangeHead}
 use Rattle.pss_recovery.specs.inner.Changes.{Begins, BeginsNone, change_in, record_in}
 use Rattle.pss_recovery.proofs.Splits.{cut_same, front_of}
@@ -14,9 +15,9 @@ pub length-change_head : (home serial len : ℕ) → length (change_head home se
 unfolding change_head
 length-change_head home serial len = refl
 
-pub length-change_octets : (put : Put) → length (change_octets put) ≡ 16 + length (record_octets put.bytes)
-length-change_octets put = length-append (change_head put.home put.serial (length (record_octets put.bytes))) (record_octets put.bytes)
-    ∙ ap (λ n. n + length (record_octets put.bytes)) (length-change_head put.home put.serial (length (record_octets put.bytes)))
+pub length-change_octets : (put : Put) → length (change_octets put) ≡ 16 + length (octets_left put.bytes)
+length-change_octets put = length-append (change_head put.home put.serial (length (octets_left put.bytes))) (octets_left put.bytes)
+    ∙ ap (λ n. n + length (octets_left put.bytes)) (length-change_head put.home put.serial (length (octets_left put.bytes)))
 
 pub record SameHead (home serial len h s l : ℕ) : Type 0 where
   pub home_ : home ≡ h
@@ -39,10 +40,10 @@ same_head home serial len h s l a b c d e f same =
 
 -- ---- octets that begin with a change
 
-parts_of : (octets rest : List ℕ) (put : Put) → octets ≡ change_octets put ++ rest → octets ≡ change_head put.home put.serial (length (record_octets put.bytes)) ++ (record_octets put.bytes ++ rest)
-parts_of octets rest put e = e ∙ append_assoc (change_head put.home put.serial (length (record_octets put.bytes))) (record_octets put.bytes) rest
+parts_of : (octets rest : List ℕ) (put : Put) → octets ≡ change_octets put ++ rest → octets ≡ change_head put.home put.serial (length (octets_left put.bytes)) ++ (octets_left put.bytes ++ rest)
+parts_of octets rest put e = e ∙ append_assoc (change_head put.home put.serial (length (octets_left put.bytes))) (octets_left put.bytes) rest
 
-pub long_of : (octets rest : List ℕ) (put : Put) → octets ≡ change_octets put ++ rest → 16 + length (record_octets put.bytes) ≤ length octets
+pub long_of : (octets rest : List ℕ) (put : Put) → octets ≡ change_octets put ++ rest → 16 + length (octets_left put.bytes) ≤ length octets
 long_of octets rest put e = omega (arith, ap length e, length-append (change_octets put) rest, length-change_octets put)
 
 pub none_in_few : (octets : List ℕ) → length octets < 16 → BeginsNone octets
@@ -50,18 +51,18 @@ none_in_few octets few put rest fit e = omega (arith, few, long_of octets rest p
 
 -- the head in front of a change is its own
 pub head_is : (octets rest : List ℕ) (home serial len : ℕ) (put : Put) → home < 2 ^ 32 → serial < 2 ^ 64 → len < 2 ^ 32 → take 16 octets ≡ change_head home serial len → IsSpellable put → octets ≡ change_octets put ++ rest
-    → SameHead home serial len put.home put.serial (length (record_octets put.bytes))
+    → SameHead home serial len put.home put.serial (length (octets_left put.bytes))
 head_is octets rest home serial len put a b c head fit e =
-    let n = length (record_octets put.bytes) in
+    let n = length (octets_left put.bytes) in
     same_head home serial len put.home put.serial n a b c fit.home fit.serial fit.len
-    (sym head ∙ ap (take 16) (parts_of octets rest put e) ∙ front_of 16 (change_head put.home put.serial n) (record_octets put.bytes ++ rest) (length-change_head put.home put.serial n))
+    (sym head ∙ ap (take 16) (parts_of octets rest put e) ∙ front_of 16 (change_head put.home put.serial n) (octets_left put.bytes ++ rest) (length-change_head put.home put.serial n))
 
 pub none_where_short : (octets : List ℕ) (home serial len : ℕ) → home < 2 ^ 32 → serial < 2 ^ 64 → len < 2 ^ 32 → take 16 octets ≡ change_head home serial len → length octets < 16 + len → BeginsNone octets
 none_where_short octets home serial len a b c head few put rest fit e = omega (arith, few, long_of octets rest put e, (head_is octets rest home serial len put a b c head fit e).len_)
 
 -- ---- the change that is read
 
-back : (octets : List ℕ) → record_octets (record_in octets) ≡ octets
+back : (octets : List ℕ) → octets_left (record_in octets) ≡ octets
 back [] = refl
 back (b ∷ octets) = refl
 
@@ -88,7 +89,7 @@ change_read head octets begins =
 
 -- ---- a list of changes is spelled in one way
 
-same_bytes : (a b : Option (List ℕ)) → IfSome a (λ r. 1 ≤ length r) → IfSome b (λ r. 1 ≤ length r) → record_octets a ≡ record_octets b → a ≡ b
+same_bytes : (a b : Option (List ℕ)) → IfSome a (λ r. 1 ≤ length r) → IfSome b (λ r. 1 ≤ length r) → octets_left a ≡ octets_left b → a ≡ b
 same_bytes None None f g e = refl
 same_bytes None (Some y) f g e = absurd (omega (arith, g, ap length e))
 same_bytes (Some x) None f g e = absurd (omega (arith, f, ap length e))
@@ -100,11 +101,11 @@ put_same p q h s b =
 
 pub same_change : (p q : Put) (x y : List ℕ) → IsSpellable p → IsSpellable q → change_octets p ++ x ≡ change_octets q ++ y → (p ≡ q) × (x ≡ y)
 same_change p q x y a b e =
-    let m = length (record_octets p.bytes) in
-    let n = length (record_octets q.bytes) in
+    let m = length (octets_left p.bytes) in
+    let n = length (octets_left q.bytes) in
     let front : take 16 (change_octets p ++ x) ≡ change_head p.home p.serial m =
-    ap (take 16) (append_assoc (change_head p.home p.serial m) (record_octets p.bytes) x) ∙ front_of 16 (change_head p.home p.serial m) (record_octets p.bytes ++ x) (length-change_head p.home p.serial m) in
+    ap (take 16) (append_assoc (change_head p.home p.serial m) (octets_left p.bytes) x) ∙ front_of 16 (change_head p.home p.serial m) (octets_left p.bytes ++ x) (length-change_head p.home p.serial m) in
     let same = head_is (change_octets p ++ x) y p.home p.serial m q a.home a.serial a.len front b e in
     let whole = cut_same (change_octets p) (change_octets q) x y (length-change_octets p ∙ ap (λ k. 16 + k) same.len_ ∙ sym (length-change_octets q)) e in
-    let inside = cut_same (change_head p.home p.serial m) (change_head q.home q.serial n) (record_octets p.bytes) (record_octets q.bytes) (length-change_head p.home p.serial m ∙ sym (length-change_head q.home q.serial n)) whole.0 in
+    let inside = cut_same (change_head p.home p.serial m) (change_head q.home q.serial n) (octets_left p.bytes) (octets_left q.bytes) (length-change_head p.home p.serial m ∙ sym (length-change_head q.home q.serial n)) whole.0 in
     (put_same p q same.home_ same.serial_ (same_bytes p.bytes q.bytes a.some b.some inside.1), whole.1)

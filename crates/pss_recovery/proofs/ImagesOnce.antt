@@ -23,6 +23,7 @@ use Rattle.pss_recovery.specs.Loading.{entry_places}
 use Rattle.pss_recovery.specs.Replaying.{AreReplayed, IsChangeDamage}
 use Rattle.pss_recovery.specs.Shapes.{DifferAt, lines_of}
 use Rattle.pss_recovery.specs.Stands.{AreBodiesWrong, ArePagesWrong, AreRowsWrong, IsJournalWrong, IsLoaded, IsOtherShape, IsPaged, IsRead, IsRefusal, IsRooted, Stands}
+use Rattle.pss_recovery.proofs.FoundImages.{image_found}
 use Rattle.pss_recovery.proofs.BodiesOnce.{damage_once, not_replayed, replayed_once}
 use Rattle.pss_recovery.proofs.RowsOnce.{AreWrong, loaded_once, not_within, rows_once}
 
@@ -217,6 +218,7 @@ module _ (S : Schema) (image : List ℕ) where
 
 pub image_one_thing : IsImageOneThing
 image_one_thing = record {
+  either = λ S image sound small. image_found S sound image small;
   one_store = λ S M N next last image a b. store_once S image M N next last a b;
   one_fault = λ S fault other image is_fault is_other a b. fault_once S image fault other (of_refusal S image fault is_fault a) (of_refusal S image other is_other b);
   never_both = λ S M next fault image is_fault stands refused. stands_not S image M next fault stands (of_refusal S image fault is_fault refused);

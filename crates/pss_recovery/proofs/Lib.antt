@@ -23,6 +23,13 @@ pub mod Notes
 pub mod Replays
 pub mod RowsOnce
 pub mod BodiesOnce
+pub mod SmallOctets
+pub mod FoundKeys
+pub mod FoundShapes
+pub mod FoundRecords
+pub mod FoundRows
+pub mod FoundBodies
+pub mod FoundImages
 pub mod ImagesOnce
 pub mod Goods
 pub mod Goodness

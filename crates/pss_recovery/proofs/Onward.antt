@@ -9,11 +9,12 @@ use Rattle.pss_catalog.specs.Catalog.{Catalog, Object, total}
 use Rattle.storage_home.specs.declared.homes.Homes.{Homes}
 use Rattle.storage_home.specs.Kept.{most}
 use Rattle.storage_home.proofs.Keeping.{others, sum_with}
-use Rattle.pss_recovery.specs.Bodies.{record_octets}
+use Rattle.page_format.specs.Objects.{octets_left}
 use Rattle.pss_recovery.specs.Loading.{AreLoaded, IsRow}
 use Rattle.pss_recovery.specs.inner.Adding.{HasHeld, IsOneMore, MayCome}
 use Rattle.pss_recovery.specs.inner.Checks.{IsWrongAlone}
-use Rattle.pss_recovery.specs.inner.Rowwise.{AreAll, AreSoFar, IsWrongAt, at_row, weights}
+use Rattle.page_format.specs.Rows.{weights}
+use Rattle.pss_recovery.specs.inner.Rowwise.{AreAll, AreSoFar, IsWrongAt, at_row}
 use Rattle.pss_recovery.specs.declared.loading.LoadStop.TheVariants.{Wrong as WrongRow}
 use Rattle.pss_recovery.specs.declared.checking.RowStop.{RowStop}
 use Rattle.pss_recovery.specs.declared.checking.RowStop.TheVariants as row_stop
@@ -40,10 +41,10 @@ here_is (x ∷ front) rest row zero e = absurd (omega (arith, e))
 here_is (x ∷ front) rest row (suc i) e = here_is front rest row i (omega (arith, e))
 
 module _ (S : Schema) (next : ℕ) (all : List Put) (row : Put) (rest : List Put) (index : ℕ) (homes : Homes) (so_far : AreSoFar S next all (row ∷ rest) index homes) where
-  sum_of_all : weights all ≡ weights so_far.front + (16 + length (record_octets row.bytes) + weights rest)
+  sum_of_all : weights all ≡ weights so_far.front + (16 + length (octets_left row.bytes) + weights rest)
   sum_of_all = ap weights (sym so_far.split) ∙ weights_both so_far.front (row ∷ rest)
 
-  pub fits_all : total S so_far.catalog + (16 + length (record_octets row.bytes)) ≤ most
+  pub fits_all : total S so_far.catalog + (16 + length (octets_left row.bytes)) ≤ most
   fits_all = omega (arith, so_far.sum_is, so_far.bounded, sum_of_all)
 
   abbrev pub may_come : MayCome S so_far.catalog homes row

@@ -1,5 +1,5 @@
 -- The objects in pages that were read.
-use Rattle.std.proofs.Common.{ℕ, ◌≡◌, ◌⊎◌, inl, inr, ◌+◌, ◌<◌, ◌≤◌, List, [], ◌∷◌, length, Option, None, Some, IfSome, Result, Err, slice_index, refl, sym, ap, ◌∙◌, subst, arith}
+use Rattle.std.proofs.Common.{ℕ, ◌≡◌, ◌⊎◌, inl, inr, ◌+◌, ◌<◌, ◌≤◌, List, [], length, Option, None, Some, IfSome, Result, Err, slice_index, refl, sym, ap, ◌∙◌, subst, arith}
 use Rattle.std.proofs.lemmas.Option.{slice_get_within}
 use Rattle.std.specs.FinMap.{empty}
 use Rattle.pss_base.specs.declared.damage.DamageKind.{DamageKind}
@@ -12,11 +12,9 @@ use Rattle.storage_home.specs.declared.homes.Homes.{Homes}
 use Rattle.page_store.specs.Kept.{IsKept as ArePagesKept, rows_in}
 use Rattle.page_format.specs.Pages.{ArePages}
 use Rattle.page_format.specs.Roots.{IsWithinLimits}
-use Rattle.page_format.specs.Rows.{AreRows}
-use Rattle.page_format.specs.Rows as page
+use Rattle.page_format.specs.Rows.{AreRows, weights}
 use Rattle.page_store.specs.declared.pages.Fetched.{Fetched}
 use Rattle.page_format.specs.declared.root.Root.{Root}
-use Rattle.pss_recovery.specs.Bodies.{record_octets}
 use Rattle.pss_recovery.specs.Loading.{AreLoaded, IsRowDamage, IsWrongRow, entry_places}
 use Rattle.pss_recovery.specs.Stands.{IsPaged, IsRefusal, IsRooted}
 use Rattle.pss_recovery.specs.declared.fault.MountFault.TheVariants as fault
@@ -25,26 +23,14 @@ use Rattle.pss_recovery.specs.declared.loading.LoadStop.TheVariants as load
 use Rattle.pss_recovery.specs.inner.Adding.{HasHeld}
 use Rattle.pss_recovery.specs.inner.Checks.{IsWrongAlone}
 use Rattle.pss_recovery.specs.inner.Mounting.{HasLoaded, IsFetched, IsLoadStop, IsLoadedFrom, offset_of}
-use Rattle.pss_recovery.specs.inner.Rowwise.{AreApart, AreOver, AreWithin, IsWrongAt, weights}
+use Rattle.pss_recovery.specs.inner.Rowwise.{AreOver, AreWithin, IsWrongAt}
 use Rattle.pss_recovery.proofs.EntryPlaces.{length-entry_places}
 use Rattle.pss_recovery.proofs.Goods.{pages_good}
 
 -- ---- what loading asks of rows
 
-record_same : (bytes : Option (List ℕ)) → length (page.record_octets bytes) ≡ length (record_octets bytes)
-record_same None = refl
-record_same (Some octets) = refl
-
-weights_same : (rows : List Put) → page.weights rows ≡ weights rows
-weights_same [] = refl
-weights_same (row ∷ rows) = omega (arith, record_same row.bytes, weights_same rows)
-
-pub apart_same : (rows : List Put) → page.AreApart rows → AreApart rows
-apart_same [] apart = tt
-apart_same (row ∷ rows) apart = (apart.0, apart_same rows apart.1)
-
 pub few_octets : (root : Root) (rows : List Put) → IsWithinLimits root → AreRows root.next (length root.slots) rows → weights rows ≤ most
-few_octets root rows limits are = omega (arith, weights_same rows, are.sum, limits.slots_)
+few_octets root rows limits are = omega (arith, are.sum, limits.slots_)
 
 -- ---- a row that is wrong
 

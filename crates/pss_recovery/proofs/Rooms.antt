@@ -8,7 +8,8 @@ use Rattle.pss_catalog.specs.Catalog.{Catalog}
 use Rattle.redo_journal.specs.Journal.{IsReady, Position}
 use Rattle.page_store.specs.Kept.{IsKept, Kept}
 use Rattle.page_format.specs.Objects.{HasRecord, IsRightPut}
-use Rattle.pss_recovery.specs.Bodies.{body_octets, change_head, change_octets, record_octets}
+use Rattle.page_format.specs.Objects.{octets_left}
+use Rattle.pss_recovery.specs.Bodies.{body_octets, change_head, change_octets}
 use Rattle.pss_recovery.specs.Mounted.{IsMounted}
 use Rattle.pss_recovery.specs.Noted.{AreNoted}
 use Rattle.pss_recovery.specs.declared.body.Body.{Body}
@@ -20,7 +21,7 @@ length-change_head : (home serial len : ℕ) → length (change_head home serial
 unfolding change_head
 length-change_head home serial len = refl
 
-short_record : (bytes : Option (List ℕ)) → IfSome bytes HasRecord → length (record_octets bytes) ≤ 8000
+short_record : (bytes : Option (List ℕ)) → IfSome bytes HasRecord → length (octets_left bytes) ≤ 8000
 short_record None has = omega arith
 short_record (Some octets) has = has.most
 
@@ -30,8 +31,8 @@ short_changes (put ∷ puts) right =
     omega (
       arith,
       length-append (change_octets put) (flat_map change_octets puts),
-      length-append (change_head put.home put.serial (length (record_octets put.bytes))) (record_octets put.bytes),
-      length-change_head put.home put.serial (length (record_octets put.bytes)),
+      length-append (change_head put.home put.serial (length (octets_left put.bytes))) (octets_left put.bytes),
+      length-change_head put.home put.serial (length (octets_left put.bytes)),
       short_record put.bytes right.0,
       short_changes puts right.1,
     )

@@ -9,7 +9,8 @@ use Rattle.pss_catalog.specs.Catalog.{IsUnique, Object, total}
 use Rattle.storage_home.specs.declared.homes.Homes.{Homes}
 use Rattle.storage_home.specs.Applied.{MayLoad}
 use Rattle.storage_home.specs.Kept.{IsKept, most}
-use Rattle.pss_recovery.specs.inner.Rowwise.{AreApart, AreSoFar, weights}
+use Rattle.page_format.specs.Rows.{AreApart, weights}
+use Rattle.pss_recovery.specs.inner.Rowwise.{AreSoFar}
 use Rattle.pss_recovery.proofs.NewStore.{nothing_weighs}
 
 pub nothing_unique : (S : Schema) → IsUnique S empty

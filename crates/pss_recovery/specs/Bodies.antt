@@ -1,15 +1,10 @@
 -- What a body of the journal says, and how it is spelled.
-use Rattle.std.specs.Prelude.{ℕ, ◌≡◌, ◌^◌, ◌<◌, ◌≤◌, List, [], ◌++◌, length, None, Some, IfSome}
-use Rattle.std.specs.declared.option.Option.{Option}
+use Rattle.std.specs.Prelude.{ℕ, ◌≡◌, ◌^◌, ◌<◌, ◌≤◌, List, ◌++◌, length, IfSome}
 use Rattle.std.specs.Int.{to_be_bytes, w32, w64}
 use Rattle.std.specs.List.{AllByRecursion, flat_map}
 use Rattle.pss_base.specs.declared.put.Put.{Put}
+use Rattle.page_format.specs.Objects.{octets_left}
 use Rattle.pss_recovery.specs.declared.body.Body.{Body}
-
--- the octets of a record; none where the object is removed
-abbrev pub record_octets : Option (List ℕ) → List ℕ
-record_octets None = []
-record_octets (Some octets) = octets
 
 -- the home of an object, its serial, and the length of its record
 unfoldable pub change_head : ℕ → ℕ → ℕ → List ℕ
@@ -17,14 +12,14 @@ change_head home serial len = to_be_bytes w32 home ++ to_be_bytes w64 serial ++ 
 
 -- a change: its head and its record
 abbrev pub change_octets : Put → List ℕ
-change_octets put = change_head put.home put.serial (length (record_octets put.bytes)) ++ record_octets put.bytes
+change_octets put = change_head put.home put.serial (length (octets_left put.bytes)) ++ octets_left put.bytes
 
 -- the numbers of a change fit into their octets, and a record has some
 pub record IsSpellable (put : Put) : Type 0 where
   pub home : put.home < 2 ^ 32
   pub serial : put.serial < 2 ^ 64
   pub some : IfSome put.bytes (λ octets. 1 ≤ length octets)
-  pub len : length (record_octets put.bytes) < 2 ^ 32
+  pub len : length (octets_left put.bytes) < 2 ^ 32
 
 -- a change whose record, where there is one, has some octets, but no more than its length may tell
 abbrev pub HasLength : Put → Type 0

@@ -1,7 +1,9 @@
 -- What the definitions come to.
-use Rattle.std.specs.Prelude.{ℕ, ◌≡◌, List, ⊤}
+use Rattle.std.specs.Prelude.{ℕ, ◌≡◌, ◌⊎◌, List, ⊤}
 use Rattle.type_layout.specs.declared.schema.Schema.{Schema}
+use Rattle.type_layout.specs.Sound.{IsSoundSchema}
 use Rattle.pss_catalog.specs.Catalog.{Catalog, IsGood}
+use Rattle.redo_journal.specs.Laws.{AreOctets}
 use Rattle.pss_recovery.specs.Bodies.{Spells}
 use Rattle.pss_recovery.specs.Mounted.{IsMounted}
 use Rattle.pss_recovery.specs.Stands.{IsRefusal, Stands}
@@ -22,8 +24,9 @@ IsOfImage (Damaged at k) = ⊤
 IsOfImage DiskFault = ⊥
 IsOfImage NoMemory = ⊥
 
--- an image stands for one catalog and one next serial, or is refused with one fault
+-- an image either stands for one catalog and one next serial, or is refused with one fault
 pub record IsImageOneThing : Type 0 where
+  pub either : (S : Schema) (image : List ℕ) → IsSoundSchema S → AreOctets image → ((M : Catalog) × (next : ℕ) × Stands S M next image) ⊎ ((fault : MountFault) × IsOfImage fault × IsRefusal S fault image)
   pub one_store : (S : Schema) (M N : Catalog) (next last : ℕ) (image : List ℕ) → Stands S M next image → Stands S N last image → (M ≡ N) × (next ≡ last)
   pub one_fault : (S : Schema) (fault other : MountFault) (image : List ℕ) → IsOfImage fault → IsOfImage other → IsRefusal S fault image → IsRefusal S other image → fault ≡ other
   pub never_both : (S : Schema) (M : Catalog) (next : ℕ) (fault : MountFault) (image : List ℕ) → IsOfImage fault → Stands S M next image → IsRefusal S fault image → ⊥

@@ -10,7 +10,7 @@ ghost use Rattle.storage_home.specs.Applied.{AreKeysOf};
 ghost use Rattle.pss_recovery.specs.inner.Altering.{HasNewKeys, HasState, IsKeptSound, MayAlter};
 
 use crate::checking::{RowStop, check_row};
-use crate::layout::LONGEST_RECORD;
+use page_format::layout::LONGEST_RECORD;
 use pss_base::{NoMemory, Put};
 use std::alloc::Global;
 use storage_home::{Homes, KeyValues, keys_of_octets};
@@ -75,11 +75,11 @@ pub fn new_keys(
     let Some(bytes) = &put.bytes else {
         return Ok(Some(KeyValues::new(alloc)));
     };
-    if bytes.as_slice().len() > LONGEST_RECORD {
+    if bytes.as_slice().len() > LONGEST_RECORD as usize {
         return Ok(None);
     }
     match check_row(alloc, schema, put, next) {
-        Ok(checked) => Ok(Some(checked.keys)),
+        Ok(keys) => Ok(Some(keys)),
         Err(stop) => no_keys(stop),
     }
 }

@@ -1,15 +1,14 @@
 // The shape of a store and a row of its pages, each by itself.
-ghost use Rattle.std.specs.Prelude.{◌≡◌, Err, IfErr, IfOk, IsSome, OnOk, Some};
+ghost use Rattle.std.specs.Prelude.{◌≡◌, Err, IfErr, IfOk, IsSome, OnOk};
 ghost use Rattle.pss_base.specs.declared.damage.DamageKind.{DamageKind as Kind};
 ghost use Rattle.pss_base.specs.declared.damage.DamageKind.TheVariants as kind;
 ghost use Rattle.type_layout.specs.ShapeText.{shape_text};
 ghost use Rattle.type_layout.specs.Sound.{IsSoundLayout, IsSoundSchema};
 ghost use Rattle.type_layout.specs.Spelling.{record_spelling};
 ghost use Rattle.type_layout.specs.Values.{IsRecord};
-ghost use Rattle.storage_home.specs.Applied.{AreKeysOf};
 ghost use Rattle.pss_recovery.specs.declared.checking.RowStop.TheVariants.{Wrong};
 ghost use Rattle.pss_recovery.specs.Loading.{IsStored, RefersBelow};
-ghost use Rattle.pss_recovery.specs.inner.Checks.{AreNoRecord, IsShapeRefusal, IsWrongAlone, object_of};
+ghost use Rattle.pss_recovery.specs.inner.Checks.{AreNoRecord, IsRightAlone, IsShapeRefusal, IsWrongAlone, object_of};
 
 use crate::fault::MountFault;
 use crate::references::record_refers_below;
@@ -33,14 +32,6 @@ pub fn test_shape(alloc: Global, schema: &Schema, shape: &[u8]) -> Result<(), Mo
         None => Ok(()),
         Some(home) => Err(MountFault::ShapeDiffers(HomeNo(home))),
     }
-}
-
-/// A row that is right by itself.
-#[derive(Drop)]
-pub struct Checked {
-    pub values: Record,
-    /// The keys that it holds, each with its bytes.
-    pub keys: KeyValues,
 }
 
 /// Why a row is not right.
@@ -90,13 +81,12 @@ fn values_of(alloc: Global, schema: &Schema, row: &Put, next: u64) -> Result<Rec
     }
 }
 
-/// Tests a row by itself, in this order: its home, its record, what the record refers to.
-pub fn check_row(alloc: Global, schema: &Schema, row: &Put, next: u64) -> Result<Checked, RowStop>
+/// Tests a row by itself, in this order: its home, its record, what the record refers to. It gives the keys that the row holds, each
+/// with its bytes.
+pub fn check_row(alloc: Global, schema: &Schema, row: &Put, next: u64) -> Result<KeyValues, RowStop>
     requires sound { IsSoundSchema schema.now }
     requires some { IsSome row.now.bytes }
-    ensures stored { IfOk result (λ checked. IsStored schema.now row.now (object_of row.now checked.values)) }
-    ensures refers { IfOk result (λ checked. RefersBelow next (object_of row.now checked.values)) }
-    ensures keys { IfOk result (λ checked. AreKeysOf schema.now (Some (object_of row.now checked.values)) checked.keys) }
+    ensures right { IfOk result (IsRightAlone schema.now next row.now) }
     ensures refused { (k : Kind) → result ≡ Err (Wrong k) → IsWrongAlone schema.now next row.now k }
 {
     let values = match values_of(alloc, schema, row, next) {
@@ -104,7 +94,7 @@ pub fn check_row(alloc: Global, schema: &Schema, row: &Put, next: u64) -> Result
         Err(stop) => return Err(stop),
     };
     match keys_of_record(alloc, schema, HomeNo(row.home), &values) {
-        Ok(keys) => Ok(Checked { values, keys }),
+        Ok(keys) => Ok(keys),
         Err(_) => Err(RowStop::NoMemory),
     }
 }

@@ -5,16 +5,16 @@ ghost use Rattle.pss_disk.specs.Moments.{IsSettled};
 ghost use Rattle.pss_disk.specs.Octets.{disk_end};
 ghost use Rattle.pss_disk.specs.Reading.{OnlyReads};
 ghost use Rattle.redo_journal.specs.Journal.{journal_end};
+ghost use Rattle.page_format.specs.Written.{root_octets};
 ghost use Rattle.pss_recovery.specs.declared.fault.InitFault.TheVariants as fault;
 ghost use Rattle.pss_recovery.specs.Faults.{is_init_disk_fault};
 ghost use Rattle.pss_recovery.specs.Silence.{IsSilent};
-ghost use Rattle.pss_recovery.specs.inner.Blanks.{IsBlank, IsMade, first_root, root_head};
+ghost use Rattle.pss_recovery.specs.inner.Blanks.{IsBlank, IsMade, first_root};
 
 use crate::fault::InitFault;
-use crate::layout::{
-    FIRST_EPOCH, FIRST_SERIAL, PIECE, PIECES, ROOT_EPOCH, ROOT_HEAD, ROOT_NEXT, ROOT_SHAPE_LENGTH,
-};
-use page_format::layout::ROOT_MAGIC;
+use crate::layout::{FIRST_EPOCH, FIRST_SERIAL, PIECE, PIECES};
+use page_format::layout::SHAPE;
+use page_format::{Buffer, Root, Slots, put_root};
 use pss_base::{Bytes, Failed, NoMemory};
 use pss_disk::{Station, set_gate};
 use redo_journal::OPEN;
@@ -28,28 +28,39 @@ fn zeros(alloc: Global, count: usize) -> Result<Vec<u8>, NoMemory>
     Ok(vec![in alloc; 0; count]?)
 }
 
-// What stands behind the gate of the first root, up to the shape.
-#[tactic(auto, unfolding(crate::specs::inner::Blanks::root_head))]
-fn head_of(len: u32) -> [u8; ROOT_HEAD]
-    ensures { result ≡ root_head len }
+// The first root of a store: it has no page, and no serial was given.
+fn first_root(alloc: Global, shape: &Bytes) -> Result<Root, NoMemory>
+    ensures { IfOk result (λ root. root ≡ first_root shape.now) }
 {
-    let mut octets = [0; ROOT_HEAD];
-    octets[..ROOT_EPOCH].copy_from_slice(&ROOT_MAGIC);
-    octets[ROOT_EPOCH..ROOT_NEXT].copy_from_slice(&FIRST_EPOCH.to_be_bytes());
-    octets[ROOT_NEXT..ROOT_SHAPE_LENGTH].copy_from_slice(&FIRST_SERIAL.to_be_bytes());
-    octets[ROOT_SHAPE_LENGTH..ROOT_SHAPE_LENGTH + 4].copy_from_slice(&len.to_be_bytes());
-    octets
+    Ok(Root {
+        area: 0,
+        epoch: FIRST_EPOCH,
+        next: FIRST_SERIAL,
+        shape: shape.copy()?,
+        slots: Slots::new(alloc),
+    })
+}
+
+// What stands behind the gate of a root, which is one octet, up to its slots.
+fn octets_of(alloc: Global, root: &Root) -> Result<Buffer, NoMemory>
+    requires shape { length root.now.shape ≤ 65536 }
+    requires slots { length root.now.slots ≤ 8058 }
+    ensures { IfOk result (λ buffer. buffer.octets ≡ root_octets root.now) }
+{
+    let mut buffer = Buffer::of_size(alloc, SHAPE - 1 + root.shape.as_slice().len())?;
+    put_root(&mut buffer, root);
+    Ok(buffer)
 }
 
 // What stands behind the gate of the first root.
-fn first_root(alloc: Global, shape: &[u8]) -> Result<Bytes, NoMemory>
+fn first_octets(alloc: Global, shape: &Bytes) -> Result<Buffer, NoMemory>
     requires { length shape.now ≤ 65536 }
-    ensures { IfOk result (λ octets. octets ≡ first_root shape.now) }
+    ensures { IfOk result (λ buffer. buffer.octets ≡ root_octets (first_root shape.now)) }
 {
-    let mut octets = Bytes::with_room(alloc, ROOT_HEAD + shape.len())?;
-    octets.extend(&head_of(shape.len() as u32))?;
-    octets.extend(shape)?;
-    Ok(octets)
+    match first_root(alloc, shape) {
+        Ok(root) => octets_of(alloc, &root),
+        Err(NoMemory) => Err(NoMemory),
+    }
 }
 
 // Writes so many pieces of zero octets into an empty file.
@@ -90,10 +101,10 @@ fn make<W: Station>(w: &mut W, piece: &[u8], count: u32, root: &[u8]) -> Result<
 }
 
 /// Makes a store without objects in an empty file. `NoMemory`: nothing was written.
-pub fn write_new<W: Station>(alloc: Global, w: &mut W, shape: &[u8]) -> Result<(), InitFault>
+pub fn write_new<W: Station>(alloc: Global, w: &mut W, shape: &Bytes) -> Result<(), InitFault>
     requires short { length shape.now ≤ 65536 }
     requires empty { IfSome (W.content w.old) (λ c. length c ≡ 0) }
-    ensures made { OnOk result (IfSome (W.content w.new) (IsMade journal_end (first_root shape.now))) }
+    ensures made { OnOk result (IfSome (W.content w.new) (IsMade journal_end (root_octets (first_root shape.now)))) }
     ensures told { OnOk result (IsSome (W.content w.old) → IsSome (W.content w.new)) }
     ensures settled { OnOk result (IsSettled (W.content w.new) (W.now w.new)) }
     ensures never { result ≡ Err fault.NotEmpty → ⊥ }
@@ -101,7 +112,7 @@ pub fn write_new<W: Station>(alloc: Global, w: &mut W, shape: &[u8]) -> Result<(
     ensures silent { IsSilent W.now W.history W.speak_faults w.old w.new }
     ensures cause { HasCauseIf (W.disk_faults w.old) (W.disk_faults w.new) (is_init_disk_fault result) }
 {
-    let Ok(root) = first_root(alloc, shape) else {
+    let Ok(root) = first_octets(alloc, shape) else {
         return Err(InitFault::NoMemory);
     };
     let Ok(piece) = zeros(alloc, PIECE) else {

@@ -1,22 +1,13 @@
 // A body as octets.
 ghost use Rattle.std.specs.Prelude.{◌≡◌, ◌^◌, ◌<◌, ◌++◌, length, IfOk, OnOk};
 ghost use Rattle.std.specs.List.{AllByRecursion, flat_map};
-ghost use Rattle.pss_recovery.specs.Bodies.{HasLength, IsSpellable, Spells, change_head, change_octets, record_octets};
+ghost use Rattle.pss_recovery.specs.Bodies.{HasLength, IsSpellable, Spells, change_head, change_octets};
 
 use crate::body::Body;
 use crate::layout::{CHANGES, LENGTH, RECORD, SERIAL};
+use page_format::record_of;
 use pss_base::{Bytes, NoMemory, Put};
 use std::alloc::Global;
-
-// The record of a change, no octets where the object is removed.
-fn record_of(put: &Put) -> &[u8]
-    ensures { result.now ≡ record_octets put.now.bytes }
-{
-    match &put.bytes {
-        Some(bytes) => bytes.as_slice(),
-        None => &[],
-    }
-}
 
 // The head of a change.
 #[tactic(auto, unfolding(crate::specs::Bodies::change_head))]

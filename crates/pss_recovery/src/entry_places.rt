@@ -8,7 +8,7 @@ ghost use Rattle.page_format.specs.Pages.{ArePages, IsPage, entries_start, entry
 ghost use Rattle.page_format.specs.Places.{slot_start};
 ghost use Rattle.pss_recovery.specs.Loading.{entry_places};
 
-use crate::layout::{ENTRIES, ENTRY, ENTRY_COUNT, FIRST_SLOT, RECORD_LENGTH, SLOT};
+use page_format::layout::{ENTRIES, ENTRY_COUNT, FIRST_SLOT, PAGE, RECORD, RECORD_LENGTH};
 use pss_base::Failed;
 use pss_disk::Station;
 
@@ -33,13 +33,13 @@ fn place_in<W: Station>(w: &mut W, slot: u32, count: u64) -> Result<u64, Failed>
     ensures reads { OnlyReads W.now W.content W.history W.speak_faults w.old w.new }
     ensures cause { HasCause (W.disk_faults w.old) (W.disk_faults w.new) result }
 {
-    let end = FIRST_SLOT + slot as u64 * SLOT + SLOT;
-    let mut at = FIRST_SLOT + slot as u64 * SLOT + ENTRIES;
+    let end = FIRST_SLOT + slot as u64 * PAGE + PAGE;
+    let mut at = FIRST_SLOT + slot as u64 * PAGE + ENTRIES as u64;
     'entries: for k in 0..count {
-        if at + ENTRY > end {
+        if at + RECORD as u64 > end {
             return Ok(at);
         }
-        at += ENTRY + number_at(w, at + RECORD_LENGTH)? as u64;
+        at += RECORD as u64 + number_at(w, at + RECORD_LENGTH as u64)? as u64;
     }
     Ok(at)
 }
@@ -54,7 +54,7 @@ pub fn entry_place<W: Station>(w: &mut W, slots: &[u32], index: u64) -> Result<u
 {
     let mut left = index;
     for slot in slots {
-        let count = number_at(w, FIRST_SLOT + *slot as u64 * SLOT + ENTRY_COUNT)?;
+        let count = number_at(w, FIRST_SLOT + *slot as u64 * PAGE + ENTRY_COUNT as u64)?;
         if left < count as u64 {
             return place_in(w, *slot, left);
         }

@@ -7,8 +7,9 @@ pub fn a_body_is_one_thing()
     ensures { SpellsOneBody }
 {}
 
-/// Under a schema an image stands for at most one catalog and one next serial, is refused with at most one fault, and never
-/// both. So what a mount answers is the only answer. The function does nothing: its contract is the law.
+/// Under a sound schema octets either stand for a catalog and a next serial or are refused with a fault, and never both; the
+/// catalog, the next serial and the fault are one. So what a mount answers is the only answer. The function does nothing:
+/// its contract is the law.
 pub fn an_image_is_one_thing()
     ensures { IsImageOneThing }
 {}

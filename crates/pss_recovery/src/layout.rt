@@ -34,28 +34,6 @@ pub const RECORD: usize = 16;
 /// Where the body begins behind the gate of its record.
 pub const BODY: u64 = 13;
 
-//
-// | Offset behind the gate of a root area | What |
-// |---|---|
-// | 0 | `PSSROOT` |
-// | 7 | the epoch, 8 octets |
-// | 15 | the next serial, 8 octets |
-// | 23 | the length of the shape, 4 octets |
-// | 27 | the number of pages, 4 octets |
-// | 31 | the shape |
-
-/// Where the epoch stands behind the gate.
-pub const ROOT_EPOCH: usize = 7;
-
-/// Where the next serial stands behind the gate.
-pub const ROOT_NEXT: usize = 15;
-
-/// Where the length of the shape stands behind the gate.
-pub const ROOT_SHAPE_LENGTH: usize = 23;
-
-/// Where the shape begins behind the gate.
-pub const ROOT_HEAD: usize = 31;
-
 /// The epoch of the first root of a store.
 pub const FIRST_EPOCH: u64 = 1;
 
@@ -70,35 +48,3 @@ pub const PIECES: u32 = 34;
 
 /// The greatest sum over the objects of 16 and the length of the record.
 pub const MOST_OCTETS: u64 = 67108864;
-
-/// The greatest length of a record.
-pub const LONGEST_RECORD: usize = 8000;
-
-//
-// | Offset in a page | What |
-// |---|---|
-// | 20 | the number of its entries, 4 octets |
-// | 40 | the entries, one behind the other |
-//
-// | Offset in an entry | What |
-// |---|---|
-// | 4 | the length of the record, 4 octets |
-// | 16 | the record |
-
-/// The first slot for a page.
-pub const FIRST_SLOT: u64 = 4456448;
-
-/// The length of a slot.
-pub const SLOT: u64 = 16384;
-
-/// Where the number of entries stands in a page.
-pub const ENTRY_COUNT: u64 = 20;
-
-/// Where the entries begin in a page.
-pub const ENTRIES: u64 = 40;
-
-/// Where the length of the record stands in an entry.
-pub const RECORD_LENGTH: u64 = 4;
-
-/// Where the record begins in an entry.
-pub const ENTRY: u64 = 16;

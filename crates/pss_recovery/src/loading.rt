@@ -3,9 +3,10 @@ ghost use Rattle.std.specs.Prelude.{ℕ, ◌≡◌, ◌⊎◌, ◌<◌, ◌≤�
 ghost use Rattle.std.specs.FinMap.{insert};
 ghost use Rattle.std.specs.List.{AllByRecursion};
 ghost use Rattle.storage_home.specs.Kept.{IsKept, Keeping, most};
+ghost use Rattle.page_format.specs.Rows.{AreApart, weights};
 ghost use Rattle.pss_recovery.specs.inner.Adding.{HasHeld, IsAddable, IsOneMore, MayAdd, MayCome, MayMake, addition};
 ghost use Rattle.pss_recovery.specs.inner.Checks.{IsWrongAlone};
-ghost use Rattle.pss_recovery.specs.inner.Rowwise.{AreAll, AreApart, AreOver, AreSoFar, AreWithin, IsWrongAt, at_row, weights};
+ghost use Rattle.pss_recovery.specs.inner.Rowwise.{AreAll, AreOver, AreSoFar, AreWithin, IsWrongAt, at_row};
 ghost use Rattle.pss_recovery.specs.Loading.{most_octets};
 ghost use Rattle.pss_recovery.specs.declared.loading.LoadStop.TheVariants.{Total as TotalIsOver, Wrong as WrongRow};
 ghost use Rattle.pss_recovery.specs.declared.checking.RowStop.TheVariants.{Wrong};
@@ -67,12 +68,12 @@ fn keys_of_row(
     ensures right { IfOk result (λ keys. (M : Catalog) → IsKept schema.now M homes.now → IsAddable schema.now next M row.now keys) }
     ensures refused { (k : Kind) → result ≡ Err (Wrong k) → IsWrongAlone schema.now next row.now k ⊎ ((M : Catalog) → IsKept schema.now M homes.now → HasHeld schema.now next M row.now k) }
 {
-    let checked = match check_row(alloc, schema, row, next) {
-        Ok(checked) => checked,
+    let keys = match check_row(alloc, schema, row, next) {
+        Ok(keys) => keys,
         Err(stop) => return Err(stop),
     };
-    if are_free(homes, checked.keys.as_slice()) {
-        Ok(checked.keys)
+    if are_free(homes, keys.as_slice()) {
+        Ok(keys)
     } else {
         Err(RowStop::Wrong(DamageKind::Key))
     }

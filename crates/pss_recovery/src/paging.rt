@@ -17,8 +17,8 @@ ghost use Rattle.pss_recovery.specs.inner.Rowwise.{IsWrongAt};
 
 use crate::entry_places::entry_place;
 use crate::fault::MountFault;
-use crate::layout::ENTRY;
 use crate::loading::{LoadStop, load_rows};
+use page_format::layout::RECORD;
 use page_store::{Fetched, PageFault, Pages, Root};
 use pss_base::DamageKind;
 use pss_disk::Station;
@@ -51,7 +51,7 @@ fn offset_of(kind: DamageKind) -> u64
     ensures { result ≡ offset_of kind }
 {
     match kind {
-        DamageKind::Record => ENTRY,
+        DamageKind::Record => RECORD as u64,
         _ => 0,
     }
 }

@@ -69,7 +69,7 @@ impl Store {
         ensures cause { HasCauseIf (W.disk_faults w.old) (W.disk_faults w.new) (is_init_disk_fault result) }
     {
         match w.len() {
-            Ok(0) => write_new(alloc, w, shape.as_slice()),
+            Ok(0) => write_new(alloc, w, shape),
             Ok(_) => Err(InitFault::NotEmpty),
             Err(_) => Err(InitFault::DiskFault),
         }

@@ -41,7 +41,7 @@ fn replay_from<W: Station>(
 }
 
 /// Reads the journal of an epoch: the bodies of its records, up to the first gate that is not open, or that is the
-/// first one and has another epoch. It is read in pieces of 131,072 octets; each length is tested before it makes room.
+/// first one and has another epoch. It is read in pieces of 131,072 octets.
 pub fn replay<W: Station>(alloc: Global, w: &mut W, epoch: u64) -> Result<Replay, ReplayFault>
     ensures held { IfOk result (λ replay. IfSome (W.content w.old) (Holds (record { end = replay.end; epoch = epoch }) replay.bodies)) }
     ensures within { IfOk result (λ replay. (journal_start ≤ replay.end) × (replay.end < journal_end)) }

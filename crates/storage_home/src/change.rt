@@ -101,7 +101,7 @@ impl Changes {
         }
     }
 
-    /// None, with room for so many.
+    /// None, to which so many are to be added.
     pub fn with_capacity(alloc: Global, count: usize) -> Result<Changes, NoMemory>
         ensures { IfOk result (λ changes. changes ≡ []) }
     {

@@ -12,7 +12,7 @@ use Rattle.storage_home.specs.declared.change.Change.{Change}
 use Rattle.storage_home.specs.declared.homes.Homes.{Homes}
 use Rattle.storage_home.specs.Applied.{AreChanges, AreKeysOf, AreNamed}
 use Rattle.storage_home.specs.Kept.{IsKept, most}
-use Rattle.pss_recovery.specs.Bodies.{record_octets}
+use Rattle.page_format.specs.Objects.{octets_left}
 use Rattle.pss_recovery.specs.Loading.{IsFree, IsRow, IsStored, RefersBelow}
 
 -- the change that adds an object which holds these keys
@@ -48,7 +48,7 @@ pub record MayCome (S : Schema) (M : Catalog) (homes : Homes) (row : Put) : Type
   pub kept : IsKept S M homes
   pub none : get M row.serial ≡ None
   pub unique : IsUnique S M
-  pub bounded : total S M + (16 + length (record_octets row.bytes)) ≤ most
+  pub bounded : total S M + (16 + length (octets_left row.bytes)) ≤ most
 
 -- the row has an object that may come behind those that are there, and holds these keys
 pub record IsAddable (S : Schema) (next : ℕ) (M : Catalog) (row : Put) (keys : List (KeyNo × List ℕ)) : Type 0 where

@@ -1,8 +1,9 @@
 -- One row of a store's pages, by itself.
-use Rattle.std.specs.Prelude.{ℕ, ◌≡◌, ◌⊎◌, List, None, IsSome, ⊤}
+use Rattle.std.specs.Prelude.{ℕ, ◌≡◌, ◌⊎◌, List, None, Some, IsSome, ⊤}
 use Rattle.pss_base.specs.declared.put.Put.{Put}
 use Rattle.pss_base.specs.declared.damage.DamageKind.{DamageKind}
 use Rattle.pss_base.specs.declared.damage.DamageKind.TheVariants as kind
+use Rattle.type_layout.specs.declared.key.KeyNo.{KeyNo}
 use Rattle.type_layout.specs.declared.schema.Schema.{Schema}
 use Rattle.type_layout.specs.Types.{PlainMember, PlainValue}
 use Rattle.type_layout.specs.Schemas.{home_at}
@@ -10,6 +11,7 @@ use Rattle.type_layout.specs.ShapeText.{shape_text}
 use Rattle.type_layout.specs.Spelling.{record_spelling}
 use Rattle.type_layout.specs.Values.{IsRecord}
 use Rattle.pss_catalog.specs.Catalog.{Object}
+use Rattle.storage_home.specs.Applied.{AreKeysOf}
 use Rattle.pss_recovery.specs.declared.fault.MountFault.{MountFault}
 use Rattle.pss_recovery.specs.declared.fault.MountFault.TheVariants as fault
 use Rattle.pss_recovery.specs.Loading.{IsStored, RefersBelow}
@@ -28,6 +30,13 @@ AreNoRecord members octets = (values : List PlainValue) → IsRecord members val
 -- the object of a row whose record has these values
 abbrev pub object_of : Put → List PlainValue → Object
 object_of row values = record { home = record { 0 = row.home }; values = values }
+
+-- a row is right without regard to others, and its object holds these keys
+pub record IsRightAlone (S : Schema) (next : ℕ) (row : Put) (keys : List (KeyNo × List ℕ)) : Type 0 where
+  pub object : Object
+  pub stored : IsStored S row object
+  pub refers : RefersBelow next object
+  pub keys_ : AreKeysOf S (Some object) keys
 
 -- what is wrong with a row without regard to others
 abbrev pub IsWrongAlone : Schema → ℕ → Put → DamageKind → Type 0

@@ -1,5 +1,5 @@
 -- The rows that were loaded so far.
-use Rattle.std.specs.Prelude.{ℕ, ◌≡◌, ◌⊎◌, ◌+◌, ◌<◌, ◌≤◌, List, [], ◌∷◌, ◌++◌, length, take, None, Some, IsSome}
+use Rattle.std.specs.Prelude.{ℕ, ◌≡◌, ◌⊎◌, ◌+◌, ◌<◌, ◌≤◌, List, ◌++◌, length, take, None, Some, IsSome}
 use Rattle.std.specs.List.{AllByRecursion, slice_get}
 use Rattle.std.specs.FinMap.{empty, get}
 use Rattle.pss_base.specs.declared.put.Put.{Put}
@@ -8,7 +8,7 @@ use Rattle.type_layout.specs.declared.schema.Schema.{Schema}
 use Rattle.pss_catalog.specs.Catalog.{Catalog, IsUnique, total}
 use Rattle.storage_home.specs.declared.homes.Homes.{Homes}
 use Rattle.storage_home.specs.Kept.{IsKept, most}
-use Rattle.pss_recovery.specs.Bodies.{record_octets}
+use Rattle.page_format.specs.Rows.{AreApart, weights}
 use Rattle.pss_recovery.specs.Loading.{AreLoaded, most_octets}
 use Rattle.pss_recovery.specs.declared.loading.LoadStop.{LoadStop}
 use Rattle.pss_recovery.specs.declared.loading.LoadStop.TheVariants as load
@@ -16,16 +16,6 @@ use Rattle.pss_recovery.specs.declared.checking.RowStop.{RowStop}
 use Rattle.pss_recovery.specs.declared.checking.RowStop.TheVariants as row_stop
 use Rattle.pss_recovery.specs.inner.Adding.{HasHeld}
 use Rattle.pss_recovery.specs.inner.Checks.{IsWrongAlone}
-
--- the octets of the records, and 16 for each
-abbrev pub weights : List Put → ℕ
-weights [] = 0
-weights (row ∷ rows) = 16 + length (record_octets row.bytes) + weights rows
-
--- each has another serial than those behind it
-abbrev pub AreApart : List Put → Type 0
-AreApart [] = Unit {0}
-AreApart (row ∷ rows) = AllByRecursion (λ other. row.serial ≡ other.serial → ⊥) rows × AreApart rows
 
 -- these rows may come behind those that are there
 pub record MayComeAll (M : Catalog) (rows : List Put) : Type 0 where

@@ -1,8 +1,5 @@
-use Rattle.pss_recovery.proofs.Paged.{apart_same, few_octets, has_loaded, stop_refused, stop_told}
+use Rattle.pss_recovery.proofs.Paged.{few_octets, has_loaded, stop_refused, stop_told}
 use Rattle.pss_recovery.proofs.paging.load_fetched.Goals as goal
-
-pub load_rows-requires-clause-apart : goal.load_rows-requires-clause-apart
-load_rows-requires-clause-apart g c = apart_same c.args.fetched.rows c.requires.rows.apart
 
 pub load_rows-requires-clause-small : goal.load_rows-requires-clause-small
 load_rows-requires-clause-small g c = few_octets c.args.root.now c.args.fetched.rows c.requires.limits c.requires.rows

@@ -1,7 +1,8 @@
-use Rattle.std.proofs.Common.{ℕ, ◌≤◌, List, length, Option, IsSome, ◌∙◌, subst, sym}
+use Rattle.std.proofs.Common.{ℕ, List, Option, IsSome, subst}
 use Rattle.std.specs.Prelude.{OnOk}
 use Rattle.pss_disk.proofs.Reading.{reads_then}
 use Rattle.page_format.proofs.Buffers.{some_all}
+use Rattle.page_format.specs.Written.{root_octets}
 use Rattle.pss_recovery.specs.inner.Blanks.{IsMade, first_root}
 use Rattle.pss_recovery.proofs.Blank.{made_stands}
 use Rattle.pss_recovery.proofs.NewStore.{new_store}
@@ -10,8 +11,7 @@ use Rattle.pss_recovery.proofs.store.Store.init.Goals as goal
 
 pub returns-in-Ok-eq0-clause-made : goal.returns-in-Ok-eq0-clause-made
 returns-in-Ok-eq0-clause-made g c =
-    made_stands c.write_new.result (g.W.Station.content c.write_new.new.w) (IsMade 4456448 (first_root c.as_slice.result.now)) _ _
-    (λ image made S is. new_store S c.as_slice.result.now image (is ∙ sym c.as_slice.ensures) (subst (λ (l : List ℕ). length l ≤ 65536) (sym c.as_slice.ensures) c.requires) made) c.write_new.ensures.made
+    made_stands c.write_new.result (g.W.Station.content c.write_new.new.w) (IsMade 4456448 (root_octets (first_root c.args.shape.now))) _ _ (λ image made S is. new_store S c.args.shape.now image is c.requires made) c.write_new.ensures.made
 
 pub returns-in-Ok-eq0-clause-silent : goal.returns-in-Ok-eq0-clause-silent
 returns-in-Ok-eq0-clause-silent g c =

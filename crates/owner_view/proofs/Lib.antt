@@ -23,8 +23,10 @@ pub mod Roots
 pub mod Merging
 pub mod Told
 pub mod Ordered
+pub mod Places
 pub mod Putting
 pub mod OneOwner
 pub mod Outcomes
+pub mod Summing
 pub mod Weighing
 pub mod Lengths

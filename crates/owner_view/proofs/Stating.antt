@@ -14,7 +14,7 @@ get-with_told : (state : Option (Option Object)) (s q : ℕ) (c : Changes) → g
 get-with_told None s q c = get-remove nat_cmp_total c s q
 get-with_told (Some state) s q c = get-insert nat_cmp_total c s state q
 
-cond-state : (b : Bool) (x y : Option Slot) → given (cond b x y) None slot_state ≡ cond b (given x None slot_state) (given y None slot_state)
+pub cond-state : (b : Bool) (x y : Option Slot) → given (cond b x y) None slot_state ≡ cond b (given x None slot_state) (given y None slot_state)
 cond-state true x y = refl
 cond-state false x y = refl
 

@@ -7,13 +7,12 @@ use Rattle.std.specs.Option.{option_map, option_to_list}
 use Rattle.std.proofs.lemmas.Bool.Decides.{nat_tests}
 use Rattle.pss_base.specs.declared.pid.Pid.{Pid}
 use Rattle.type_layout.specs.Schemas.{given}
-use Rattle.pss_catalog.specs.Catalog.{Object, Catalog}
+use Rattle.pss_catalog.specs.Catalog.{Object}
 use Rattle.pss_catalog.specs.Changes.{Change}
 use Rattle.pss_machine.specs.Changes.{Changes, change_of, listed}
 use Rattle.owner_view.specs.declared.states.Slot.{Slot}
 use Rattle.owner_view.specs.Merging.{before, onward, past, passing_at, merged}
 use Rattle.owner_view.specs.States.{slot_at, slot_state, state_at, with_told, changes_of}
-use Rattle.owner_view.specs.Views.{one_where, gained, lost}
 use Rattle.owner_view.proofs.Merging.{Rises, change_put}
 use Rattle.owner_view.proofs.Stating.{get-changes_of}
 
@@ -97,33 +96,6 @@ fewer_told (e ∷ es) = by (slot_state e.1) (fewer_told es)
     by : (o : Option (Option Object)) → length (told_in es) ≤ length es → length (given o (told_in es) (λ state. record { serial = e.0; state = state } ∷ told_in es)) ≤ suc (length es)
     by None rest = omega (arith, rest)
     by (Some state) rest = omega (arith, rest)
-
--- ---- what they bring to a number of objects, and what they take
-
-module _ (test : Object → Bool) where
-  gained_more : (e : ℕ × Slot) (es : Slots) → gained test (told_in (e ∷ es)) ≡ given (slot_state e.1) 0 (one_where test) + gained test (told_in es)
-  gained_more e es = by (slot_state e.1)
-    where
-      by : (o : Option (Option Object)) → gained test (given o (told_in es) (λ state. record { serial = e.0; state = state } ∷ told_in es)) ≡ given o 0 (one_where test) + gained test (told_in es)
-      by None = omega arith
-      by (Some state) = refl
-
-  lost_more : (M : Catalog) (e : ℕ × Slot) (es : Slots) → lost test M (told_in (e ∷ es)) ≡ given (slot_state e.1) 0 (λ state. one_where test (get M e.0)) + lost test M (told_in es)
-  lost_more M e es = by (slot_state e.1)
-    where
-      by : (o : Option (Option Object)) → lost test M (given o (told_in es) (λ state. record { serial = e.0; state = state } ∷ told_in es)) ≡ given o 0 (λ state. one_where test (get M e.0)) + lost test M (told_in es)
-      by None = omega arith
-      by (Some state) = refl
-
-  pub gained_turn : (e : ℕ × Slot) (es fs : Slots) (n x all : ℕ) → es ≡ e ∷ fs → x ≡ given (slot_state e.1) 0 (one_where test) → n + gained test (told_in es) ≡ all → n + x + gained test (told_in fs) ≡ all
-  gained_turn e es fs n x all is one so_far =
-      let more : gained test (told_in es) ≡ given (slot_state e.1) 0 (one_where test) + gained test (told_in fs) = ap (λ (l : Slots). gained test (told_in l)) is ∙ gained_more e fs in
-      omega (arith, one, so_far, more)
-
-  pub lost_turn : (M : Catalog) (e : ℕ × Slot) (es fs : Slots) (n x all : ℕ) → es ≡ e ∷ fs → x ≡ given (slot_state e.1) 0 (λ state. one_where test (get M e.0)) → n + lost test M (told_in es) ≡ all → n + x + lost test M (told_in fs) ≡ all
-  lost_turn M e es fs n x all is one so_far =
-      let more : lost test M (told_in es) ≡ given (slot_state e.1) 0 (λ state. one_where test (get M e.0)) + lost test M (told_in fs) = ap (λ (l : Slots). lost test M (told_in l)) is ∙ lost_more M e fs in
-      omega (arith, one, so_far, more)
 
 -- ---- what they leave of an extent
 

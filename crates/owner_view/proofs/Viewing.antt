@@ -12,9 +12,14 @@ use Rattle.type_layout.specs.declared.schema.Schema.{Schema}
 use Rattle.pss_catalog.specs.Catalog.{Object, Catalog, has}
 use Rattle.pss_machine.specs.Changes.{Changes}
 use Rattle.owner_view.specs.declared.seen.Seen.{Seen}
+use Rattle.owner_view.specs.declared.view.View.{View}
 use Rattle.owner_view.specs.Views.{seen_with, IsHolder, IsOwnHolder}
-use Rattle.owner_view.specs.Stored.{IsSeenAt}
+use Rattle.owner_view.specs.Stored.{Sees, Shows, IsSeenAt}
 use Rattle.owner_view.proofs.Holding.{seen_at}
+
+-- what is known without regard to keys
+abbrev pub shows_of : {C : Type 0} {shows : C → Schema → Catalog → Type 0} {view : View C} → Sees shows view → Shows shows view
+shows_of v = record { catalog = v.catalog; sound = v.sound; shown = v.shown; fits = v.fits }
 
 -- what was not changed is seen as it was committed
 pub untouched : (S : Schema) (M : Catalog) (c : Changes) (s : ℕ) (o : Option Seen) → get c s ≡ None → IsSeenAt S M s o → IsSeenAt S (seen_with M c) s o

@@ -1,11 +1,11 @@
 -- What an owner sees, from what was committed and from what it changed.
-use Rattle.std.specs.Prelude.{ℕ, ◌+◌, ◌≡◌, List, [], ◌∷◌, Option, Some, None, Bool, true, false, not, ◌==◌, if◌then◌else◌}
+use Rattle.std.specs.Prelude.{ℕ, ◌≡◌, List, Option, Some, None, Bool, true, false, not, ◌==◌, if◌then◌else◌}
 use Rattle.std.specs.List.{list_any}
 use Rattle.std.specs.FinMap.{get, contains_key}
 use Rattle.type_layout.specs.declared.key.KeyNo.{KeyNo}
 use Rattle.type_layout.specs.declared.schema.Schema.{Schema}
 use Rattle.pss_catalog.specs.Catalog.{Object, Catalog, holds, holders}
-use Rattle.pss_catalog.specs.Changes.{Change, over}
+use Rattle.pss_catalog.specs.Changes.{over}
 use Rattle.pss_machine.specs.Changes.{Changes, listed}
 
 -- the catalog with an owner's changes
@@ -33,19 +33,8 @@ holder_of changes None (Some s) = if contains_key changes s then None else Some 
 -- ---- numbers of objects
 
 -- 1 for an object that passes a test
-abbrev pub one_where : (Object → Bool) → Option Object → ℕ
-one_where test None = 0
-one_where test (Some object) = if test object then 1 else 0
-
--- how many changes leave an object that passes a test
-abbrev pub gained : (Object → Bool) → List Change → ℕ
-gained test [] = 0
-gained test (c ∷ cs) = one_where test c.state + gained test cs
-
--- how many changes are of an object that passed it
-abbrev pub lost : (Object → Bool) → Catalog → List Change → ℕ
-lost test M [] = 0
-lost test M (c ∷ cs) = one_where test (get M c.serial) + lost test M cs
+abbrev pub one_where : (Object → Bool) → Object → ℕ
+one_where test object = if test object then 1 else 0
 
 -- ---- keys of other objects
 

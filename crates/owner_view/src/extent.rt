@@ -32,7 +32,7 @@ pub fn count<C: Committed>(
     requires { Sees C.shows view.now }
     ensures { IfOk result (λ step. (v : Sees C.shows view.now) → IsStep view.now.schema.now level (seen_with v.catalog (changes_in view.now.overlay.now)) (Ask (Count home)) step) }
 {
-    let number = number_in(view, home)?;
+    let number = number_in(view, home);
     let needs = needs_of_extents(alloc, view, level, home)?;
     Ok(answered(needs, Answer::Count(number)))
 }
@@ -47,7 +47,7 @@ pub fn list<C: Committed>(
     requires { Sees C.shows view.now }
     ensures { IfOk result (λ step. (v : Sees C.shows view.now) → IsStep view.now.schema.now level (seen_with v.catalog (changes_in view.now.overlay.now)) (Ask (ListOf home)) step) }
 {
-    let number = number_in(view, home)?;
+    let number = number_in(view, home);
     let needs = needs_of_extents(alloc, view, level, home)?;
     match first_in(alloc, view, home) {
         Ok(first) => Ok(answered(needs, Answer::List(number, first))),

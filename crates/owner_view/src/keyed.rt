@@ -4,13 +4,18 @@ ghost use Rattle.type_layout.specs.Sound.{IsSoundSchema};
 ghost use Rattle.owner_view.specs.Seen.{IsShown};
 ghost use Rattle.owner_view.specs.Keyed.{all_keyed};
 
-use crate::seen::{Seen, home_of};
+use crate::seen::Seen;
 use pss_base::{Bytes, NoMemory};
 use std::alloc::Global;
 use storage_home::{keys_of_octets, keys_of_record};
-use type_layout::{KeyNo, Schema, keys_at};
+use type_layout::{KeyNo, Schema};
 
-fn keyed_by(alloc: Global, schema: &Schema, seen: Seen<'_>) -> Result<Vec<(KeyNo, Bytes)>, NoMemory>
+/// All keys of an object.
+pub fn keyed_of(
+    alloc: Global,
+    schema: &Schema,
+    seen: Seen<'_>,
+) -> Result<Vec<(KeyNo, Bytes)>, NoMemory>
     requires sound { IsSoundSchema schema.now }
     requires shown { IsShown schema.now seen }
     ensures { IfOk result (λ pairs. (s : IsShown schema.now seen.entry) → pairs.items ≡ all_keyed schema.now s.object) }
@@ -24,22 +29,4 @@ fn keyed_by(alloc: Global, schema: &Schema, seen: Seen<'_>) -> Result<Vec<(KeyNo
             &object.record,
         )?.into_vec()),
     }
-}
-
-/// All keys of an object. Most homes have none, and then there is nothing to list.
-#[inline(always)]
-pub fn keyed_of(
-    alloc: Global,
-    schema: &Schema,
-    seen: Seen<'_>,
-) -> Result<Vec<(KeyNo, Bytes)>, NoMemory>
-    requires sound { IsSoundSchema schema.now }
-    requires shown { IsShown schema.now seen }
-    ensures { IfOk result (λ pairs. (s : IsShown schema.now seen.entry) → pairs.items ≡ all_keyed schema.now s.object) }
-{
-    let keys = keys_at(schema, home_of(seen));
-    if keys.is_empty() {
-        return Ok(Vec::new(alloc));
-    }
-    keyed_by(alloc, schema, seen)
 }

@@ -1,86 +1,61 @@
 // How many objects of a home a view has.
-ghost use Rattle.std.specs.Prelude.{◌≡◌, ◌≤◌, ◌<◌, ◌^◌, length, IfOk, if◌then◌else◌};
-ghost use Rattle.std.specs.FinMap.{get};
-ghost use Rattle.type_layout.specs.Schemas.{descends, given};
+ghost use Rattle.std.specs.Prelude.{◌≡◌, ◌≤◌, ◌<◌, ◌+◌, ◌^◌, length, if◌then◌else◌};
+ghost use Rattle.type_layout.specs.Schemas.{descends};
 ghost use Rattle.storage_home.specs.Kept.{is_of};
-ghost use Rattle.pss_machine.specs.Changes.{listed};
 ghost use Rattle.pss_machine.specs.Homes.{extent};
 ghost use Rattle.owner_view.specs.Overlay.{changes_in};
-ghost use Rattle.owner_view.specs.States.{told_state, AreInOrder};
+ghost use Rattle.owner_view.specs.States.{told_state};
 ghost use Rattle.owner_view.specs.Stored.{Sees};
-ghost use Rattle.owner_view.specs.Views.{seen_with, one_where, gained, lost};
+ghost use Rattle.owner_view.specs.Views.{seen_with, one_where};
+ghost use Rattle.owner_view.specs.Weights.{weight_at, Moves};
 
 use crate::committed::Committed;
 use crate::states::Told;
 use crate::view::{View, is_below};
-use pss_base::NoMemory;
 use type_layout::HomeNo;
 
-/// The number of the objects of a home and of those derived from it: those that were committed, with
-/// what the owner's changes bring and without what they take away.
-pub fn number_in<C: Committed>(view: &View<'_, C>, home: HomeNo) -> Result<u64, NoMemory>
+/// The number of the objects of a home and of those derived from it: those that were committed, with what the owner's changes
+/// bring and without what they take away. It takes no memory. It goes from the last slot to the first: each is one change more of
+/// what is seen with those behind it.
+pub fn number_in<C: Committed>(view: &View<'_, C>, home: HomeNo) -> u64
     requires { Sees C.shows view.now }
-    ensures { IfOk result (λ number. (v : Sees C.shows view.now) → number ≡ length (extent view.now.schema.now (seen_with v.catalog (changes_in view.now.overlay.now)) home)) }
+    ensures { (v : Sees C.shows view.now) → result ≡ length (extent view.now.schema.now (seen_with v.catalog (changes_in view.now.overlay.now)) home) }
 {
-    let serials = view.overlay.in_order()?;
-    let balance = balance_of(view, home, &serials);
-    Ok(view.committed.number(home) + balance.gained - balance.lost)
+    let mut number = view.committed.number(home);
+    for place in (0..view.overlay.count()).rev() {
+        let (serial, told) = view.overlay.slot_in(place);
+        number = moved(view, home, serial, told, number);
+    }
+    number
 }
 
-// How many changes leave an object of a home, and how many are of an object that was one.
-#[derive(Clone, Copy, Drop)]
-struct Balance {
-    gained: u64,
-    lost: u64,
-}
-
-fn balance_of<C: Committed>(view: &View<'_, C>, home: HomeNo, serials: &[u64]) -> Balance
+// The number with what was made of the object with a serial. There are fewer than 2^63 of these, so it stays small.
+fn moved<C: Committed>(
+    view: &View<'_, C>,
+    home: HomeNo,
+    serial: u64,
+    told: Told<'_>,
+    number: u64,
+) -> u64
     requires sees { Sees C.shows view.now }
-    requires few { length serials.now < 2 ^ 63 }
-    requires order { AreInOrder view.now.overlay.now.states.table.entries serials.now }
-    ensures gained { result.gained ≡ gained (is_of view.now.schema.now home) (listed (changes_in view.now.overlay.now)) }
-    ensures lost { (v : Sees C.shows view.now) → result.lost ≡ lost (is_of view.now.schema.now home) v.catalog (listed (changes_in view.now.overlay.now)) }
-    ensures small { result.gained < 2 ^ 63 }
-{
-    let mut balance = Balance { gained: 0, lost: 0 };
-    for serial in serials {
-        let told = view.overlay.told(*serial);
-        balance.gained += gain(view, home, told);
-        balance.lost += loss(view, home, *serial, told);
-    }
-    balance
-}
-
-// 1 where it became an object of the home.
-fn gain<C: Committed>(view: &View<'_, C>, home: HomeNo, told: Told<'_>) -> u64
-    requires { Sees C.shows view.now }
-    ensures value { result ≡ given (told_state told.entry) 0 (one_where (is_of view.now.schema.now home)) }
-    ensures small { result ≤ 1 }
+    requires part { (v : Sees C.shows view.now) → weight_at (one_where (is_of view.now.schema.now home)) v.catalog serial ≤ number }
+    requires small { number < 2 ^ 63 + 2 ^ 60 }
+    ensures moves { (v : Sees C.shows view.now) → Moves (one_where (is_of view.now.schema.now home)) v.catalog serial (told_state told.entry) number result }
+    ensures small { result ≤ number + 1 }
 {
     match told {
-        Told::Untouched => 0,
-        Told::Gone => 0,
-        Told::There(object) => one_below(view, object.home, home),
+        Told::Untouched => number,
+        Told::Gone => number - committed_at(view, home, serial),
+        Told::There(object) => {
+            number - committed_at(view, home, serial) + one_below(view, object.home, home)
+        }
     }
 }
 
-// 1 where an object of the home was committed, of which something was made.
-fn loss<C: Committed>(view: &View<'_, C>, home: HomeNo, serial: u64, told: Told<'_>) -> u64
-    requires { Sees C.shows view.now }
-    ensures value { (v : Sees C.shows view.now) → result ≡ given (told_state told.entry) 0 (λ state. one_where (is_of view.now.schema.now home) (get v.catalog serial)) }
-    ensures small { result ≤ 1 }
-{
-    match told {
-        Told::Untouched => 0,
-        Told::Gone => committed_at(view, home, serial),
-        Told::There(_) => committed_at(view, home, serial),
-    }
-}
-
+// 1 where an object of the home was committed at a serial.
 fn committed_at<C: Committed>(view: &View<'_, C>, home: HomeNo, serial: u64) -> u64
     requires { Sees C.shows view.now }
-    ensures value { (v : Sees C.shows view.now) → result ≡ one_where (is_of view.now.schema.now home) (get v.catalog serial) }
-    ensures small { result ≤ 1 }
+    ensures { (v : Sees C.shows view.now) → result ≡ weight_at (one_where (is_of view.now.schema.now home)) v.catalog serial }
 {
     match view.committed.object(serial) {
         Some((found, _)) => one_below(view, found, home),

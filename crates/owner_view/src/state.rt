@@ -5,13 +5,12 @@ ghost use Rattle.std.specs.FinMap.{get};
 ghost use Rattle.type_layout.specs.Sound.{IsSoundSchema};
 ghost use Rattle.owner_view.specs.Overlay.{changes_in};
 ghost use Rattle.owner_view.specs.Seen.{IsShown};
-ghost use Rattle.owner_view.specs.Stored.{Shows, IsSeenAt};
+ghost use Rattle.owner_view.specs.Stored.{Shows};
 ghost use Rattle.owner_view.specs.Views.{seen_with};
 
 use crate::committed::Committed;
 use crate::seen::{Seen, record_of};
-use crate::states::Told;
-use crate::view::{View, stored_at};
+use crate::view::{View, object_at};
 use pss_base::NoMemory;
 use std::alloc::Global;
 use type_layout::{Record, Schema};
@@ -25,20 +24,9 @@ pub fn state_at<C: Committed>(
     requires { Shows C.shows view.now }
     ensures { IfOk result (λ made. (v : Shows C.shows view.now) → made ≡ option_map (λ object. object.values) (get (seen_with v.catalog (changes_in view.now.overlay.now)) serial)) }
 {
-    match seen_at(view, serial) {
+    match object_at(view, serial) {
         Some(seen) => some_record(alloc, view.schema, seen),
         None => Ok(None),
-    }
-}
-
-fn seen_at<'a, C: Committed>(view: &View<'a, C>, serial: u64) -> Option<Seen<'a>>
-    requires { Shows C.shows view.now }
-    ensures { (v : Shows C.shows view.now) → IsSeenAt view.now.schema.now (seen_with v.catalog (changes_in view.now.overlay.now)) serial result }
-{
-    match view.overlay.told(serial) {
-        Told::Untouched => stored_at(view.committed, serial),
-        Told::Gone => None,
-        Told::There(object) => Some(Seen::Own(object)),
     }
 }
 

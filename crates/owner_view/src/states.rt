@@ -1,5 +1,5 @@
 // The states to which objects were changed, by serial.
-ghost use Rattle.std.specs.Prelude.{◌≡◌, ◌++◌, ◌<◌, ◌^◌, [], ◌∷◌, Some, None, length, nat_eq, is_some, IfOk, IfSome, OnOk, IsSome};
+ghost use Rattle.std.specs.Prelude.{◌≡◌, ◌++◌, ◌<◌, ◌^◌, [], ◌∷◌, Some, None, true, length, nat_eq, is_some, IfOk, IfSome, OnOk, IsSome};
 ghost use Rattle.std.specs.Option.{option_map, option_to_list};
 ghost use Rattle.type_layout.specs.declared.schema.Schema.{Schema};
 ghost use Rattle.owner_view.specs.Sized.{IsSlotSized, AreSized, IsToldSized};
@@ -197,17 +197,42 @@ fn add(states: &mut States, serial: u64) -> Result<(), NoMemory>
     Ok(())
 }
 
-/// Puts a state at a serial, and tells whether one stood there.
+// Whether a serial stands at a place of the table.
+fn stands_at(table: &Table, place: usize, serial: u64) -> bool
+    ensures { result ≡ true → IsSlot table.now.entries place serial (state_at serial table.now.entries) }
+{
+    match table.get_index(place) {
+        Some((there, _)) => *there == serial,
+        None => false,
+    }
+}
+
+// The place of a serial that has a slot. Where it is this one, it is not hashed.
+fn known_place(table: &Table, last: usize, serial: u64) -> usize
+    requires { IsSome (slot_at serial table.now.entries) }
+    ensures { IsSlot table.now.entries result serial (state_at serial table.now.entries) }
+{
+    if stands_at(table, last, serial) {
+        return last;
+    }
+    match table.get_full(&serial) {
+        Some((place, _, _)) => place,
+        None => unreachable!(),
+    }
+}
+
+/// Puts a state at a serial, and tells whether one stood there. Where its slot is the one found last, it is not hashed.
 pub fn put(states: &mut States, serial: u64, slot: Slot) -> bool
     requires { IsSome (slot_at serial states.old.table.entries) }
     ensures before { result ≡ is_some (state_at serial states.old.table.entries) }
     ensures turned { TurnsState states.old.table.entries states.new.table.entries serial (slot_state slot) }
     ensures sized { (S : Schema) → AreSized S states.old.table.entries → IsSlotSized S (Some slot) → AreSized S states.new.table.entries }
 {
-    match states.table.get_mut(&serial) {
-        Some(place) => {
-            let before = stands(place);
-            *place = slot;
+    let place = known_place(&states.table, states.last.get(), serial);
+    match states.table.get_index_mut(place) {
+        Some(there) => {
+            let before = stands(there);
+            *there = slot;
             before
         }
         None => unreachable!(),

@@ -7,7 +7,7 @@ ghost use Rattle.pss_catalog.specs.Catalog.{Catalog, Object, has as has_in};
 ghost use Rattle.pss_machine.specs.Alone.{first_gone as first_gone_in, object_of as object_in};
 ghost use Rattle.owner_view.specs.Overlay.{changes_in};
 ghost use Rattle.owner_view.specs.Views.{seen_with, IsHolder, holder_of, is_held_by_other};
-ghost use Rattle.owner_view.specs.Stored.{Sees, IsSeenAt, IsSeenAs};
+ghost use Rattle.owner_view.specs.Stored.{Sees, Shows, IsSeenAt, IsSeenAs};
 ghost use Rattle.owner_view.specs.Seen.{Fits, IsSeen};
 
 use crate::committed::Committed;
@@ -34,8 +34,8 @@ pub struct Found<'a> {
 
 /// The object with a serial, where the view has one.
 pub fn object_at<'a, C: Committed>(view: &View<'a, C>, serial: u64) -> Option<Seen<'a>>
-    requires { Sees C.shows view.now }
-    ensures { (v : Sees C.shows view.now) → IsSeenAt view.now.schema.now (seen_with v.catalog (changes_in view.now.overlay.now)) serial result }
+    requires { Shows C.shows view.now }
+    ensures { (v : Shows C.shows view.now) → IsSeenAt view.now.schema.now (seen_with v.catalog (changes_in view.now.overlay.now)) serial result }
 {
     match view.overlay.told(serial) {
         Told::Untouched => stored_at(view.committed, serial),

@@ -10,7 +10,7 @@ ghost use Rattle.owner_view.specs.Sized.{IsSized, IsToldSized, AreSized};
 ghost use Rattle.owner_view.specs.States.{told_state};
 ghost use Rattle.owner_view.specs.Stored.{Shows};
 ghost use Rattle.owner_view.specs.Views.{seen_with};
-ghost use Rattle.owner_view.specs.Weights.{reckoned, reckoned_at, all_reckoned, Moves};
+ghost use Rattle.owner_view.specs.Weights.{weight_at, sum_of, Moves, reckoned};
 
 use crate::committed::Committed;
 use crate::object::Changed;
@@ -36,7 +36,7 @@ pub fn total_with<C: Committed>(view: &View<'_, C>) -> u128
 fn total_reckoned<C: Committed>(view: &View<'_, C>) -> u128
     requires shows { Shows C.shows view.now }
     requires sized { AreSized view.now.schema.now (slots_in view.now.overlay.now) }
-    ensures { (v : Shows C.shows view.now) → result ≡ all_reckoned view.now.schema.now (seen_with v.catalog (changes_in view.now.overlay.now)) }
+    ensures { (v : Shows C.shows view.now) → result ≡ sum_of (reckoned view.now.schema.now) (seen_with v.catalog (changes_in view.now.overlay.now)) }
 {
     let mut total = view.committed.total() as u128;
     for place in (0..view.overlay.count()).rev() {
@@ -50,9 +50,9 @@ fn total_reckoned<C: Committed>(view: &View<'_, C>) -> u128
 fn moved<C: Committed>(view: &View<'_, C>, serial: u64, told: Told<'_>, total: u128) -> u128
     requires shows { Shows C.shows view.now }
     requires sized { IsToldSized view.now.schema.now told }
-    requires part { (v : Shows C.shows view.now) → reckoned_at view.now.schema.now v.catalog serial ≤ total }
+    requires part { (v : Shows C.shows view.now) → weight_at (reckoned view.now.schema.now) v.catalog serial ≤ total }
     requires small { total < 2 ^ 127 + 2 ^ 100 }
-    ensures moves { (v : Shows C.shows view.now) → Moves view.now.schema.now v.catalog serial (told_state told.entry) total result }
+    ensures moves { (v : Shows C.shows view.now) → Moves (reckoned view.now.schema.now) v.catalog serial (told_state told.entry) total result }
     ensures small { result ≤ total + (2 ^ 64 + 16) }
 {
     match told {
@@ -64,7 +64,7 @@ fn moved<C: Committed>(view: &View<'_, C>, serial: u64, told: Told<'_>, total: u
 
 // The weight of the object that was committed at a serial, 0 where there was none.
 fn old_weight<C: Committed>(view: &View<'_, C>, serial: u64) -> u128
-    ensures { (v : Shows C.shows view.now) → result ≡ reckoned_at view.now.schema.now v.catalog serial }
+    ensures { (v : Shows C.shows view.now) → result ≡ weight_at (reckoned view.now.schema.now) v.catalog serial }
 {
     match view.committed.object(serial) {
         Some((_, octets)) => 16 + octets.len() as u128,

@@ -4,7 +4,7 @@ use Rattle.type_layout.specs.Schemas.{keys_at}
 use Rattle.storage_home.specs.Kept.{IsSound}
 use Rattle.owner_view.specs.Keyed.{all_keyed, keyed}
 use Rattle.owner_view.proofs.Showing.{stored, spells_object, shown_own}
-use Rattle.owner_view.proofs.keyed.keyed_by.Goals as goal
+use Rattle.owner_view.proofs.keyed.keyed_of.Goals as goal
 
 pub keys_of_octets-requires-clause-spells : goal.keys_of_octets-requires-clause-spells
 keys_of_octets-requires-clause-spells c = spells_object c.args.schema.now c.args.seen c.in-Stored.home c.in-Stored.bytes c.in-Stored.is c.requires.shown

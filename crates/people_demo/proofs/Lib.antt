@@ -5,6 +5,7 @@ pub mod OneLine
 pub mod Onward
 pub mod Replied
 pub mod Beginning
+pub mod Unmounted
 pub mod Shown
 pub mod Stopping
 pub mod Made

@@ -27,6 +27,7 @@ use pss_recovery::{
     InitFault, MountFault, Mounted, Store, a_mounted_store_stands, an_image_is_one_thing,
 };
 use std::alloc::Global;
+use store_refusals::{StoreRefusal, refusal};
 use type_layout::{Schema, shape_of};
 
 /// Why a demonstration ends before its line is spoken.
@@ -35,7 +36,7 @@ pub enum DemoStop {
     /// The file has octets. Nothing was written.
     NotEmpty,
     /// The store that was made is refused. It does not come where the station tells its content.
-    Refused(MountFault),
+    Refused(StoreRefusal),
     /// The disk failed.
     DiskFault,
     /// Speech failed: some first bytes of the line were spoken.
@@ -66,12 +67,9 @@ fn of_init(fault: InitFault) -> DemoStop
 fn of_mount(fault: MountFault) -> DemoStop
     ensures { result ≡ begun.of_mount fault }
 {
-    match fault {
-        MountFault::NotAStore => DemoStop::Refused(fault),
-        MountFault::ShapeDiffers(_) => DemoStop::Refused(fault),
-        MountFault::Damaged(_, _) => DemoStop::Refused(fault),
-        MountFault::DiskFault => DemoStop::DiskFault,
-        MountFault::NoMemory => DemoStop::NoMemory,
+    match refusal(fault) {
+        Ok(why) => DemoStop::Refused(why),
+        Err(stop) => of_store(stop),
     }
 }
 

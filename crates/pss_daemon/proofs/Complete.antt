@@ -8,9 +8,10 @@ use Rattle.psdl_check.specs.Schemas.{schema}
 use Rattle.type_layout.specs.declared.schema.Schema.{Schema}
 use Rattle.pss_recovery.specs.Laws.{IsImageOneThing, IsOfImage}
 use Rattle.pss_recovery.specs.Stands.{IsRefusal}
-use Rattle.pss_recovery.specs.declared.fault.MountFault.{MountFault}
-use Rattle.pss_recovery.specs.declared.fault.MountFault.TheVariants.{NotAStore, ShapeDiffers, Damaged, DiskFault, NoMemory}
-use Rattle.store_refusals.specs.Lines.{IsFilled, refusal_of}
+use Rattle.store_refusals.specs.Lines.{IsFilled}
+use Rattle.store_refusals.specs.Refusals.{fault_of}
+use Rattle.store_refusals.specs.declared.refusals.StoreRefusal.{StoreRefusal}
+use Rattle.store_refusals.specs.declared.refusals.StoreRefusal.TheVariants.{NotAStore, ShapeDiffers, Damaged}
 use Rattle.commit_saving.specs.Saving.{IfTold}
 use Rattle.pss_disk.specs.Moments.{Disk}
 use Rattle.line_service.specs.Runs.{Says, goes_past}
@@ -46,24 +47,22 @@ no_fault (Some bytes) fault P is one has =
     let same : bytes ≡ has.0 = cc has.1 in
     one.never_both fault has.2.0 is (subst (λ (text : List ℕ). IsSound text has.2.0) (sym same) has.2.1)
 
-of_image : (why : MountFault) (line : List ℕ) → refusal_of why ≡ Some line → IsOfImage why
-of_image NotAStore line is = tt
-of_image (ShapeDiffers home) line is = tt
-of_image (Damaged at k) line is = tt
-of_image DiskFault line is = cc
-of_image NoMemory line is = cc
+of_image : (why : StoreRefusal) → IsOfImage (fault_of why)
+of_image NotAStore = tt
+of_image (ShapeDiffers home) = tt
+of_image (Damaged at k) = tt
 
 -- a store of the text's schema is not refused under it
-no_refusal : IsImageOneThing → (text held : Option (List ℕ)) (tree : Definitions) (why : MountFault) (line : List ℕ) → IfSome text (λ bytes. IsSound bytes tree) → IfSome text IsOneThing
-    → IfSome held (IsRefusal (schema (all_declarations tree)) why) → refusal_of why ≡ Some line → HasSchema text (IsStoreOf held) → ⊥
-no_refusal law None held tree why line sound one refusal is has = let no : None ≡ Some has.0 = has.1 in cc
-no_refusal law (Some bytes) held tree why line sound one refusal is has =
+no_refusal : IsImageOneThing → (text held : Option (List ℕ)) (tree : Definitions) (why : StoreRefusal) → IfSome text (λ bytes. IsSound bytes tree) → IfSome text IsOneThing
+    → IfSome held (IsRefusal (schema (all_declarations tree)) (fault_of why)) → HasSchema text (IsStoreOf held) → ⊥
+no_refusal law None held tree why sound one refusal has = let no : None ≡ Some has.0 = has.1 in cc
+no_refusal law (Some bytes) held tree why sound one refusal has =
     let text : bytes ≡ has.0 = cc has.1 in
     let other : IsSound bytes has.2.0 = subst (λ (t : List ℕ). IsSound t has.2.0) (sym text) has.2.1 in
     let same : has.2.0 ≡ tree = one.one_tree has.2.0 tree other.0 sound.0 in
     let store : IsStoreOf held (schema (all_declarations tree)) = subst (λ (t : Definitions). IsStoreOf held (schema (all_declarations t))) same has.2.2 in
-    let both = told_both held (IsRefusal (schema (all_declarations tree)) why) _ refusal store in
-    law.never_both (schema (all_declarations tree)) both.2.0 both.2.1 why both.0 (of_image why line is) both.2.2 both.1
+    let both = told_both held (IsRefusal (schema (all_declarations tree)) (fault_of why)) _ refusal store in
+    law.never_both (schema (all_declarations tree)) both.2.0 both.2.1 (fault_of why) both.0 (of_image why) both.2.2 both.1
 
 -- an empty file has no octets
 no_octets : (held : Option (List ℕ)) → IsFilled held → IsEmpty held → ⊥
@@ -125,7 +124,7 @@ module _ (call : Call) (old new : Counts) (calm : HasFailed old new → ⊥) whe
   run_done law status.SchemaRefused ends causes one has served = absurd (no_fault call.schema ends.0.0 (IsStoreOf call.held) ends.0.1 (one refl) has)
   run_done law status.StoreRefused ends causes one has served =
       let of = ends.0 in
-      absurd (no_refusal law call.schema call.held of.0 of.2.0 of.2.1 of.1 (one refl) of.2.2 of.2.3 has)
+      absurd (no_refusal law call.schema call.held of.0 of.2.0 of.1 (one refl) of.2.1 has)
   run_done law status.ScriptTooLong ends causes one has served =
       absurd (no_limit (schema (all_declarations ends.0)) call.script call.left call.before call.after call.held call.holds call.disk ends.2 served)
   run_done law status.ReadFault ends causes one has served = absurd (calm (read_fails old new causes))

@@ -3,10 +3,10 @@ use Rattle.std.proofs.Common.{◌≡◌, ◌⊎◌, ⊎_elim, inl, inr, ℕ, Lis
 use Rattle.std.specs.declared.option.Option.{Option}
 use Rattle.pss_disk.specs.Moments.{Disk, Moment, Through}
 use Rattle.pss_disk.proofs.Passing.{then_come, weaker}
-use Rattle.pss_recovery.specs.declared.fault.MountFault.{MountFault}
 use Rattle.line_service.specs.Spoken.{HasSpoken}
 use Rattle.line_service.specs.Turns.{IsWhole}
 use Rattle.store_refusals.specs.Lines.{IsFilled, IsFilledKept, not_empty_line}
+use Rattle.store_refusals.specs.declared.refusals.StoreRefusal.{StoreRefusal}
 use Rattle.people_demo.specs.Shows.{IsShownLine}
 use Rattle.people_demo.specs.declared.demo.DemoStop.{DemoStop}
 use Rattle.people_demo.specs.declared.demo.DemoStop.TheVariants as stop
@@ -34,9 +34,9 @@ filled_shows rounds status.ScriptTooLong call filled same told = absurd told
 
 -- ---- what was made is not mounted
 
-pub unmounted_shows : (rounds : ℕ) (ending : Status) (why : MountFault) (call : Call) → call.held ≡ None → TellsRefusal ending why call.before call.after → EndsShowing rounds ending call
-unmounted_shows rounds status.StoreRefused why call untold told = inr (untold, why, told.0, told.1, told.2)
-unmounted_shows rounds status.SpeakFault why call untold told = inr (inr (untold, why, told.0, told.1, told.2))
+pub unmounted_shows : (rounds : ℕ) (ending : Status) (why : StoreRefusal) (call : Call) → call.held ≡ None → TellsRefusal ending why call.before call.after → EndsShowing rounds ending call
+unmounted_shows rounds status.StoreRefused why call untold told = inr (untold, why, told)
+unmounted_shows rounds status.SpeakFault why call untold told = inr (inr (untold, why, told))
 unmounted_shows rounds status.NoMemory why call untold told = (told, subst (λ (held : Option (List ℕ)). IsFilledKept held call.holds) (sym untold) tt)
 unmounted_shows rounds status.Ok why call untold told = absurd told
 unmounted_shows rounds status.Usage why call untold told = absurd told
@@ -81,9 +81,9 @@ module _ (rounds : ℕ) (held before : Option (List ℕ)) where
       (λ m is. ⊎_elim (λ whole. inl (inr (inl whole))) (λ cut. inr cut) is)
       (filled_moments b c before after disk ending (subst (λ (spoken : Option (List ℕ)). TellsFilled ending spoken after) same told) call))
 
-  unmounted_whole : (b c : List Moment) (why : MountFault) (after : Option (List ℕ)) (disk : Option Disk) (ending : Status) → held ≡ None → TellsRefusal ending why before after
+  unmounted_whole : (b c : List Moment) (why : StoreRefusal) (after : Option (List ℕ)) (disk : Option Disk) (ending : Status) → held ≡ None → TellsRefusal ending why before after
       → (line : List ℕ) × IsShownLine rounds held line → Through b c (HasSpoken after disk) → Through b c (λ m. Whole m.spoken ⊎ IsCut ending after m.spoken)
-  unmounted_whole b c why after disk status.StoreRefused untold told line call = whole_call b c after Whole disk status.StoreRefused (inr (inr (untold, why, told.0, told.1, inr told.2))) call
+  unmounted_whole b c why after disk status.StoreRefused untold told line call = whole_call b c after Whole disk status.StoreRefused (inr (inr (untold, why, inr told))) call
   unmounted_whole b c why after disk status.SpeakFault untold told line call = cut_call b c after Whole disk call
   unmounted_whole b c why after disk status.NoMemory untold told line call = whole_call b c after Whole disk status.NoMemory (inl (line.0, line.1, inl told)) call
   unmounted_whole b c why after disk status.Ok untold told line call = absurd told
@@ -93,7 +93,7 @@ module _ (rounds : ℕ) (held before : Option (List ℕ)) where
   unmounted_whole b c why after disk status.DiskFault untold told line call = absurd told
   unmounted_whole b c why after disk status.ScriptTooLong untold told line call = absurd told
 
-  pub unmounted_shown : (a b c : List Moment) (why : MountFault) (between after : Option (List ℕ)) (disk : Option Disk) (result : Result (Unit {0}) DemoStop) (ending : Status) → (result ≡ Err stop.SpeakFault → ⊥)
+  pub unmounted_shown : (a b c : List Moment) (why : StoreRefusal) (between after : Option (List ℕ)) (disk : Option Disk) (result : Result (Unit {0}) DemoStop) (ending : Status) → (result ≡ Err stop.SpeakFault → ⊥)
       → held ≡ None → between ≡ before → TellsRefusal ending why between after → (line : List ℕ) × IsShownLine rounds held line × Through a b (Shown line between result)
       → Through b c (HasSpoken after disk) → Through a c (λ m. Whole m.spoken ⊎ IsCut ending after m.spoken)
   unmounted_shown a b c why between after disk result ending not untold same told came call =

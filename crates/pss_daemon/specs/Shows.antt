@@ -3,11 +3,11 @@ use Rattle.std.specs.Prelude.{ℕ, ◌≡◌, ◌⊎◌, List, None, Some, IfSom
 use Rattle.std.specs.declared.option.Option.{Option}
 use Rattle.std.specs.Io.KnownBytes.{append_known}
 use Rattle.pss_disk.specs.Moments.{IsOnlyImage}
-use Rattle.pss_recovery.specs.declared.fault.MountFault.{MountFault}
 use Rattle.commit_saving.specs.Saving.{IfTold}
 use Rattle.line_service.specs.Spoken.{SaidOf}
 use Rattle.line_service.specs.Turns.{IsWhole}
-use Rattle.store_refusals.specs.Lines.{IsFilledKept, WasEmpty, not_empty_line, refusal_of}
+use Rattle.store_refusals.specs.Lines.{IsFilledKept, WasEmpty, not_empty_line, refused_line}
+use Rattle.store_refusals.specs.declared.refusals.StoreRefusal.{StoreRefusal}
 use Rattle.script_service.specs.Keeping.{StandsFor}
 use Rattle.people_demo.specs.Shows.{IsShownLine, shown}
 use Rattle.pss_serving.specs.Making.{OfFilled}
@@ -17,7 +17,7 @@ use Rattle.pss_serving.specs.declared.status.Status.TheVariants as status
 
 -- what was made in a file that is not told is not mounted, and this is so of the line that tells why
 abbrev pub OfUnmounted : (List ℕ → Type 0) → (held : Option (List ℕ)) → Type 0
-OfUnmounted Told held = (held ≡ None) × (why : MountFault) × (line : List ℕ) × (refusal_of why ≡ Some line) × Told line
+OfUnmounted Told held = (held ≡ None) × (why : StoreRefusal) × Told (refused_line why)
 
 -- a demonstration is refused, and this is so of the line that tells why
 abbrev pub OfDemoFault : (List ℕ → Type 0) → Call → Type 0

@@ -40,7 +40,7 @@ fn demonstrate<W: Station>(alloc: Global, rounds: u32, station: &mut W) -> Statu
     match run_demo(alloc, rounds, station) {
         Ok(()) => Status::Ok,
         Err(DemoStop::NotEmpty) => refuse_file(station),
-        Err(DemoStop::Refused(fault)) => refuse_store(alloc, fault, station),
+        Err(DemoStop::Refused(why)) => refuse_store(alloc, why, station),
         Err(DemoStop::DiskFault) => Status::DiskFault,
         Err(DemoStop::SpeakFault) => Status::SpeakFault,
         Err(DemoStop::NoMemory) => Status::NoMemory,

@@ -1,5 +1,5 @@
 -- How a call of the service ends, where its text is sound.
-use Rattle.std.proofs.Common.{◌≡◌, ◌∙◌, ◌⊎◌, ⊎_elim, inl, inr, ℕ, List, true, None, Some, IfSome, take, refl, ap, subst, arith}
+use Rattle.std.proofs.Common.{◌≡◌, ◌∙◌, ◌⊎◌, ⊎_elim, inl, inr, ℕ, List, true, None, Some, IfSome, Ok, take, refl, ap, subst, arith}
 use Rattle.std.specs.declared.option.Option.{Option}
 use Rattle.pss_base.specs.Causes.{HasCauseIf}
 use Rattle.pss_base.specs.declared.lines.LineStep.{LineStep}
@@ -24,7 +24,6 @@ use Rattle.pss_serving.specs.Found.{IsFound, IsOne}
 use Rattle.pss_serving.specs.Outcomes.{Call, EndsOverStore, EndsServing, IsAlwaysKept, IsKeptAt, IsKeptOver, IsOrWhole, ScriptsAreRight, WholeServing}
 use Rattle.pss_serving.specs.Spoken.{IsCut}
 use Rattle.pss_serving.specs.declared.reading.SoundText.{SoundText}
-use Rattle.pss_serving.specs.declared.reading.Checked.TheVariants as checked
 use Rattle.pss_serving.specs.declared.schema_fault.SchemaFault.{SchemaFault}
 use Rattle.pss_serving.specs.declared.status.Status.{Status}
 use Rattle.pss_serving.specs.declared.status.Status.TheVariants as status
@@ -69,7 +68,7 @@ moments_of ending tree S text held script before after a b sound of came =
 
 module _ (held script before : Option (List ℕ)) (a b : List Moment) (now : Moment) where
   -- each sound tree of the text is the one that was read
-  pub kept_of : (text : Option (List ℕ)) (sound : SoundText) (S : Schema) → IsFound (checked.Sound sound) text → IsOne (checked.Sound sound) text → S ≡ sound.schema
+  pub kept_of : (text : Option (List ℕ)) (sound : SoundText) (S : Schema) → IsFound (Ok sound) text → IsOne (Ok sound) text → S ≡ sound.schema
       → IsKeptOver S held script before a b now → IsAlwaysKept text held script before a b now
   kept_of None sound S found one of kept = tt
   kept_of (Some bytes) sound S found one of kept = λ tree is.

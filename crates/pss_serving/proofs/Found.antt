@@ -1,12 +1,11 @@
 -- What was found of a text, by what came of the source.
-use Rattle.std.proofs.Common.{◌≡◌, List, ℕ, Some, None, IfSome, ap, subst}
+use Rattle.std.proofs.Common.{◌≡◌, List, ℕ, Some, None, IfSome, Ok, ap, subst}
 use Rattle.std.specs.declared.option.Option.{Option}
 use Rattle.psdl_tree.specs.Views.{tree_view}
 use Rattle.type_layout.specs.declared.schema.Schema.{Schema as LayoutSchema}
 use Rattle.pss_serving.specs.Checked.{IsSound, spoken_of, checked_text}
 use Rattle.pss_serving.specs.Found.{IsFound}
 use Rattle.pss_serving.specs.declared.reading.SoundText.{SoundText}
-use Rattle.pss_serving.specs.declared.reading.Checked.TheVariants as checked
 
 -- what holds of what was read holds of what came
 pub told : (P : List ℕ → Type 0) (bytes : List ℕ) (source : Option (List ℕ)) → P bytes → IfSome source (λ text. bytes ≡ text) → IfSome source P
@@ -14,8 +13,8 @@ told P bytes None p is = tt
 told P bytes (Some text) p is = subst P is p
 
 -- nothing is wrong in the text that came
-pub sound_of : (source : Option (List ℕ)) (sound : SoundText) → IsFound (checked.Sound sound) source → IfSome source (λ text. IsSound text (tree_view sound.tree))
+pub sound_of : (source : Option (List ℕ)) (sound : SoundText) → IsFound (Ok sound) source → IfSome source (λ text. IsSound text (tree_view sound.tree))
 sound_of source sound found = told (λ text. IsSound text (tree_view sound.tree)) sound.text source found.0 found.2
 
-pub text_of : (source : Option (List ℕ)) (sound : SoundText) → IsFound (checked.Sound sound) source → spoken_of (tree_view sound.tree) sound.schema ≡ checked_text (tree_view sound.tree)
+pub text_of : (source : Option (List ℕ)) (sound : SoundText) → IsFound (Ok sound) source → spoken_of (tree_view sound.tree) sound.schema ≡ checked_text (tree_view sound.tree)
 text_of source sound found = ap (λ (s : LayoutSchema). spoken_of (tree_view sound.tree) s) found.1

@@ -8,4 +8,5 @@ pub mod NewStores
 pub mod Served
 pub mod Refused
 pub mod EndOfRun
+pub mod Unread
 pub mod Spared

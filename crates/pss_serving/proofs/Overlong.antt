@@ -1,5 +1,5 @@
 -- A text of which more than the limit was read is what its first bytes are: too long.
-use Rattle.std.proofs.Common.{◌≡◌, ◌∙◌, ap, arith, ℕ, ◌≤◌, ◌<◌, List, length, take, Some, None, IfSome}
+use Rattle.std.proofs.Common.{◌≡◌, ◌∙◌, ap, arith, ℕ, ◌≤◌, ◌<◌, List, length, take, Some, None, IfSome, Result, Ok, Err}
 use Rattle.std.specs.declared.option.Option.{Option}
 use Rattle.std.proofs.lemmas.List.{take-take, length-take-le}
 use Rattle.pss_base.specs.declared.place.Place.{Place}
@@ -8,8 +8,9 @@ use Rattle.psdl_syntax.specs.Syntax.{IsFault, most_bytes}
 use Rattle.psdl_syntax.specs.declared.syntax_fault.SyntaxKind.{SyntaxKind}
 use Rattle.psdl_syntax.specs.declared.syntax_fault.SyntaxKind.TheVariants as kinds
 use Rattle.pss_serving.specs.Found.{IsFound}
-use Rattle.pss_serving.specs.declared.reading.Checked.{Checked}
-use Rattle.pss_serving.specs.declared.reading.Checked.TheVariants as checked
+use Rattle.pss_serving.specs.declared.reading.SoundText.{SoundText}
+use Rattle.pss_serving.specs.declared.reading.Unread.{Unread}
+use Rattle.pss_serving.specs.declared.reading.Unread.TheVariants as unread
 use Rattle.pss_serving.specs.declared.schema_fault.SchemaFault.TheVariants.{Syntax, Check}
 
 fits_not : (n size : ℕ) (all : List ℕ) → size < n → n < length all → length (take n all) ≤ size → ⊥
@@ -35,26 +36,26 @@ module _ (n : ℕ) (all : List ℕ) (past : most_bytes < n) (over : n < length a
   }
   too_long place kinds.NoMemory f = f
 
-  known : (found : Checked) → IsFound found (Some (take n all)) → IsFound found (Some all)
-  known (checked.Sound sound) o = absurd (none (rw o.2 at o.0.0.within))
-  known (checked.Refused (Syntax fault)) o = too_long fault.place fault.kind o
-  known (checked.Refused (Check fault)) o = absurd (none o.1.within)
-  known checked.ReadFault o = tt
-  known checked.NoMemory o = tt
+  known : (found : Result SoundText Unread) → IsFound found (Some (take n all)) → IsFound found (Some all)
+  known (Ok sound) o = absurd (none (rw o.2 at o.0.0.within))
+  known (Err (unread.Refused (Syntax fault))) o = too_long fault.place fault.kind o
+  known (Err (unread.Refused (Check fault))) o = absurd (none o.1.within)
+  known (Err unread.ReadFault) o = tt
+  known (Err unread.NoMemory) o = tt
 
-unknown : (found : Checked) (bytes : List ℕ) → IsFound found (Some bytes) → IsFound found None
-unknown (checked.Sound sound) bytes o = (o.0, o.1, tt)
-unknown (checked.Refused fault) bytes o = tt
-unknown checked.ReadFault bytes o = tt
-unknown checked.NoMemory bytes o = tt
+unknown : (found : Result SoundText Unread) (bytes : List ℕ) → IsFound found (Some bytes) → IsFound found None
+unknown (Ok sound) bytes o = (o.0, o.1, tt)
+unknown (Err (unread.Refused fault)) bytes o = tt
+unknown (Err unread.ReadFault) bytes o = tt
+unknown (Err unread.NoMemory) bytes o = tt
 
 -- all bytes that come were read
-pub whole : (found : Checked) (bytes : List ℕ) (left : Option (List ℕ)) → IfSome left (λ all. bytes ≡ all) → IsFound found (Some bytes) → IsFound found left
+pub whole : (found : Result SoundText Unread) (bytes : List ℕ) (left : Option (List ℕ)) → IfSome left (λ all. bytes ≡ all) → IsFound found (Some bytes) → IsFound found left
 whole found bytes None is of = unknown found bytes of
 whole found bytes (Some all) is of = rw is at of
 
 -- the first bytes tell of the whole text
-pub longer : (n : ℕ) (found : Checked) (bytes : List ℕ) (left : Option (List ℕ)) → most_bytes < n → IfSome left (λ all. (n < length all) × (bytes ≡ take n all))
+pub longer : (n : ℕ) (found : Result SoundText Unread) (bytes : List ℕ) (left : Option (List ℕ)) → most_bytes < n → IfSome left (λ all. (n < length all) × (bytes ≡ take n all))
     → IsFound found (Some bytes) → IsFound found left
 longer n found bytes None past is of = unknown found bytes of
 longer n found bytes (Some all) past is of = known n all past is.0 found (rw is.1 at of)

@@ -7,4 +7,5 @@ pub mod Outcomes
 pub mod Making
 pub mod Counts
 pub mod Found
+pub mod Unread
 pub mod Codes

@@ -1,17 +1,17 @@
 -- How checking a text ends, and how serving a script over one does.
 use Rattle.std.specs.Prelude.{ℕ, ◌≡◌, ◌⊎◌, List, take, Bool, true, false, IfSome, IsSomeAnd}
 use Rattle.std.specs.declared.option.Option.{Option}
-use Rattle.std.specs.declared.option.Option.TheVariants.{Some}
 use Rattle.std.specs.Io.KnownBytes.{append_known}
 use Rattle.pss_base.specs.Causes.{Rose}
 use Rattle.pss_base.specs.declared.lines.LineStep.{LineStep}
 use Rattle.pss_disk.specs.Moments.{Disk, IsSettled, Moment, Through}
 use Rattle.pss_catalog.specs.Catalog.{Catalog, IsGood}
 use Rattle.page_store.specs.Stores.{AllHave}
-use Rattle.pss_recovery.specs.declared.fault.MountFault.{MountFault}
 use Rattle.pss_recovery.specs.Mounts.{FromSync, IsSameButGate}
 use Rattle.pss_recovery.specs.Stands.{IsRefusal, Stands}
-use Rattle.store_refusals.specs.Lines.{refusal_of}
+use Rattle.store_refusals.specs.Lines.{refused_line}
+use Rattle.store_refusals.specs.Refusals.{fault_of}
+use Rattle.store_refusals.specs.declared.refusals.StoreRefusal.{StoreRefusal}
 use Rattle.type_layout.specs.declared.schema.Schema.{Schema}
 use Rattle.pss_machine.specs.Limits.{standard}
 use Rattle.psdl_tree.specs.Trees.{Definitions}
@@ -103,7 +103,7 @@ pub record OfStore (S : Schema) (P : Running → Type 0) (held : Option (List �
 
 -- the store is refused under the schema, and this is so of the line that tells why
 abbrev pub OfRefusal : Schema → (List ℕ → Type 0) → Option (List ℕ) → Type 0
-OfRefusal S Told held = (why : MountFault) × (line : List ℕ) × IfSome held (IsRefusal S why) × (refusal_of why ≡ Some line) × Told line
+OfRefusal S Told held = (why : StoreRefusal) × IfSome held (IsRefusal S (fault_of why)) × Told (refused_line why)
 
 -- ---- scripts
 
@@ -134,10 +134,10 @@ WholeServing text held script before after =
     ⊎ OfFault (λ told. IsWhole told before after) text
     ⊎ OfServed (λ S. WholeOver S held script before after) text
 
--- what is told where the store is not mounted
-abbrev pub TellsRefusal : Status → MountFault → (before after : Option (List ℕ)) → Type 0
-TellsRefusal status.StoreRefused why before after = (line : List ℕ) × (refusal_of why ≡ Some line) × (after ≡ append_known before line)
-TellsRefusal status.SpeakFault why before after = (line : List ℕ) × (refusal_of why ≡ Some line) × SaidOf line before after
+-- what is told where the store is refused
+abbrev pub TellsRefusal : Status → StoreRefusal → (before after : Option (List ℕ)) → Type 0
+TellsRefusal status.StoreRefused why before after = after ≡ append_known before (refused_line why)
+TellsRefusal status.SpeakFault why before after = SaidOf (refused_line why) before after
 TellsRefusal status.NoMemory why before after = after ≡ before
 TellsRefusal _ why before after = ⊥
 

@@ -3,8 +3,8 @@ use Rattle.std.specs.Prelude.{ℕ, ◌≡◌, List, Bool, true, false}
 use Rattle.std.specs.declared.option.Option.{Option}
 use Rattle.std.specs.Io.KnownBytes.{append_known}
 use Rattle.line_service.specs.Spoken.{SaidOf}
-use Rattle.pss_serving.specs.declared.telling.Told.{Told}
-use Rattle.pss_serving.specs.declared.telling.Told.TheVariants.{Whole, SpeakFault, NoMemory}
+use Rattle.pss_serving.specs.declared.checking.Told.{Told}
+use Rattle.pss_serving.specs.declared.checking.Told.TheVariants.{Whole, SpeakFault, NoMemory}
 
 -- these bytes were spoken whole, in part, or not at all
 abbrev pub IsTold : Told → List ℕ → Option (List ℕ) → Option (List ℕ) → Type 0

@@ -11,15 +11,26 @@ ghost use Rattle.line_service.specs.Turns.{IsWhole};
 ghost use Rattle.pss_serving.specs.Spoken.{IsCut};
 ghost use Rattle.pss_serving.specs.Told.{IsTold, is_fault};
 
-use crate::reading::{Checked, SoundText, read_checked};
+use crate::reading::{SoundText, read_checked};
 use crate::status::Status;
-use crate::telling::{Told, refuse};
+use crate::telling::status_of_unread;
 use line_service::speak;
 use psdl_syntax::print;
 use pss_base::{Bytes, NoMemory, Source};
 use pss_disk::Station;
 use std::alloc::Global;
 use type_layout::shape_of;
+
+/// What became of what there was to say.
+#[derive(Drop)]
+pub enum Told {
+    /// All of it was spoken.
+    Whole,
+    /// Speech failed: some first bytes of it were spoken.
+    SpeakFault,
+    /// There was no memory: nothing was spoken.
+    NoMemory,
+}
 
 // The canonical text, a line between, and the shape text.
 fn print_checked(alloc: Global, sound: &SoundText) -> Result<Bytes, NoMemory>
@@ -67,17 +78,11 @@ pub fn tell_checked<P: Source, W: Station>(alloc: Global, schema: &mut P, statio
     ensures spared { IsTrue (ends_before_script result) → IsSpared (W.content station.old) (W.history station.old) (W.history station.new) (W.now station.old) }
 {
     match read_checked(alloc, schema) {
-        Checked::Sound(sound) => match tell(alloc, &sound, station) {
+        Ok(sound) => match tell(alloc, &sound, station) {
             Told::Whole => Status::Ok,
             Told::SpeakFault => Status::SpeakFault,
             Told::NoMemory => Status::NoMemory,
         },
-        Checked::Refused(fault) => match refuse(alloc, &fault, station) {
-            Told::Whole => Status::SchemaRefused,
-            Told::SpeakFault => Status::SpeakFault,
-            Told::NoMemory => Status::NoMemory,
-        },
-        Checked::ReadFault => Status::ReadFault,
-        Checked::NoMemory => Status::NoMemory,
+        Err(why) => status_of_unread(alloc, why, station),
     }
 }

@@ -13,9 +13,9 @@ ghost use Rattle.pss_serving.specs.Making.{EndsMaking, MakesStore, TellsFilled, 
 ghost use Rattle.pss_serving.specs.Outcomes.{IsSpared, ends_before_script};
 ghost use Rattle.pss_serving.specs.Spoken.{IsCut};
 
-use crate::reading::{Checked, read_checked};
+use crate::reading::read_checked;
 use crate::status::Status;
-use crate::telling::{Told, refuse};
+use crate::telling::status_of_unread;
 use line_service::speak;
 use psdl_sound::text_is_sound;
 use pss_base::Source;
@@ -80,13 +80,7 @@ pub fn init_store<P: Source, W: Station>(alloc: Global, schema: &mut P, station:
 {
     text_is_sound();
     match read_checked(alloc, schema) {
-        Checked::Sound(sound) => make_store(alloc, &sound.schema, station),
-        Checked::Refused(fault) => match refuse(alloc, &fault, station) {
-            Told::Whole => Status::SchemaRefused,
-            Told::SpeakFault => Status::SpeakFault,
-            Told::NoMemory => Status::NoMemory,
-        },
-        Checked::ReadFault => Status::ReadFault,
-        Checked::NoMemory => Status::NoMemory,
+        Ok(sound) => make_store(alloc, &sound.schema, station),
+        Err(why) => status_of_unread(alloc, why, station),
     }
 }

@@ -23,11 +23,10 @@ pub struct SoundText {
     pub schema: Schema,
 }
 
-/// What the schema's source gave.
-#[derive(Drop)]
-pub enum Checked {
-    Sound(SoundText),
-    /// A text that has a fault.
+/// Why the schema's source gave no sound text.
+#[derive(Clone, Copy, Drop)]
+pub enum Unread {
+    /// The text has a fault.
     Refused(SchemaFault),
     /// The source failed.
     ReadFault,
@@ -36,22 +35,22 @@ pub enum Checked {
 }
 
 // What a text with that tree is.
-fn check_tree(alloc: Global, text: Bytes, tree: Tree) -> Checked
+fn check_tree(alloc: Global, text: Bytes, tree: Tree) -> Result<SoundText, Unread>
     requires { IsTextOf (tree_view tree) text }
     ensures found { IsFound result (Some text) }
     ensures fault { has_failed result ≡ false }
 {
     match check(alloc, &tree) {
-        Ok(schema) => Checked::Sound(SoundText { text, tree, schema }),
+        Ok(schema) => Ok(SoundText { text, tree, schema }),
         Err(fault) => match fault.kind {
-            CheckKind::NoMemory => Checked::NoMemory,
-            _ => Checked::Refused(SchemaFault::Check(fault)),
+            CheckKind::NoMemory => Err(Unread::NoMemory),
+            _ => Err(Unread::Refused(SchemaFault::Check(fault))),
         },
     }
 }
 
 // What a text is.
-fn check_text(alloc: Global, text: Bytes) -> Checked
+fn check_text(alloc: Global, text: Bytes) -> Result<SoundText, Unread>
     ensures found { IsFound result (Some text) }
     ensures one { IsOne result (Some text) }
     ensures fault { has_failed result ≡ false }
@@ -60,14 +59,14 @@ fn check_text(alloc: Global, text: Bytes) -> Checked
     match parse(alloc, text.as_slice()) {
         Ok(tree) => check_tree(alloc, text, tree),
         Err(fault) => match fault.kind {
-            SyntaxKind::NoMemory => Checked::NoMemory,
-            _ => Checked::Refused(SchemaFault::Syntax(fault)),
+            SyntaxKind::NoMemory => Err(Unread::NoMemory),
+            _ => Err(Unread::Refused(SchemaFault::Syntax(fault))),
         },
     }
 }
 
 /// Reads a text and checks it.
-pub fn read_checked<P: Source>(alloc: Global, schema: &mut P) -> Checked
+pub fn read_checked<P: Source>(alloc: Global, schema: &mut P) -> Result<SoundText, Unread>
     ensures found { IsFound result (P.left schema.old) }
     ensures one { IsOne result (P.left schema.old) }
     ensures cause { HasCauseIf (P.faults schema.old) (P.faults schema.new) (has_failed result) }
@@ -75,7 +74,7 @@ pub fn read_checked<P: Source>(alloc: Global, schema: &mut P) -> Checked
     match read_all(alloc, schema, MOST_READ) {
         Ok(text) => check_text(alloc, text),
         Err(ReadAll::OverLimit(text)) => check_text(alloc, text),
-        Err(ReadAll::ReadFault) => Checked::ReadFault,
-        Err(ReadAll::NoMemory) => Checked::NoMemory,
+        Err(ReadAll::ReadFault) => Err(Unread::ReadFault),
+        Err(ReadAll::NoMemory) => Err(Unread::NoMemory),
     }
 }

@@ -1,29 +1,29 @@
 // A script is served over the text of a schema and a store.
-ghost use Rattle.std.specs.Prelude.{◌≡◌, ◌⊎◌, ℕ, List, IfSome, IsTrue, None};
+ghost use Rattle.std.specs.Prelude.{◌≡◌, ◌⊎◌, ℕ, List, IfSome, IsTrue};
 ghost use Rattle.std.specs.declared.option.Option.{Option};
 ghost use Rattle.pss_base.specs.Causes.{HasCauseIf};
 ghost use Rattle.pss_disk.specs.Moments.{Through};
 ghost use Rattle.type_layout.specs.Sound.{IsSoundSchema};
 ghost use Rattle.line_service.specs.Spoken.{HasSpoken};
-ghost use Rattle.store_refusals.specs.Lines.{refusal_of};
 ghost use Rattle.pss_serving.specs.Checked.{IsOneThing};
 ghost use Rattle.pss_serving.specs.Counts.{HasCauses, counts_of, has_disk_failed, has_read_failed, has_speech_failed};
 ghost use Rattle.pss_serving.specs.Endings.{status_of_ending};
 ghost use Rattle.pss_serving.specs.Outcomes.{EndsOverStore, EndsServing, IsAlwaysKept, IsAlwaysRight, IsKeptOver, IsOrWhole, IsSpared, TellsRefusal, WholeServing, call_of, ends_before_script};
 ghost use Rattle.pss_serving.specs.Spoken.{IsCut};
+ghost use Rattle.pss_serving.specs.declared.status.Status.TheVariants as status;
 
 use crate::laws::scripts_are_right;
-use crate::reading::{Checked, SoundText, read_checked};
+use crate::reading::{SoundText, read_checked};
 use crate::status::Status;
-use crate::telling::{Told, refuse};
+use crate::telling::status_of_unread;
 use line_service::{Ending, speak};
 use psdl_sound::text_is_sound;
-use pss_base::Source;
+use pss_base::{Source, StoreStop};
 use pss_disk::Station;
-use pss_recovery::{MountFault, Store, an_image_is_one_thing};
+use pss_recovery::{Store, an_image_is_one_thing};
 use script_service::serve_script;
 use std::alloc::Global;
-use store_refusals::print_refusal;
+use store_refusals::{StoreRefusal, print_refusal, refusal};
 use type_layout::Schema;
 
 // How the call of the service ends, where serving its script does.
@@ -48,21 +48,20 @@ fn schema_of(sound: SoundText) -> Schema
     schema
 }
 
-/// Tells why a store is not mounted. Of the disk and of memory there is nothing to tell.
-pub fn refuse_store<W: Station>(alloc: Global, fault: MountFault, station: &mut W) -> Status
-    ensures told { TellsRefusal result fault (W.now station.old).spoken (W.now station.new).spoken }
-    ensures untold { refusal_of fault ≡ None → station.new ≡ station.old }
+/// Tells why a store is refused.
+pub fn refuse_store<W: Station>(alloc: Global, why: StoreRefusal, station: &mut W) -> Status
+    ensures told { TellsRefusal result why (W.now station.old).spoken (W.now station.new).spoken }
+    ensures untold { result ≡ status.NoMemory → station.new ≡ station.old }
     ensures moments { Through (W.history station.old) (W.history station.new) (HasSpoken (W.now station.new).spoken (W.now station.old).disk) }
     ensures content { W.content station.new ≡ W.content station.old }
     ensures speech { HasCauseIf (W.speak_faults station.old) (W.speak_faults station.new) (has_speech_failed result) }
     ensures disk { W.disk_faults station.new ≡ W.disk_faults station.old }
 {
-    match print_refusal(alloc, fault) {
-        Ok(Some(line)) => match speak(station, line.as_slice()) {
+    match print_refusal(alloc, why) {
+        Ok(line) => match speak(station, line.as_slice()) {
             Ok(()) => Status::StoreRefused,
             Err(_) => Status::SpeakFault,
         },
-        Ok(None) => Status::NoMemory,
         Err(_) => Status::NoMemory,
     }
 }
@@ -89,9 +88,10 @@ fn serve_store<C: Source, W: Station>(
     an_image_is_one_thing();
     match Store::mount(alloc, station, &schema) {
         Ok(mounted) => status_of(serve_script(alloc, schema, mounted, script, station)),
-        Err(fault) => match fault {
-            MountFault::DiskFault => Status::DiskFault,
-            _ => refuse_store(alloc, fault, station),
+        Err(fault) => match refusal(fault) {
+            Ok(why) => refuse_store(alloc, why, station),
+            Err(StoreStop::DiskFault) => Status::DiskFault,
+            Err(StoreStop::NoMemory) => Status::NoMemory,
         },
     }
 }
@@ -127,13 +127,7 @@ pub fn run_script<P: Source, C: Source, W: Station>(
     text_is_sound();
     scripts_are_right();
     match read_checked(alloc, schema) {
-        Checked::Sound(sound) => serve_store(alloc, schema_of(sound), script, station),
-        Checked::Refused(fault) => match refuse(alloc, &fault, station) {
-            Told::Whole => Status::SchemaRefused,
-            Told::SpeakFault => Status::SpeakFault,
-            Told::NoMemory => Status::NoMemory,
-        },
-        Checked::ReadFault => Status::ReadFault,
-        Checked::NoMemory => Status::NoMemory,
+        Ok(sound) => serve_store(alloc, schema_of(sound), script, station),
+        Err(why) => status_of_unread(alloc, why, station),
     }
 }

@@ -1,10 +1,10 @@
 -- What is spoken of a store that is refused.
-use Rattle.std.specs.Prelude.{ℕ, ◌≡◌, List, [], ◌∷◌, ◌++◌, codes, decimal, length, ◌<◌, None, Some, IfSome}
+use Rattle.std.specs.Prelude.{ℕ, ◌≡◌, List, [], ◌∷◌, ◌++◌, codes, decimal, length, ◌<◌, IfSome}
 use Rattle.std.specs.declared.option.Option.{Option}
 use Rattle.pss_base.specs.declared.damage.DamageKind.{DamageKind}
 use Rattle.pss_base.specs.declared.damage.DamageKind.TheVariants as kind
-use Rattle.pss_recovery.specs.declared.fault.MountFault.{MountFault}
-use Rattle.pss_recovery.specs.declared.fault.MountFault.TheVariants.{NotAStore, ShapeDiffers, Damaged, DiskFault, NoMemory}
+use Rattle.store_refusals.specs.declared.refusals.StoreRefusal.{StoreRefusal}
+use Rattle.store_refusals.specs.declared.refusals.StoreRefusal.TheVariants.{NotAStore, ShapeDiffers, Damaged}
 
 -- the name of a kind of damage
 abbrev pub kind_text : DamageKind → List ℕ
@@ -44,10 +44,8 @@ shape_line home = codes "store ShapeDiffers " ++ decimal home ++ 10 ∷ []
 abbrev pub damaged_line : ℕ → DamageKind → List ℕ
 damaged_line at k = codes "store Damaged " ++ decimal at ++ codes " " ++ kind_text k ++ 10 ∷ []
 
--- the line of a store that is not mounted; none where the disk failed or memory was wanting
-abbrev pub refusal_of : MountFault → Option (List ℕ)
-refusal_of NotAStore = Some (codes "store NotAStore" ++ 10 ∷ [])
-refusal_of (ShapeDiffers home) = Some (shape_line home.0)
-refusal_of (Damaged at k) = Some (damaged_line at k)
-refusal_of DiskFault = None
-refusal_of NoMemory = None
+-- the line of a store that is refused
+abbrev pub refused_line : StoreRefusal → List ℕ
+refused_line NotAStore = codes "store NotAStore" ++ 10 ∷ []
+refused_line (ShapeDiffers home) = shape_line home.0
+refused_line (Damaged at k) = damaged_line at k

@@ -1,6 +1,8 @@
-//! What is spoken of a store that is refused.
+//! Why a store is refused, and what is spoken of it.
 #![tactic(auto)]
 
 mod lines;
+mod refusals;
 
 pub use lines::{NOT_EMPTY, print_refusal};
+pub use refusals::{StoreRefusal, refusal};

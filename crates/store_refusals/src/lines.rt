@@ -1,10 +1,10 @@
 // The line that is spoken of a store that is refused.
 ghost use Rattle.std.specs.Prelude.{◌≡◌, ◌++◌, IfOk, OnOk};
-ghost use Rattle.store_refusals.specs.Lines.{damaged_line, kind_text, refusal_of, shape_line};
+ghost use Rattle.store_refusals.specs.Lines.{damaged_line, kind_text, refused_line, shape_line};
 
+use crate::refusals::StoreRefusal;
 use itoa::Buffer;
 use pss_base::{Bytes, DamageKind, NoMemory};
-use pss_recovery::MountFault;
 use std::alloc::Global;
 use type_layout::HomeNo;
 
@@ -60,17 +60,14 @@ fn print_damage(alloc: Global, at: u64, kind: DamageKind) -> Result<Bytes, NoMem
     Ok(line)
 }
 
-/// The line that is spoken of a store that is not mounted, with its line feed: `store NotAStore`, `store ShapeDiffers HOME` or
-/// `store Damaged AT KIND`. None where it is not the store that is at fault: the disk failed, or there was no memory.
-pub fn print_refusal(alloc: Global, fault: MountFault) -> Result<Option<Bytes>, NoMemory>
-    ensures { IfOk result (λ line. line ≡ refusal_of fault) }
+/// The line that is spoken of a store that is refused, with its line feed: `store NotAStore`, `store ShapeDiffers HOME` or
+/// `store Damaged AT KIND`.
+pub fn print_refusal(alloc: Global, why: StoreRefusal) -> Result<Bytes, NoMemory>
+    ensures { IfOk result (λ line. line ≡ refused_line why) }
 {
-    let line = match fault {
-        MountFault::NotAStore => line_of(alloc, NOT_A_STORE)?,
-        MountFault::ShapeDiffers(home) => print_shape(alloc, home)?,
-        MountFault::Damaged(at, kind) => print_damage(alloc, at, kind)?,
-        MountFault::DiskFault => return Ok(None),
-        MountFault::NoMemory => return Ok(None),
-    };
-    Ok(Some(line))
+    match why {
+        StoreRefusal::NotAStore => line_of(alloc, NOT_A_STORE),
+        StoreRefusal::ShapeDiffers(home) => print_shape(alloc, home),
+        StoreRefusal::Damaged(at, kind) => print_damage(alloc, at, kind),
+    }
 }

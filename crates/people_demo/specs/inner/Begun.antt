@@ -15,6 +15,7 @@ use Rattle.pss_recovery.specs.declared.mounting.Mounted.{Mounted}
 use Rattle.commit_saving.specs.Saving.{IfTold}
 use Rattle.connector.specs.Keeping.{HasObjects}
 use Rattle.store_refusals.specs.Lines.{IsFilled, IsFilledKept, WasEmpty}
+use Rattle.store_refusals.specs.declared.refusals.StoreRefusal.TheVariants as refusal
 use Rattle.people_demo.specs.People.{people}
 use Rattle.people_demo.specs.inner.Showing.{IsShowing, begun}
 use Rattle.people_demo.specs.declared.demo.DemoStop.{DemoStop}
@@ -33,9 +34,9 @@ of_init init.DiskFault = stop.DiskFault
 of_init init.NoMemory = stop.NoMemory
 
 abbrev pub of_mount : MountFault → DemoStop
-of_mount mount.NotAStore = stop.Refused mount.NotAStore
-of_mount (mount.ShapeDiffers home) = stop.Refused (mount.ShapeDiffers home)
-of_mount (mount.Damaged at k) = stop.Refused (mount.Damaged at k)
+of_mount mount.NotAStore = stop.Refused refusal.NotAStore
+of_mount (mount.ShapeDiffers home) = stop.Refused (refusal.ShapeDiffers home)
+of_mount (mount.Damaged at k) = stop.Refused (refusal.Damaged at k)
 of_mount mount.DiskFault = stop.DiskFault
 of_mount mount.NoMemory = stop.NoMemory
 

@@ -59,14 +59,14 @@ pub returns-in-Err-Refused-clause-ends : goal.returns-in-Err-Refused-clause-ends
 returns-in-Err-Refused-clause-ends g c = λ schema script left.
     let shows = (rw c.in-Err-Refused.field-0-is at c.in-Err-Refused.ensures.shows) in
     let end : Moment = g.W.Station.now c.refuse_store.new.station in
-    unmounted_shows c.args.rounds c.refuse_store.result c.in-Err-Refused.fault
+    unmounted_shows c.args.rounds c.refuse_store.result c.in-Err-Refused.why
     (record { schema = schema; script = script; left = left; before = (g.W.Station.now c.args.station.now).spoken; after = end.spoken; held = g.W.Station.content c.args.station.now; holds = g.W.Station.content c.refuse_store.new.station; disk = end.disk })
-    shows.0 (subst (λ (before : Option (List ℕ)). TellsRefusal c.refuse_store.result c.in-Err-Refused.fault before end.spoken) shows.1 c.refuse_store.ensures.told)
+    shows.0 (subst (λ (before : Option (List ℕ)). TellsRefusal c.refuse_store.result c.in-Err-Refused.why before end.spoken) shows.1 c.refuse_store.ensures.told)
 
 pub returns-in-Err-Refused-clause-moments : goal.returns-in-Err-Refused-clause-moments
 returns-in-Err-Refused-clause-moments g c =
     let now : Moment = g.W.Station.now c.run_demo.new.station in
     let shows = (rw c.in-Err-Refused.field-0-is at c.in-Err-Refused.ensures.shows) in
     unmounted_shown c.args.rounds (g.W.Station.content c.args.station.now) (g.W.Station.now c.args.station.now).spoken (g.W.Station.history c.args.station.now) (g.W.Station.history c.run_demo.new.station)
-    (g.W.Station.history c.refuse_store.new.station) c.in-Err-Refused.fault now.spoken (g.W.Station.now c.refuse_store.new.station).spoken now.disk c.run_demo.result c.refuse_store.result
+    (g.W.Station.history c.refuse_store.new.station) c.in-Err-Refused.why now.spoken (g.W.Station.now c.refuse_store.new.station).spoken now.disk c.run_demo.result c.refuse_store.result
     (λ failed. cc (c.in-Err-Refused.is, c.in-Err-Refused.field-0-is, failed)) shows.0 shows.1 c.refuse_store.ensures.told c.run_demo.ensures.moments c.refuse_store.ensures.moments

@@ -1,0 +1,76 @@
+/* Tells in which order a run writes the store's file, syncs it, syncs its folder and speaks: a letter each, w, s, f and o, behind the end of
+   the run in the file that TOLD names. STORE names the store's file. The sync whose number FAILED has syncs nothing, and fails with the
+   error that ERROR has. It stands between a program and the system's library, by LD_PRELOAD. */
+#define _GNU_SOURCE
+#include <dlfcn.h>
+#include <errno.h>
+#include <stdio.h>
+#include <stdlib.h>
+#include <sys/stat.h>
+#include <unistd.h>
+
+#define MOST 65536
+
+static char order[MOST];
+static unsigned long told, syncs;
+
+static unsigned long number_of(const char *name) {
+    const char *number = getenv(name);
+    return number != NULL ? strtoul(number, NULL, 10) : 0;
+}
+
+__attribute__((destructor)) static void end(void) {
+    const char *name = getenv("TOLD");
+    FILE *out = name != NULL ? fopen(name, "w") : NULL;
+    if (out != NULL) {
+        fwrite(order, 1, told, out);
+        fclose(out);
+    }
+}
+
+static void tell(char letter) {
+    if (told < MOST)
+        order[told++] = letter;
+}
+
+/* Whether a descriptor is of the store's file. */
+static int is_store(int fd) {
+    const char *name = getenv("STORE");
+    struct stat here, there;
+    return name != NULL && fstat(fd, &here) == 0 && stat(name, &there) == 0 && here.st_dev == there.st_dev && here.st_ino == there.st_ino;
+}
+
+static int is_folder(int fd) {
+    struct stat here;
+    return fstat(fd, &here) == 0 && S_ISDIR(here.st_mode);
+}
+
+/* Counts a sync, by the call that the system has for it. */
+static int synced(const char *call, int fd) {
+    int (*system_call)(int) = (int (*)(int))dlsym(RTLD_NEXT, call);
+    tell(is_store(fd) ? 's' : is_folder(fd) ? 'f' : '?');
+    if (++syncs == number_of("FAILED")) {
+        errno = (int)number_of("ERROR");
+        return -1;
+    }
+    return system_call(fd);
+}
+
+int fdatasync(int fd) { return synced("fdatasync", fd); }
+int fsync(int fd) { return synced("fsync", fd); }
+
+ssize_t pwrite64(int fd, const void *octets, size_t count, off64_t at) {
+    ssize_t (*system_call)(int, const void *, size_t, off64_t) = (ssize_t (*)(int, const void *, size_t, off64_t))dlsym(RTLD_NEXT, "pwrite64");
+    if (is_store(fd))
+        tell('w');
+    return system_call(fd, octets, count, at);
+}
+
+ssize_t pwrite(int fd, const void *octets, size_t count, off_t at) { return pwrite64(fd, octets, count, at); }
+
+ssize_t write(int fd, const void *octets, size_t count) {
+    ssize_t (*system_call)(int, const void *, size_t) = (ssize_t (*)(int, const void *, size_t))dlsym(RTLD_NEXT, "write");
+    if (is_store(fd) || fd == 1)
+        tell(fd == 1 ? 'o' : 'w');
+    return system_call(fd, octets, count);
+}

@@ -22,14 +22,6 @@ fn first_zero(text: &[u8]) -> Option<usize>
     text.iter().position(|byte| *byte == 0)
 }
 
-fn copied(alloc: Global, text: &[u8]) -> Result<Bytes, Stop>
-    ensures { Gives (λ x. x) result (Ok text.now) }
-{
-    let mut bytes = Bytes::new(alloc);
-    bytes.extend(text)?;
-    Ok(bytes)
-}
-
 // The octets of a string and its NUL, once they are known to be there.
 #[tactic(auto, unfolding(crate::specs::Reading::letters_at))]
 fn letters_of(alloc: Global, count: u64, bytes: &[u8], at: usize) -> Result<(Bytes, usize), Stop>
@@ -50,7 +42,7 @@ fn letters_of(alloc: Global, count: u64, bytes: &[u8], at: usize) -> Result<(Byt
     if last != 0 {
         return Err(Stop::Fault(RecordFault::BadNul(end as u64)));
     }
-    Ok((copied(alloc, text)?, after))
+    Ok((Bytes::from_slice(alloc, text)?, after))
 }
 
 #[tactic(auto, unfolding(crate::specs::Reading::text_at))]
@@ -224,7 +216,7 @@ fn times_of<L: Ledger>(
     ensures steps { Advances at (length bytes.now) steps.old steps.new result }
     ensures taken { Took steps.old steps.new result (times_take (value_at (plain_type item.now)) (value_takes (plain_type item.now)) count bytes.now at) }
 {
-    let mut values = Values::with_capacity(alloc, room_for(count, bytes.len() - at))?;
+    let mut values = Values::with_room(alloc, room_for(count, bytes.len() - at))?;
     let mut place = at;
     for _ in 0..count {
         let (value, after) = value_of(alloc, item, bytes, place, steps)?;
@@ -265,7 +257,7 @@ fn fields_of<L: Ledger>(
     ensures steps { Advances at (length bytes.now) steps.old steps.new result }
     ensures taken { Took steps.old steps.new result (fields_take (listed_fields (map plain_field fields.now)) bytes.now at) }
 {
-    let mut values = Values::with_capacity(alloc, fields.len())?;
+    let mut values = Values::with_room(alloc, fields.len())?;
     let mut place = at;
     for field in fields {
         let (value, after) = field_of(alloc, field, bytes, place, steps)?;
@@ -288,7 +280,7 @@ pub(crate) fn members_of<L: Ledger>(
     ensures steps { Advances at (length bytes.now) steps.old steps.new result }
     ensures taken { Took steps.old steps.new result (fields_take (layout_fields (map plain_member members.now)) bytes.now at) }
 {
-    let mut values = Values::with_capacity(alloc, members.len())?;
+    let mut values = Values::with_room(alloc, members.len())?;
     let mut place = at;
     for member in members {
         let (value, after) = value_of(alloc, &member.ty, bytes, place, steps)?;

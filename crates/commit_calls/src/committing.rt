@@ -40,8 +40,7 @@ fn still_open(parts: &Parts, session: SessionNo) -> Result<Reply, NoMemory>
     requires { IsCalled parts.now session }
     ensures { IfOk result (λ told. (c : IsCalled parts.now session) → told ≡ reply.StillOpen c.session.name) }
 {
-    let mut name = Bytes::new(parts.alloc);
-    name.extend(parts.attended.sessions().name(session))?;
+    let name = Bytes::from_slice(parts.alloc, parts.attended.sessions().name(session))?;
     Ok(Reply::StillOpen(name))
 }
 

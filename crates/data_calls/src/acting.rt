@@ -1,13 +1,13 @@
 // Sessions that data commands are done in.
 ghost use Rattle.std.specs.Prelude.{◌≡◌, None, IfSome, MatchOption, MatchResult};
 ghost use Rattle.pss_machine.specs.Kept.{Kept};
-ghost use Rattle.pss_machine.specs.Sessions.{Session, acts_for as machine_acts_for, active_in as machine_active_in};
+ghost use Rattle.pss_machine.specs.Sessions.{Session, acts_for as machine_acts_for};
 ghost use Rattle.connector_parts.specs.Stands.{IsAt};
 ghost use Rattle.data_calls.specs.Acting.{ActsFor, IsNamed, IsIdle};
 
 use connector_parts::{Found, Parts};
 use pss_base::{OwnerNo, SessionNo};
-use pss_machine::{Access, Association, Kind, Reply};
+use pss_machine::{Access, Kind, Reply};
 
 /// A session in which a data command is done, and the owner that it acts for.
 #[derive(Clone, Copy, Drop)]
@@ -16,19 +16,6 @@ pub struct Acting {
     pub access: Access,
     pub owner: OwnerNo,
     pub basic: bool,
-}
-
-// The transaction that a session of this association acts for.
-#[inline(always)]
-fn active_in(association: Association) -> Option<OwnerNo>
-    ensures { result ≡ machine_active_in association }
-{
-    match association {
-        Association::NoTransaction => None,
-        Association::Active(owner) => Some(owner),
-        Association::Suspended(_) => None,
-        Association::Ending(_) => None,
-    }
 }
 
 // The session as it acts for an owner. None: it acts for nobody.
@@ -44,7 +31,7 @@ fn acting_for(found: Found) -> Option<Acting>
             basic: true,
         }),
         Kind::Transactional => {
-            let owner = active_in(found.association)?;
+            let owner = found.association.active()?;
             Some(Acting {
                 session: found.number,
                 access: found.access,

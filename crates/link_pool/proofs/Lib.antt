@@ -13,5 +13,4 @@ pub mod Whole
 pub mod Bounds
 pub mod NodeLists
 pub mod RingChanges
-pub mod Refills
 pub mod Columns

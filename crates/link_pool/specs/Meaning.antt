@@ -54,10 +54,6 @@ module _ {T : Type 0} where
   abbrev pub first_seat : {K : Type 0} {R : K → K → Ordering} → Meaning T → map.FinMap R (List Node) → K → Option (Seat T)
   first_seat p rings ring = option_and_then (map.get p.nodes) (first_in rings ring)
 
-  -- the seats of the nodes of a column, in their order
-  abbrev pub seats_of_col : Meaning T → Col → List (Option (Seat T))
-  seats_of_col p col = map (map.get p.nodes) (list_in p.cols col)
-
   -- the same seat in another row
   abbrev pub in_row : Row → Seat T → Seat T
   in_row row seat = record seat { row = row }

@@ -3,7 +3,6 @@
 
 mod cells;
 mod counted;
-mod gather;
 mod names;
 mod pool;
 

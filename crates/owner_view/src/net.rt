@@ -60,7 +60,7 @@ fn net_at<C: Committed>(
     requires order { AreInOrder view.now.overlay.now.states.table.entries serials.now }
     ensures { IfOk result (λ changes. (v : Shows C.shows view.now) → AreNet view.now.schema.now v.catalog (net_of v.catalog (changes_in view.now.overlay.now)) changes) }
 {
-    let mut changes = Changes::with_capacity(alloc, serials.len())?;
+    let mut changes = Changes::with_room(alloc, serials.len())?;
     put_net(&mut changes, alloc, view, serials)?;
     Ok(changes)
 }

@@ -60,8 +60,7 @@ fn is_given(places: &Places, serial: u64, next: u64) -> bool
 fn add_row(alloc: Global, rows: &mut Puts, entry: EntryHead, octets: &[u8]) -> Result<(), NoMemory>
     ensures { OnOk result (rows.new ≡ rows.old ++ (record { home = entry.home; serial = entry.serial; bytes = Some octets.now }) ∷ []) }
 {
-    let mut bytes = Bytes::with_room(alloc, octets.len())?;
-    bytes.extend(octets)?;
+    let bytes = Bytes::from_slice(alloc, octets)?;
     rows.push(Put {
         home: entry.home,
         serial: entry.serial,

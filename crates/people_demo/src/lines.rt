@@ -25,8 +25,7 @@ fn push_line(lines: &mut Vec<LineStep>, text: Bytes) -> Result<(), NoMemory>
 fn push_words(alloc: Global, lines: &mut Vec<LineStep>, words: &[u8]) -> Result<(), NoMemory>
     ensures { OnOk result (lines.new.items ≡ lines.old.items ++ as_lines (words.now ∷ [])) }
 {
-    let mut text = Bytes::new(alloc);
-    text.extend(words)?;
+    let text = Bytes::from_slice(alloc, words)?;
     push_line(lines, text)?;
     Ok(())
 }

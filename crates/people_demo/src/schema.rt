@@ -18,14 +18,6 @@ const PEOPLE: HomeNo = HomeNo(1);
 // The place of a member.
 const SSN: u32 = 0;
 
-fn named(alloc: Global, text: &[u8]) -> Result<Bytes, NoMemory>
-    ensures { IfOk result (λ name. name ≡ text.now) }
-{
-    let mut name = Bytes::new(alloc);
-    name.extend(text)?;
-    Ok(name)
-}
-
 fn one_index(alloc: Global, place: u32) -> Result<Indexes, NoMemory>
     ensures { IfOk result (λ made. made ≡ place ∷ []) }
 {
@@ -46,7 +38,7 @@ fn to_people(alloc: Global) -> Result<Ty, NoMemory>
 fn member(alloc: Global, name: &[u8], ty: Ty, readonly: bool) -> Result<Member, NoMemory>
     ensures { IfOk result (λ made. plain_member made ≡ record { name = name.now; type = plain_type ty; readonly = readonly }) }
 {
-    let name = named(alloc, name)?;
+    let name = Bytes::from_slice(alloc, name)?;
     Ok(Member { name, ty, readonly })
 }
 
@@ -87,8 +79,8 @@ fn given_names(alloc: Global) -> Result<Names, NoMemory>
     ensures { IfOk result (λ made. made ≡ plain.ssn.name ∷ plain.name.name ∷ []) }
 {
     let mut names = Names::new(alloc);
-    names.push(named(alloc, b"ssn")?)?;
-    names.push(named(alloc, b"name")?)?;
+    names.push(Bytes::from_slice(alloc, b"ssn")?)?;
+    names.push(Bytes::from_slice(alloc, b"name")?)?;
     Ok(names)
 }
 
@@ -96,14 +88,14 @@ fn member_names(alloc: Global) -> Result<PlacedNames, NoMemory>
     ensures { IfOk result (λ made. made ≡ plain.ssn.name ∷ plain.name.name ∷ plain.boss.name ∷ []) }
 {
     let mut names = given_names(alloc)?;
-    names.push(named(alloc, b"boss")?)?;
+    names.push(Bytes::from_slice(alloc, b"boss")?)?;
     PlacedNames::new(alloc, names)
 }
 
 fn make(alloc: Global) -> Result<DeclaredFactory, NoMemory>
     ensures { IfOk result (λ made. made ≡ record { name = codes "make"; members = plain.ssn.name ∷ plain.name.name ∷ [] }) }
 {
-    let name = named(alloc, b"make")?;
+    let name = Bytes::from_slice(alloc, b"make")?;
     let members = given_names(alloc)?;
     Ok(DeclaredFactory { name, members })
 }
@@ -127,7 +119,7 @@ fn factories(alloc: Global) -> Result<Factories, NoMemory>
 fn homes(alloc: Global) -> Result<HomeList, NoMemory>
     ensures { IfOk result (λ made. made ≡ plain.homes) }
 {
-    let name = named(alloc, b"PersonHomeBase")?;
+    let name = Bytes::from_slice(alloc, b"PersonHomeBase")?;
     let members = members(alloc)?;
     let mut keys = KeyNos::new(alloc);
     keys.push(KeyNo(0))?;
@@ -146,7 +138,7 @@ fn homes(alloc: Global) -> Result<HomeList, NoMemory>
 fn keys(alloc: Global) -> Result<KeyList, NoMemory>
     ensures { IfOk result (λ made. made ≡ plain.keys) }
 {
-    let name = named(alloc, b"ssn")?;
+    let name = Bytes::from_slice(alloc, b"ssn")?;
     let members = one_index(alloc, SSN)?;
     let mut keys = KeyList::new(alloc);
     keys.push(Key {
@@ -163,12 +155,12 @@ fn provided(alloc: Global) -> Result<ProvidedList, NoMemory>
     let mut scopes = Scopes::new(alloc);
     scopes.push(Scope {
         outer: None,
-        name: named(alloc, b"People")?,
+        name: Bytes::from_slice(alloc, b"People")?,
     })?;
     let mut provisions = Vec::new(alloc);
     provisions.push(Provision {
         catalog: ScopeNo(0),
-        name: named(alloc, b"persons")?,
+        name: Bytes::from_slice(alloc, b"persons")?,
         home: PEOPLE,
     })?;
     Ok(ProvidedList::new(scopes, provisions))

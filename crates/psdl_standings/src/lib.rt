@@ -10,7 +10,6 @@ mod bound;
 mod const_range;
 mod const_zero;
 mod constants;
-mod copied;
 mod enumeration_length;
 mod extent;
 mod levels;

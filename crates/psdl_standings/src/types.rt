@@ -3,13 +3,12 @@ ghost use Rattle.std.specs.Prelude.{◌≡◌, ◌<◌, ◌^◌, ◌++◌, ◌�
 ghost use Rattle.psdl_tree.specs.Views.{identifiers_view};
 ghost use Rattle.psdl_directory.specs.Declarations.{all_identifiers};
 
-use crate::copied::copied;
 use crate::enumeration_length::enumeration_length;
 use crate::numbered_standing::NumberedStanding;
 use crate::range::Range;
 use crate::text_length::TextLength;
 use psdl_tree::{Identifier, Identifiers};
-use pss_base::NoMemory;
+use pss_base::{Bytes, NoMemory};
 use std::alloc::Global;
 use std::marker::Model;
 use type_layout::{Field, Fields, Names, PlacedNames, Ty};
@@ -307,7 +306,7 @@ impl<'a> Types<'a> {
     {
         let mut built = Fields::new(alloc);
         for field in fields {
-            let name = copied(alloc, field.name)?;
+            let name = Bytes::from_slice(alloc, field.name)?;
             let ty = self.build(alloc, field.item)?;
             built.push(Field { name, ty })?;
         }

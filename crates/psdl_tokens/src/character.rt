@@ -5,7 +5,8 @@ ghost use Rattle.std.specs.Char.{is_digit};
 ghost use Rattle.psdl_tokens.specs.Characters.{named_escape, digit_count, byte_of, numbered_escape, escape, character};
 
 use crate::alphabet::byte_at;
-use crate::numeral::{digits_value, is_digit};
+use crate::numeral::digits_value;
+use pss_base::is_digit;
 
 /// What a character of a string stands for, and how many bytes of the text it takes.
 #[derive(Clone, Copy)]

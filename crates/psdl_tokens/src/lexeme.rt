@@ -41,14 +41,6 @@ pub enum Lexeme {
     Wrong(LexicalKind),
 }
 
-fn owned(alloc: Global, word: &[u8]) -> Result<Bytes, NoMemory>
-    ensures { IfOk result (λ bytes. bytes ≡ word.now) }
-{
-    let mut bytes = Bytes::new(alloc);
-    bytes.extend(word)?;
-    Ok(bytes)
-}
-
 fn run_at(rest: &[u8]) -> &[u8]
     ensures run { result.now ≡ run_at rest.now }
     ensures within { length result.now ≤ length rest.now }
@@ -71,7 +63,10 @@ fn word_lexeme(alloc: Global, word: &[u8]) -> Result<Lexeme, NoMemory>
     if is_left_out(word) {
         return Ok(Lexeme::Wrong(LexicalKind::LeftOut));
     }
-    Ok(Lexeme::Found(TokenKind::Identifier(owned(alloc, word)?), word.len()))
+    Ok(Lexeme::Found(
+        TokenKind::Identifier(Bytes::from_slice(alloc, word)?),
+        word.len(),
+    ))
 }
 
 #[tactic(auto, unfolding(crate::specs::Lexis::identifier_lexeme))]
@@ -83,7 +78,10 @@ fn identifier_lexeme(alloc: Global, rest: &[u8]) -> Result<Lexeme, NoMemory>
         return Ok(Lexeme::Wrong(LexicalKind::BadByte));
     }
     let word = run_at(rest);
-    Ok(Lexeme::Found(TokenKind::Identifier(owned(alloc, word)?), word.len() + 1))
+    Ok(Lexeme::Found(
+        TokenKind::Identifier(Bytes::from_slice(alloc, word)?),
+        word.len() + 1,
+    ))
 }
 
 #[tactic(auto, unfolding(crate::specs::Lexis::string_lexeme))]

@@ -18,7 +18,6 @@ pub use cursor::{START, place_behind};
 pub use lexeme::{Lexeme, LexicalKind, a_mark_is_the_longest};
 pub use lexis::{LexicalFault, MOST_BYTES, Scanned, scan};
 pub use names::{is_keyword, is_left_out};
-pub use numeral::is_digit;
 pub use quoted::Quoted;
 pub use spelling::{keyword_spelling, mark_spelling};
 pub use token::{Keyword, Mark, Token, TokenKind};

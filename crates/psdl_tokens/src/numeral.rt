@@ -1,7 +1,7 @@
 // Integers in the texts of schemas.
 ghost use Rattle.std.specs.Prelude.{◌≡◌, ◌≤◌, ◌<◌, ◌+◌, ◌*◌, ◌^◌, ◌&&◌, nat_lt, length, IsTrue, SomeIff};
 ghost use Rattle.std.specs.List.{list_all};
-ghost use Rattle.std.specs.Char.{digit_value, is_digit};
+ghost use Rattle.std.specs.Char.{is_digit};
 ghost use Rattle.std.specs.Str.Parse.{digits_value};
 ghost use Rattle.psdl_tokens.specs.Numerals.{numeral, is_hexadecimal};
 ghost use Rattle.psdl_tokens.specs.Lexis.{integer_found, integer_lexeme, size_of};
@@ -9,27 +9,10 @@ ghost use Rattle.psdl_tokens.specs.Lexis.{integer_found, integer_lexeme, size_of
 use crate::alphabet::byte_at;
 use crate::lexeme::{Lexeme, LexicalKind};
 use crate::token::TokenKind;
+use pss_base::{digit_value, is_digit};
 
 // The greatest integer, 2^127 - 1.
 const MOST: u128 = u128::MAX >> 1;
-
-fn digit_value(byte: u8) -> u8
-    ensures { result ≡ digit_value byte }
-{
-    match byte {
-        b'0'..=b'9' => byte - b'0',
-        b'A'..=b'Z' => byte - b'A' + 10,
-        b'a'..=b'z' => byte - b'a' + 10,
-        _ => 36,
-    }
-}
-
-/// Tells whether this is a digit in the radix.
-pub fn is_digit(byte: u8, radix: u8) -> bool
-    ensures { result ≡ is_digit byte radix }
-{
-    digit_value(byte) < radix
-}
 
 fn are_digits(radix: u8, bytes: &[u8]) -> bool
     ensures { result ≡ list_all (λ byte. is_digit byte radix) bytes.now }

@@ -15,7 +15,7 @@ use type_layout::{Member, Record, Value, Values, default_of};
 fn defaults_of(alloc: Global, members: &[Member]) -> Result<Values, NoMemory>
     ensures { IfOk result (λ values. plain_values values ≡ default_record (map plain_member members.now)) }
 {
-    let mut values = Values::with_capacity(alloc, members.len())?;
+    let mut values = Values::with_room(alloc, members.len())?;
     for member in members {
         values.push(default_of(alloc, &member.ty)?)?;
     }

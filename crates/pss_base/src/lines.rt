@@ -6,7 +6,7 @@ ghost use Rattle.pss_base.specs.Parts.{told_of, stopped_by, reading_after};
 ghost use Rattle.pss_base.specs.Reading.{new_reading, to_come, NextLine, is_read_fault, goes_on, most_bytes, has_next};
 
 use crate::ahead::Ahead;
-use crate::part::{LONGEST, Part, Stop, read_part};
+use crate::part::{LONGEST_LINE, Part, Stop, read_part};
 use crate::{Bytes, Source};
 use std::alloc::Global;
 use std::marker::Model;
@@ -144,7 +144,7 @@ fn without_end(mut text: Bytes, ended: bool) -> Bytes
 fn step_of(part: Part) -> LineStep
     ensures { result ≡ told_of part }
 {
-    if part.count > LONGEST {
+    if part.count > LONGEST_LINE {
         LineStep::TooLong
     } else {
         LineStep::Line(without_end(part.text, part.ended))

@@ -11,12 +11,12 @@ use crate::{Bytes, NoMemory, Source};
 use std::simd::prelude::*;
 
 /// The greatest number of bytes of a line that is handed out, without its line feed.
-pub const LONGEST: u64 = 65536;
+pub const LONGEST_LINE: u64 = 65536;
 
 /// What was read of a line.
 #[derive(Drop)]
 pub struct Part {
-    /// Its first bytes, at most `LONGEST`.
+    /// Its first bytes, at most `LONGEST_LINE`.
     pub text: Bytes,
     /// How many it has without a line feed.
     pub count: u64,
@@ -110,7 +110,7 @@ fn keep(text: &mut Bytes, count: u64, bytes: &[u8]) -> Result<(), NoMemory>
     ensures ok { OnOk result (text.new ≡ text.old ++ take (65536 - count) bytes.now) }
     ensures err { OnErr result (text.new ≡ text.old) }
 {
-    extend_within(text, LONGEST.saturating_sub(count) as usize, bytes)
+    extend_within(text, LONGEST_LINE.saturating_sub(count) as usize, bytes)
 }
 
 // Takes what the bytes ahead have of a line, of which so many came before.

@@ -40,7 +40,7 @@ impl Puts {
         }
     }
 
-    /// Makes room for so many more, so that pushing them takes no memory. `NoMemory`: the list is as before.
+    /// Makes room for so many more. `NoMemory`: the list is as before.
     pub fn reserve(&mut self, additional: usize) -> Result<(), NoMemory>
         ensures { self.new ≡ self.old }
     {

@@ -31,9 +31,7 @@ storagehome ";
 fn words_of(alloc: Global, texts: &[&str]) -> Result<Vec<Bytes>, NoMemory> {
     let mut words = Vec::new(alloc);
     for text in texts {
-        let mut word = Bytes::new(alloc);
-        word.extend(text.as_bytes())?;
-        words.push(word)?;
+        words.push(Bytes::from_slice(alloc, text.as_bytes())?)?;
     }
     Ok(words)
 }

@@ -6,7 +6,7 @@ ghost use Rattle.pss_disk.specs.Tape.{IsFilled, IsPicked, after, after_all, fill
 ghost use Rattle.pss_disk.specs.inner.Crash.{IsLastSync, IsNoSync};
 
 use crate::call::Call;
-use crate::record::{copied, fill, half, lengthen, write_into};
+use crate::record::{fill, half, lengthen, write_into};
 use pss_base::{Bytes, NoMemory};
 use std::alloc::Global;
 
@@ -115,5 +115,5 @@ pub fn image_after(alloc: Global, first: &[u8], calls: &[Call], pick: u8) -> Res
     let mut image = first.to_vec(alloc)?;
     apply_all(&mut image, &calls[..synced])?;
     pick_image(&mut image, &calls[synced..], pick)?;
-    copied(alloc, &image)
+    Bytes::from_slice(alloc, &image)
 }

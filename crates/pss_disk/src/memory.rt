@@ -8,7 +8,7 @@ ghost use Rattle.pss_disk.specs.Tape.{FailedDisk, FailedSpeech, IsPicked, disk_f
 
 use crate::call::Call;
 use crate::image::image_after;
-use crate::record::{add, add_speech, add_write, copied, give, half, is_in};
+use crate::record::{add, add_speech, add_write, give, half, is_in};
 use crate::station::Station;
 use pss_base::{Bytes, Failed, NoMemory};
 use std::alloc::Global;
@@ -136,7 +136,7 @@ impl MemStation {
         ensures ok { OnOk result (self.new ≡ recorded (Call.Wrote at bytes.now) self.old) }
         ensures err { OnErr result (self.new ≡ self.old) }
     {
-        let call = Call::Wrote(at, copied(self.alloc, bytes)?);
+        let call = Call::Wrote(at, Bytes::from_slice(self.alloc, bytes)?);
         add_write(&mut self.calls, &mut self.bytes, call, at, bytes)?;
         Ok(())
     }
@@ -147,7 +147,7 @@ impl MemStation {
         ensures ok { OnOk result (self.new ≡ recorded (Call.Tore at bytes.now) self.old) }
         ensures err { OnErr result (self.new ≡ self.old) }
     {
-        let call = Call::Tore(at, copied(self.alloc, bytes)?);
+        let call = Call::Tore(at, Bytes::from_slice(self.alloc, bytes)?);
         add_write(&mut self.calls, &mut self.bytes, call, at, half(bytes))?;
         Ok(())
     }

@@ -66,15 +66,6 @@ pub fn add(calls: &mut Vec<Call>, call: Call) -> Result<(), NoMemory>
     Ok(())
 }
 
-// The bytes once more.
-pub fn copied(alloc: Global, bytes: &[u8]) -> Result<Bytes, NoMemory>
-    ensures { IfOk result (λ copy. copy ≡ bytes.now) }
-{
-    let mut copy = Bytes::new(alloc);
-    copy.extend(bytes)?;
-    Ok(copy)
-}
-
 // Adds speech and its call, or neither.
 pub fn add_speech(
     alloc: Global,
@@ -87,7 +78,7 @@ pub fn add_speech(
     ensures bound { length calls.new.items < 2 ^ 32 }
     ensures err { OnErr result ((calls.new.items ≡ calls.old.items) × (said.new.items ≡ said.old.items)) }
 {
-    let copy = copied(alloc, bytes)?;
+    let copy = Bytes::from_slice(alloc, bytes)?;
     let len = said.len();
     said.extend_from_slice(bytes)?;
     match add(calls, Call::Spoke(copy)) {

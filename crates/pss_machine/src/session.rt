@@ -1,4 +1,6 @@
 // Sessions, and what their entries stand on.
+ghost use Rattle.std.specs.Prelude.{◌≡◌};
+ghost use Rattle.pss_machine.specs.Sessions.{active_in, open_in, transaction_of, state_of};
 
 use pss_base::{OwnerNo, SessionNo};
 
@@ -29,6 +31,60 @@ pub enum Association {
     Suspended(OwnerNo),
     /// Its part of the transaction is done.
     Ending(OwnerNo),
+}
+
+impl Association {
+    /// Its state, without the transaction.
+    #[inline(always)]
+    pub fn state(self) -> StateName
+        ensures { result ≡ state_of self }
+    {
+        match self {
+            Association::NoTransaction => StateName::NoTransaction,
+            Association::Active(_) => StateName::Active,
+            Association::Suspended(_) => StateName::Suspended,
+            Association::Ending(_) => StateName::Ending,
+        }
+    }
+
+    /// Its transaction.
+    #[inline(always)]
+    pub fn transaction(self) -> Option<OwnerNo>
+        ensures { result ≡ transaction_of self }
+    {
+        match self {
+            Association::NoTransaction => None,
+            Association::Active(owner) => Some(owner),
+            Association::Suspended(owner) => Some(owner),
+            Association::Ending(owner) => Some(owner),
+        }
+    }
+
+    /// Its transaction, where it is active.
+    #[inline(always)]
+    pub fn active(self) -> Option<OwnerNo>
+        ensures { result ≡ active_in self }
+    {
+        match self {
+            Association::NoTransaction => None,
+            Association::Active(owner) => Some(owner),
+            Association::Suspended(_) => None,
+            Association::Ending(_) => None,
+        }
+    }
+
+    /// Its transaction, where it is active or suspended: the transaction's commit waits for the session's end.
+    #[inline(always)]
+    pub fn open(self) -> Option<OwnerNo>
+        ensures { result ≡ open_in self }
+    {
+        match self {
+            Association::NoTransaction => None,
+            Association::Active(owner) => Some(owner),
+            Association::Suspended(owner) => Some(owner),
+            Association::Ending(_) => None,
+        }
+    }
 }
 
 /// The state of an association, without the transaction.

@@ -38,6 +38,6 @@ impl<'a> Text<'a> {
     pub fn to_bytes(&self, alloc: Global) -> Result<Bytes, NoMemory>
         ensures { IfOk result (λ copy. copy ≡ self.now) }
     {
-        Ok(Bytes::from_vec(self.bytes.to_vec(alloc)?))
+        Ok(Bytes::from_slice(alloc, self.bytes)?)
     }
 }

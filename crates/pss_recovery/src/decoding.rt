@@ -20,9 +20,7 @@ fn record_of(alloc: Global, octets: &[u8]) -> Result<Option<Bytes>, NoMemory>
     if octets.is_empty() {
         return Ok(None);
     }
-    let mut bytes = Bytes::with_room(alloc, octets.len())?;
-    bytes.extend(octets)?;
-    Ok(Some(bytes))
+    Ok(Some(Bytes::from_slice(alloc, octets)?))
 }
 
 // Adds the change with a head that the octets begin with.

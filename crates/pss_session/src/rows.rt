@@ -73,23 +73,11 @@ pub fn set(rows: &mut Rows, number: u32, association: Association)
 }
 
 impl SessionRecord {
-    /// The transaction whose commit waits for the session's end.
-    pub fn open_in(&self) -> Option<OwnerNo>
-        ensures { result ≡ open_in self.now.association }
-    {
-        match self.association {
-            Association::NoTransaction => None,
-            Association::Active(owner) => Some(owner),
-            Association::Suspended(owner) => Some(owner),
-            Association::Ending(_) => None,
-        }
-    }
-
     /// Whether it is active or suspended with the transaction.
     pub fn is_open_in(&self, owner: OwnerNo) -> bool
         ensures { result ≡ is_owner owner (open_in self.now.association) }
     {
-        match self.open_in() {
+        match self.association.open() {
             Some(with) => with == owner,
             None => false,
         }
@@ -99,11 +87,9 @@ impl SessionRecord {
     pub fn is_in(&self, owner: OwnerNo) -> bool
         ensures { result ≡ is_owner owner (transaction_of self.now.association) }
     {
-        match self.association {
-            Association::NoTransaction => false,
-            Association::Active(with) => with == owner,
-            Association::Suspended(with) => with == owner,
-            Association::Ending(with) => with == owner,
+        match self.association.transaction() {
+            Some(with) => with == owner,
+            None => false,
         }
     }
 

@@ -274,7 +274,7 @@ impl Sessions {
         ensures have { HaveSessions self.new copies.new }
         ensures steps { steps.new ≤ steps.old + (2 * attached_of copies.old session + 1) }
     {
-        let Some(owner) = self.record(session).open_in() else {
+        let Some(owner) = self.record(session).association.open() else {
             unreachable!()
         };
         self.associate(session, Association::Ending(owner));

@@ -27,9 +27,7 @@ fn word(rt: &impl Env, alloc: Global, number: usize) -> Result<Option<Bytes>, No
         let mut room = vec![in alloc; 0u8; FIRST_ROOM << doubling]?;
         match rt.arg(number, &mut room) {
             Ok(len) => {
-                let mut word = Bytes::new(alloc);
-                word.extend(&room[..len])?;
-                return Ok(Some(word));
+                return Ok(Some(Bytes::from_slice(alloc, &room[..len])?));
             }
             Err(FillError::NotPresent) => return Ok(None),
             Err(FillError::TooLong) => {}

@@ -150,10 +150,6 @@ fn stat_reply(parts: &[u8]) -> Reply {
     }
 }
 
-fn own(alloc: Global, text: &[u8]) -> Result<Bytes, NoMemory> {
-    Ok(Bytes::from_vec(text.to_vec(alloc)?))
-}
-
 fn pids_of(alloc: Global, parts: &[u8]) -> Result<Pids, NoMemory> {
     let mut pids = Pids::new(alloc);
     for word in parts.split(|byte| *byte == b' ') {
@@ -168,7 +164,7 @@ fn names_of(alloc: Global, parts: &[u8]) -> Result<Names, NoMemory> {
     let mut names = Names::new(alloc);
     for word in parts.split(|byte| *byte == b' ') {
         if !word.is_empty() {
-            names.push(own(alloc, word)?)?;
+            names.push(Bytes::from_slice(alloc, word)?)?;
         }
     }
     Ok(names)
@@ -199,7 +195,7 @@ fn home_reply(alloc: Global, parts: &[u8]) -> Result<Option<Reply>, NoMemory> {
     match short_number_of(number) {
         Some(number) => Ok(Some(Reply::HomeFound {
             home: HomeNo(number),
-            name: own(alloc, name)?,
+            name: Bytes::from_slice(alloc, name)?,
         })),
         None => Ok(None),
     }
@@ -228,7 +224,7 @@ fn history_reply(alloc: Global, parts: &[u8]) -> Result<Option<Reply>, NoMemory>
 }
 
 fn named_text_reply(alloc: Global, name: &[u8], text: &[u8]) -> Result<Option<Reply>, NoMemory> {
-    Ok(text_reply(name, own(alloc, text)?))
+    Ok(text_reply(name, Bytes::from_slice(alloc, text)?))
 }
 
 // Replies that take memory.

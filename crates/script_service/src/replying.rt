@@ -19,13 +19,13 @@ ghost use Rattle.script_service.specs.Turns.{effect_of, told_by};
 ghost use Rattle.script_service.specs.Going.{IsReady, Goes};
 
 use connector::Connector;
-use pss_base::{LineStep, StoreStop};
+use pss_base::{LONGEST_LINE, LineStep, StoreStop};
 use pss_disk::Station;
 use pss_machine::{Command, Reply};
 use script_text::read_command;
 
 /// The column that is told of a line which is too long: that of its first byte too many.
-const TOO_LONG: u32 = 65537;
+const TOO_LONG: u32 = LONGEST_LINE as u32 + 1;
 
 // Performs what a line says, and tells the reply.
 fn reply_to_command<W: Station>(

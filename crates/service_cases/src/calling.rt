@@ -36,16 +36,10 @@ pub struct Ended {
     pub station: MemStation,
 }
 
-fn word_of(alloc: Global, text: &[u8]) -> Result<Bytes, NoMemory> {
-    let mut word = Bytes::new(alloc);
-    word.extend(text)?;
-    Ok(word)
-}
-
 fn words_of(alloc: Global, command: &[u8]) -> Result<Vec<Bytes>, NoMemory> {
     let mut words = Vec::new(alloc);
     for text in [command, b"text", b"store"] {
-        words.push(word_of(alloc, text)?)?;
+        words.push(Bytes::from_slice(alloc, text)?)?;
     }
     Ok(words)
 }

@@ -7,7 +7,7 @@ ghost use Rattle.pss_machine.specs.Moving.{ended};
 ghost use Rattle.connector_parts.specs.Stands.{Stands, AnyAt, IsAt, StayAs, Comes};
 ghost use Rattle.session_calls.specs.Endings.{MayEnd};
 
-use crate::states::{active_in, held_by, open_in};
+use crate::states::held_by;
 use connector_parts::Parts;
 use pss_base::{NoMemory, OwnerNo, SessionNo, Steps};
 use pss_machine::{Kind, Reply, Text};
@@ -53,7 +53,7 @@ pub fn suspend(parts: &mut Parts, name: &Text<'_>) -> Reply
     };
     match found.kind {
         Kind::Basic(_) => Reply::Kind,
-        Kind::Transactional => match active_in(found.association) {
+        Kind::Transactional => match found.association.active() {
             Some(_) => {
                 parts.attended.suspend(found.number);
                 Reply::Done
@@ -89,7 +89,7 @@ pub fn end<L: Ledger>(parts: &mut Parts, name: &Text<'_>, ok: bool, steps: &mut 
     };
     match found.kind {
         Kind::Basic(_) => Reply::Kind,
-        Kind::Transactional => match open_in(found.association) {
+        Kind::Transactional => match found.association.open() {
             Some(owner) => {
                 end_part(parts, found.number, owner, !ok, steps);
                 Reply::Done

@@ -9,7 +9,6 @@ ghost use Rattle.connector_parts.specs.Stands.{Stands, AnyAt, IsAt, StayAs, Come
 ghost use Rattle.session_calls.specs.Closings.{MayClose, closes};
 
 use crate::associating::associated;
-use crate::states::transaction_of;
 use connector_parts::Parts;
 use pss_base::{NoMemory, SessionNo, Steps};
 use pss_machine::{Kind, Reply, Text};
@@ -43,7 +42,7 @@ pub fn close<L: Ledger>(
     let Some(found) = parts.session(name.as_slice()) else {
         return Ok(Reply::NoSession);
     };
-    match transaction_of(found.association) {
+    match found.association.transaction() {
         Some(owner) => associated(parts, owner),
         None => {
             close_session(parts, found.number, found.kind, steps);

@@ -5,7 +5,6 @@ ghost use Rattle.pss_machine.specs.declared.command.Command.TheVariants as comma
 ghost use Rattle.pss_machine.specs.Kept.{Kept};
 ghost use Rattle.connector_parts.specs.Stands.{IsAt, Comes};
 
-use crate::states::state_of;
 use connector_parts::Parts;
 use pss_base::{Bytes, NoMemory};
 use pss_machine::{Kind, Reply, Text};
@@ -20,7 +19,7 @@ pub fn status(parts: &Parts, name: &Text<'_>) -> Reply
     };
     match found.kind {
         Kind::Basic(_) => Reply::Kind,
-        Kind::Transactional => Reply::State(state_of(found.association)),
+        Kind::Transactional => Reply::State(found.association.state()),
     }
 }
 

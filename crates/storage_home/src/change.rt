@@ -102,7 +102,7 @@ impl Changes {
     }
 
     /// None, to which so many are to be added.
-    pub fn with_capacity(alloc: Global, count: usize) -> Result<Changes, NoMemory>
+    pub fn with_room(alloc: Global, count: usize) -> Result<Changes, NoMemory>
         ensures { IfOk result (λ changes. changes ≡ []) }
     {
         let changes = Vec::with_capacity(alloc, count)?;

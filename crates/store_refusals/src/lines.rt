@@ -31,19 +31,10 @@ fn append_kind(line: &mut Bytes, kind: DamageKind) -> Result<(), NoMemory>
     }
 }
 
-// A text as a line of its own.
-fn line_of(alloc: Global, text: &[u8]) -> Result<Bytes, NoMemory>
-    ensures { IfOk result (λ line. line ≡ text.now) }
-{
-    let mut line = Bytes::new(alloc);
-    line.extend(text)?;
-    Ok(line)
-}
-
 fn print_shape(alloc: Global, home: HomeNo) -> Result<Bytes, NoMemory>
     ensures { IfOk result (λ line. line ≡ shape_line home.0) }
 {
-    let mut line = line_of(alloc, b"store ShapeDiffers ")?;
+    let mut line = Bytes::from_slice(alloc, b"store ShapeDiffers ")?;
     line.extend(Buffer::new().format(home.0).as_bytes())?;
     line.push(b'\n')?;
     Ok(line)
@@ -52,7 +43,7 @@ fn print_shape(alloc: Global, home: HomeNo) -> Result<Bytes, NoMemory>
 fn print_damage(alloc: Global, at: u64, kind: DamageKind) -> Result<Bytes, NoMemory>
     ensures { IfOk result (λ line. line ≡ damaged_line at kind) }
 {
-    let mut line = line_of(alloc, b"store Damaged ")?;
+    let mut line = Bytes::from_slice(alloc, b"store Damaged ")?;
     line.extend(Buffer::new().format(at).as_bytes())?;
     line.push(b' ')?;
     append_kind(&mut line, kind)?;
@@ -66,7 +57,7 @@ pub fn print_refusal(alloc: Global, why: StoreRefusal) -> Result<Bytes, NoMemory
     ensures { IfOk result (λ line. line ≡ refused_line why) }
 {
     match why {
-        StoreRefusal::NotAStore => line_of(alloc, NOT_A_STORE),
+        StoreRefusal::NotAStore => Bytes::from_slice(alloc, NOT_A_STORE),
         StoreRefusal::ShapeDiffers(home) => print_shape(alloc, home),
         StoreRefusal::Damaged(at, kind) => print_damage(alloc, at, kind),
     }

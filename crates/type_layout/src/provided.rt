@@ -59,7 +59,8 @@ impl ProvidedList {
         }
     }
 
-    /// Whether a word is the scoped name of a provision's catalog, a point, and the provision's name.
+    /// Whether a word is the scoped name of a provision's catalog, a point, and the provision's name. False where there is no
+    /// provision at the place.
     pub fn is_called(&self, place: usize, word: &[u8]) -> bool
         ensures { result ≡ unwrap_or (option_map (λ p. bytes_eq word.now (full_name p)) (slice_get self.now place)) false }
     {
@@ -72,7 +73,7 @@ impl ProvidedList {
         }
     }
 
-    /// The home that is provided at a place.
+    /// The home that is provided at a place. None exactly where there is no provision at it.
     pub fn home(&self, place: usize) -> Option<HomeNo>
         ensures { result ≡ option_map (λ p. p.home) (slice_get self.now place) }
     {

@@ -70,7 +70,7 @@ impl Scopes {
         Ok(())
     }
 
-    /// The scope round one, which has a lower number, and its own name.
+    /// The scope round one, which has a lower number, and its own name. None exactly where no scope has the number.
     pub fn get(&self, number: ScopeNo) -> Option<ScopeView<'_>>
         ensures { MatchOption result (slice_get self.now number.0 ≡ None) (λ scope. IsBehind self.now number scope.outer scope.name.now) }
     {

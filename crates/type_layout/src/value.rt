@@ -1,6 +1,6 @@
 // Values of members, and records.
 ghost use Rattle.std.specs.Prelude.{◌≡◌, ◌<◌, ◌++◌, ◌∷◌, [], Some, length, map, set, IfOk, OnOk, OnErr};
-ghost use Rattle.std.specs.List.{slice_get, remove};
+ghost use Rattle.std.specs.List.{slice_get};
 ghost use Rattle.type_layout.specs.Views.{plain_value, plain_values};
 
 use pss_base::{Bytes, NoMemory, Pid};
@@ -50,7 +50,7 @@ impl Value {
 fn copies_of(alloc: Global, values: &[Value]) -> Result<Values, NoMemory>
     ensures { IfOk result (λ copies. plain_values copies ≡ map plain_value values.now) }
 {
-    let mut copies = Values::with_capacity(alloc, values.len())?;
+    let mut copies = Values::with_room(alloc, values.len())?;
     for value in values {
         copies.push(value.copy(alloc)?)?;
     }
@@ -74,12 +74,12 @@ impl Values {
         }
     }
 
-    /// None, with room for so many.
-    pub fn with_capacity(alloc: Global, capacity: usize) -> Result<Values, NoMemory>
+    /// None, to which so many are to be added.
+    pub fn with_room(alloc: Global, count: usize) -> Result<Values, NoMemory>
         ensures { IfOk result (λ values. plain_values values ≡ []) }
     {
         Ok(Values {
-            values: Vec::with_capacity(alloc, capacity)?,
+            values: Vec::with_capacity(alloc, count)?,
         })
     }
 
@@ -106,15 +106,6 @@ impl Values {
         ensures replaced { plain_values self.new ≡ set (plain_values self.old) index (plain_value value) }
     {
         replace(&mut self.values[index], value)
-    }
-
-    /// Takes out the value with this number, counted from 0. Those behind it move up.
-    pub fn remove(&mut self, index: usize) -> Value
-        requires { index < length (plain_values self.old) }
-        ensures given { slice_get (plain_values self.old) index ≡ Some (plain_value result) }
-        ensures removed { plain_values self.new ≡ remove (plain_values self.old) index }
-    {
-        self.values.remove(index)
     }
 
     pub fn as_slice(&self) -> &[Value]

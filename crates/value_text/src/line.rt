@@ -45,7 +45,7 @@ pub fn read_members(
     ensures { Tells plain_values result (values_from (map (λ m. m.type) (map plain_member members.now)) column text.now) }
 {
     let end = column + text.len() as u32;
-    let mut values = Values::with_capacity(alloc, members.len())?;
+    let mut values = Values::with_room(alloc, members.len())?;
     let mut rest = text;
     for member in members {
         rest = push_next(&mut values, alloc, &member.ty, rest, end)?;
@@ -67,7 +67,7 @@ pub fn read_chosen(
     ensures { Tells plain_values result (values_from (map (λ m. m.type) (chosen (map plain_member members.now) numbers.now)) column text.now) }
 {
     let end = column + text.len() as u32;
-    let mut values = Values::with_capacity(alloc, numbers.len())?;
+    let mut values = Values::with_room(alloc, numbers.len())?;
     let mut rest = text;
     for number in numbers {
         let Some(member) = members.get(*number as usize) else {

@@ -5,9 +5,8 @@ ghost use Rattle.value_text.specs.Letters.{is_raw, is_escaped};
 ghost use Rattle.value_text.specs.Reading.{Gives, behind, digits_at, escape_at, byte_at, bytes_at, character_at, string_at};
 
 use crate::ValueFault;
-use crate::digits::{digit_value, is_digit};
 use crate::words::Read;
-use pss_base::Bytes;
+use pss_base::{Bytes, digit_value, is_digit};
 use std::alloc::Global;
 
 /// The text behind a byte, where the byte stands in front.

@@ -10,8 +10,8 @@ ghost use Rattle.value_text.specs.Words.{digits_of, is_decimal};
 ghost use Rattle.value_text.specs.Reading.{Gives, is_part, word_at, number_in, truth_in, enumerator_in, reference_in};
 
 use crate::ValueFault;
-use crate::digits::{decimal_value, is_digit};
-use pss_base::{is_blank, read_pid};
+use crate::digits::decimal_value;
+use pss_base::{is_blank, is_digit, read_pid};
 use type_layout::{PlacedNames, Value};
 
 /// What was read, and the text behind it.

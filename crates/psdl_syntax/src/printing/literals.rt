@@ -6,8 +6,8 @@ ghost use Rattle.psdl_tokens.specs.Lexis.{is_keyword_like, is_left_out};
 ghost use Rattle.psdl_syntax.specs.Canonical.{name_text, is_numbered, character_text, string_text};
 
 use itoa::Buffer;
-use psdl_tokens::{is_digit, is_keyword, is_left_out};
-use pss_base::{Bytes, NoMemory, hex_digit};
+use psdl_tokens::{is_keyword, is_left_out};
+use pss_base::{Bytes, NoMemory, hex_digit, is_digit};
 
 fn is_reserved(name: &[u8]) -> bool
     ensures { result ≡ (is_keyword_like name.now || is_left_out name.now) }

@@ -18,7 +18,7 @@ returns-then-is_left_out-clause-lexeme c =
 pub returns-clause-lexeme : goal.returns-clause-lexeme
 returns-clause-lexeme c =
     let none : keyword_of c.args.word.now ≡ None = sym c.keyword_of.ensures ∙ c.in_default.is in
-    word-identifier c.args.word.now c.in_ok-owned.field-0 none
+    word-identifier c.args.word.now c.in_ok-from_slice.field-0 none
     (keyword_test _ c.is_keyword.result c.is_keyword.ensures ∙ c.if-is_keyword.false)
     (left_out_test _ c.is_left_out.result c.is_left_out.ensures ∙ c.if-is_left_out.false)
-    c.in_ok-owned.ensures
+    c.in_ok-from_slice.ensures

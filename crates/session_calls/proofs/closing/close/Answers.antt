@@ -16,11 +16,11 @@ returns-in_default g c k at = no_session c.args.parts.now k at c.args.name.now _
 pub close_session-requires : goal.close_session-requires
 close_session-requires g c = may_close c.args.parts.now c.requires.kept c.requires.at c.args.name.now c.in-Some.found (found_as c.requires.kept _ c.args.name.now c.in-Some.found c.as_slice.ensures (c.in-Some.ensures c.requires.kept c.requires.at.stands))
 
-pub returns-in-Some-transaction_of : goal.returns-in-Some-transaction_of
-returns-in-Some-transaction_of g c =
-    if_ok (λ (told : Reply). (k : Kept) → Stands c.args.parts.now k → told ≡ reply.Assoc (name_of k c.in-Some-transaction_of.owner)) (λ (told : Reply). (k : Kept) → IsAt c.args.parts.now k → Comes c.args.parts.now k (command.Close c.args.name.now) told c.args.parts.now) c.associated.result
-    (λ told is k at. replied c.args.parts.now c.args.parts.now k (command.Close c.args.name.now) (reply.Assoc (name_of k c.in-Some-transaction_of.owner)) told (is k at.stands)
-    (close_held c.args.parts.now k at c.args.name.now c.in-Some.found (found_as k _ c.args.name.now c.in-Some.found c.as_slice.ensures (c.in-Some.ensures k at.stands)) c.in-Some-transaction_of.owner (sym c.in-Some-transaction_of.ensures)))
+pub returns-in-Some-transaction : goal.returns-in-Some-transaction
+returns-in-Some-transaction g c =
+    if_ok (λ (told : Reply). (k : Kept) → Stands c.args.parts.now k → told ≡ reply.Assoc (name_of k c.in-Some-transaction.owner)) (λ (told : Reply). (k : Kept) → IsAt c.args.parts.now k → Comes c.args.parts.now k (command.Close c.args.name.now) told c.args.parts.now) c.associated.result
+    (λ told is k at. replied c.args.parts.now c.args.parts.now k (command.Close c.args.name.now) (reply.Assoc (name_of k c.in-Some-transaction.owner)) told (is k at.stands)
+    (close_held c.args.parts.now k at c.args.name.now c.in-Some.found (found_as k _ c.args.name.now c.in-Some.found c.as_slice.ensures (c.in-Some.ensures k at.stands)) c.in-Some-transaction.owner (sym c.in-Some-transaction.ensures)))
     c.associated.ensures
 
 pub returns-in-None : goal.returns-in-None

@@ -16,4 +16,4 @@ returns-in-Basic c k at = status_of_basic c.args.parts.now k at c.args.name.now 
 
 pub returns-in-Transactional : goal.returns-in-Transactional
 returns-in-Transactional c k at =
-    subst (λ (s : StateName). Comes c.args.parts.now k (command.Status c.args.name.now) (reply.State s) c.args.parts.now) (sym c.state_of.ensures) (status_of_other c.args.parts.now k at c.args.name.now c.in-Some.found (found_as k _ c.args.name.now c.in-Some.found c.as_slice.ensures (c.in-Some.ensures k at.stands)) c.in-Transactional.is)
+    subst (λ (s : StateName). Comes c.args.parts.now k (command.Status c.args.name.now) (reply.State s) c.args.parts.now) (sym c.state.ensures) (status_of_other c.args.parts.now k at c.args.name.now c.in-Some.found (found_as k _ c.args.name.now c.in-Some.found c.as_slice.ensures (c.in-Some.ensures k at.stands)) c.in-Transactional.is)

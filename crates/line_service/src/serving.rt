@@ -1,7 +1,7 @@
 // A script is served, line by line.
-ghost use Rattle.std.specs.Prelude.{◌≡◌, ◌+◌, ◌≤◌, ◌⊎◌, ℕ, List};
+ghost use Rattle.std.specs.Prelude.{◌+◌, ◌≤◌, ◌⊎◌, ℕ, List};
 ghost use Rattle.pss_base.specs.Causes.{HasCauseIf};
-ghost use Rattle.pss_disk.specs.Moments.{Disk, Through};
+ghost use Rattle.pss_disk.specs.Moments.{Through};
 ghost use Rattle.std.specs.declared.option.Option.{Option};
 ghost use Rattle.line_service.specs.Runs.{Says, Comes, SaidByLines, IsCut, is_read_fault, is_speak_fault, is_disk_fault};
 

@@ -1,5 +1,5 @@
 // Checkpoints of a store in memory.
-ghost use Rattle.std.specs.Prelude.{◌≡◌, ◌≤◌, IsTrue, IfOk, Some};
+ghost use Rattle.std.specs.Prelude.{◌≡◌, IsTrue, IfOk, Some};
 ghost use Rattle.page_format.specs.Objects.{IsRightPut};
 ghost use Rattle.page_format.specs.Roots.{IsWithinLimits};
 ghost use Rattle.pss_disk.specs.Moments.{IsSettled};

@@ -1,5 +1,5 @@
 // Slots that a root does not name.
-ghost use Rattle.std.specs.Prelude.{ℕ, ◌≡◌, ◌+◌, ◌<◌, ◌≤◌, false, length, slice_index, slice_index_or, IfOk};
+ghost use Rattle.std.specs.Prelude.{◌≡◌, ◌+◌, ◌<◌, ◌≤◌, length, IfOk};
 ghost use Rattle.page_format.specs.Packing.{AreLeastFree};
 ghost use Rattle.page_format.specs.inner.Marks.{count_marked};
 ghost use Rattle.page_format.specs.inner.Freeing.{AreLeastUnmarked};

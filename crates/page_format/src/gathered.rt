@@ -1,11 +1,10 @@
 // The entries of pages are gathered.
-ghost use Rattle.std.specs.Prelude.{ℕ, ◌≡◌, ◌≢◌, ◌↔◌, ◌+◌, ◌<◌, ◌≤◌, ◌++◌, ◌∷◌, [], IsTrue, List, length, map, Err, IfOk, None, OnOk, Some, slice_index};
+ghost use Rattle.std.specs.Prelude.{ℕ, ◌≡◌, ◌≢◌, ◌↔◌, ◌+◌, ◌<◌, ◌≤◌, ◌++◌, ◌∷◌, [], IsTrue, length, map, Err, IfOk, None, OnOk, Some, slice_index};
 ghost use Rattle.std.specs.Map.{keys_of};
 ghost use Rattle.pss_base.specs.declared.damage.DamageKind.{DamageKind as Kind};
-ghost use Rattle.pss_disk.specs.Octets.{octets_in};
 ghost use Rattle.pss_disk.specs.Parts.{number8};
 ghost use Rattle.page_format.specs.PageDamage.{AreWrongEntries, IsWrongEntry};
-ghost use Rattle.page_format.specs.Pages.{AllFit, AreGiven, Fits, IsGiven, IsPage, IsPageHead, behind_entry, entries_of, entry_at, entry_count, octets_in_use, put_of, record_length, serials_of};
+ghost use Rattle.page_format.specs.Pages.{AreGiven, Fits, IsGiven, IsPage, IsPageHead, behind_entry, entries_of, entry_at, entry_count, octets_in_use, put_of, record_length, serials_of};
 ghost use Rattle.page_format.specs.declared.stop.PageStop.TheVariants.{Damaged as DamagedAt};
 
 use crate::layout::{ENTRIES, PAGE, RECORD};

@@ -1,12 +1,11 @@
 // The pages of a root are read, one after another.
-ghost use Rattle.std.specs.Prelude.{ℕ, ◌≡◌, ◌≢◌, ◌↔◌, ◌+◌, ◌*◌, ◌<◌, ◌≤◌, [], IsTrue, List, length, take, Err, IfErr, IfOk, IfSome, None, IsSome, OnOk, Some, false, slice_index};
+ghost use Rattle.std.specs.Prelude.{ℕ, ◌≡◌, ◌↔◌, ◌+◌, ◌*◌, ◌<◌, ◌≤◌, IsTrue, List, length, take, Err, IfErr, IfOk, IfSome, None, IsSome, OnOk, Some, false, slice_index};
 ghost use Rattle.std.specs.Map.{keys_of};
 ghost use Rattle.pss_base.specs.Causes.{HasCauseIf};
 ghost use Rattle.pss_base.specs.declared.damage.DamageKind.{DamageKind as Kind};
 ghost use Rattle.pss_base.specs.declared.damage.DamageKind.TheVariants.{Packing};
 ghost use Rattle.pss_disk.specs.Reading.{OnlyReads};
 ghost use Rattle.page_format.specs.Faults.{is_page_disk_fault};
-ghost use Rattle.page_format.specs.PageDamage.{AreWrongEntries};
 ghost use Rattle.page_format.specs.Pages.{IsPageHead, entry_count, octets_in_use};
 ghost use Rattle.page_format.specs.Places.{slot_start};
 ghost use Rattle.page_format.specs.Refusals.{IsPageRefusal};

@@ -1,5 +1,5 @@
 // Which page holds an object.
-ghost use Rattle.std.specs.Prelude.{ℕ, ◌≡◌, ◌≢◌, ◌++◌, ◌∷◌, [], ◌<◌, ◌↔◌, IsTrue, length, slice_index, true, false, OnOk};
+ghost use Rattle.std.specs.Prelude.{ℕ, ◌≡◌, ◌≢◌, ◌++◌, ◌∷◌, [], ◌<◌, ◌↔◌, IsTrue, length, slice_index, OnOk};
 ghost use Rattle.std.specs.Map.{keys_of};
 
 use indexmap::IndexMap;

@@ -1,5 +1,5 @@
 // The current root of a store is read and tested.
-ghost use Rattle.std.specs.Prelude.{ℕ, ◌≡◌, ◌+◌, ◌<◌, ◌≤◌, List, false, length, slice_index, IfErr, IfOk, IfSome, MatchOption, OnOk};
+ghost use Rattle.std.specs.Prelude.{ℕ, ◌≡◌, ◌+◌, ◌<◌, ◌≤◌, List, false, length, IfErr, IfOk, IfSome, MatchOption, OnOk};
 ghost use Rattle.pss_base.specs.Causes.{HasCauseIf};
 ghost use Rattle.pss_disk.specs.Parts.{Stands};
 ghost use Rattle.pss_disk.specs.Reading.{OnlyReads};
@@ -8,7 +8,7 @@ ghost use Rattle.page_format.specs.Faults.{is_disk_stop, is_root_disk_fault};
 ghost use Rattle.page_format.specs.Places.{area_start};
 ghost use Rattle.page_format.specs.Refusals.{IsRootRefusal};
 ghost use Rattle.page_format.specs.Roots.{HasRoot, IsWithinLimits};
-ghost use Rattle.page_format.specs.inner.Current.{AreItsSlots, AreRight, IsCurrentHead, IsOpened, IsRightHead, IsWrongHead};
+ghost use Rattle.page_format.specs.inner.Current.{AreItsSlots, AreRight, IsOpened, IsRightHead, IsWrongHead};
 
 use crate::current::{Current, read_current};
 use crate::fault::RootFault;

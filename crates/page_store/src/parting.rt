@@ -1,5 +1,5 @@
 // Which pages of a root are packed anew.
-ghost use Rattle.std.specs.Prelude.{ℕ, ◌≡◌, ◌==◌, ◌<◌, ◌≤◌, ◌||◌, ◌++◌, ◌∷◌, [], cond, not, if◌then◌else◌, false, None, length, slice_index, slice_index_or, IfOk, OnOk};
+ghost use Rattle.std.specs.Prelude.{ℕ, ◌≡◌, ◌==◌, ◌<◌, ◌||◌, ◌++◌, ◌∷◌, [], cond, not, if◌then◌else◌, false, None, length, slice_index, slice_index_or, IfOk, OnOk};
 ghost use Rattle.std.specs.List.{filter};
 ghost use Rattle.page_store.specs.Placed.{is_noted, slot_under};
 ghost use Rattle.page_store.specs.Touched.{is_in, is_repacked, is_touched, under_serials};

@@ -1,5 +1,5 @@
 // What a crash may leave after some calls of a station in memory.
-ghost use Rattle.std.specs.Prelude.{◌≡◌, ◌≤◌, All, IfOk, OnOk, IfSome, slice_get, length};
+ghost use Rattle.std.specs.Prelude.{◌≡◌, All, IfOk, OnOk};
 ghost use Rattle.pss_disk.specs.Moments.{pend, settled};
 ghost use Rattle.pss_disk.specs.Octets.{range_of};
 ghost use Rattle.pss_disk.specs.Tape.{IsFilled, IsPicked, after, after_all, filling, start};

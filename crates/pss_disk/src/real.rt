@@ -2,7 +2,7 @@
 ghost use Rattle.std.specs.Prelude.{◌≡◌, ◌+◌, ◌≤◌, ℕ, [], None, IsErr, IsNone, OnOk, OnErr, is_err, length, take};
 ghost use Rattle.std.specs.Io.KnownBytes.{Appends};
 ghost use Rattle.pss_base.specs.Causes.{HasCause, counted};
-ghost use Rattle.pss_disk.specs.Moments.{spoke, synced, wrote};
+ghost use Rattle.pss_disk.specs.Moments.{spoke, wrote};
 ghost use Rattle.pss_disk.specs.Octets.{disk_end, range_of};
 
 use crate::station::Station;
@@ -112,7 +112,6 @@ fn write_bytes<O: Write>(out: &mut O, bytes: &[u8]) -> usize
 }
 
 impl<F: FileExt + OpenFile + Drop, O: Write + Drop> Station for RealStation<F, O> {
-    ghost use Rattle.std.proofs.lemmas.Bool.{false≢true};
     ghost use Rattle.pss_disk.specs.Outside.{file_faults, file_of, speech_faults, writer_of};
     ghost use Rattle.pss_disk.specs.inner.Told.{tells_nothing};
 

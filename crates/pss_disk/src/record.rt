@@ -1,5 +1,5 @@
 // The record of a station in memory: calls, content and speech, each as a list that grows or stays.
-ghost use Rattle.std.specs.Prelude.{◌≡◌, ◌++◌, ◌∷◌, [], ◌+◌, ◌-◌, ◌<◌, ◌≤◌, ◌^◌, drop, length, replicate, take, IfOk, OnOk, OnErr};
+ghost use Rattle.std.specs.Prelude.{◌≡◌, ◌++◌, ◌∷◌, [], ◌+◌, ◌-◌, ◌<◌, ◌≤◌, ◌^◌, drop, length, replicate, take, OnOk, OnErr};
 ghost use Rattle.pss_base.specs.Feed.{is_listed};
 ghost use Rattle.pss_disk.specs.Octets.{octets_in, range_of, write};
 ghost use Rattle.pss_disk.specs.Tape.{half};

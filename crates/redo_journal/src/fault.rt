@@ -1,6 +1,6 @@
 // Why a journal is not replayed.
 ghost use Rattle.std.specs.Prelude.{◌≡◌};
-ghost use Rattle.redo_journal.specs.declared.fault.ReplayFault.TheVariants.{DiskFault as OfDisk, NoMemory as OfMemory};
+ghost use Rattle.redo_journal.specs.declared.fault.ReplayFault.TheVariants.{NoMemory as OfMemory};
 ghost use Rattle.pss_base.specs.declared.stop.StoreStop.TheVariants as stop;
 
 use pss_base::{NoMemory, StoreStop};

@@ -1,5 +1,5 @@
 // The journal is read in large pieces.
-ghost use Rattle.std.specs.Prelude.{◌≡◌, ◌+◌, ◌-◌, ◌<◌, ◌≤◌, ◌↔◌, drop, length, IfOk, IsTrue, OnOk};
+ghost use Rattle.std.specs.Prelude.{◌≡◌, ◌+◌, ◌-◌, ◌<◌, ◌≤◌, ◌↔◌, drop, IfOk, IsTrue, OnOk};
 ghost use Rattle.pss_base.specs.Causes.{HasCause, HasCauseIf};
 ghost use Rattle.pss_disk.specs.Reading.{OnlyReads};
 ghost use Rattle.redo_journal.specs.Faults.{is_disk_stop};

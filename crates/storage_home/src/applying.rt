@@ -1,5 +1,5 @@
 // What a commit makes of the objects.
-ghost use Rattle.std.specs.Prelude.{◌≡◌, List, ◌∷◌, false};
+ghost use Rattle.std.specs.Prelude.{List, ◌∷◌, false};
 ghost use Rattle.std.specs.FinMap.{insert, remove};
 ghost use Rattle.type_layout.specs.declared.schema.Schema.{Schema};
 ghost use Rattle.pss_catalog.specs.Catalog.{Catalog};

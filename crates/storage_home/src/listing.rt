@@ -1,5 +1,5 @@
 // The first objects of a storage home and of those that derive from it.
-ghost use Rattle.std.specs.Prelude.{◌≡◌, ◌≤◌, ℕ, List, Some, take, length, IfOk, OnOk};
+ghost use Rattle.std.specs.Prelude.{◌≡◌, ℕ, List, Some, take, IfOk, OnOk};
 ghost use Rattle.type_layout.specs.declared.home.HomeNo.{HomeNo as Home};
 ghost use Rattle.type_layout.specs.declared.schema.Schema.{Schema};
 ghost use Rattle.pss_catalog.specs.Catalog.{Catalog, pids_where};

@@ -1,5 +1,5 @@
 // Digits, and the numbers that they stand for.
-ghost use Rattle.std.specs.Prelude.{◌≡◌, ◌<◌, ◌+◌, ◌*◌, ◌^◌, SomeIff};
+ghost use Rattle.std.specs.Prelude.{◌<◌, ◌+◌, ◌*◌, ◌^◌, SomeIff};
 ghost use Rattle.std.specs.Str.Parse.{digits_value};
 
 use pss_base::digit_value;

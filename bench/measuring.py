@@ -89,6 +89,13 @@ def copy_texts(texts, crate):
                 shutil.copy(os.path.join(folder, name), os.path.join(to, name.replace(".txt", ".antt")))
 
 
+def compiled(folder, source):
+    """The path of the program that a text in C under `bench/` makes, built in this folder."""
+    path = os.path.join(folder, os.path.splitext(os.path.basename(source))[0])
+    subprocess.check_call(["cc", "-O2", "-o", path, os.path.join(here, source)])
+    return path
+
+
 def lines(path, *words):
     """The lines that a program prints, each as its words."""
     told = subprocess.run([path, *words], stdin=subprocess.DEVNULL, stdout=subprocess.PIPE, text=True, check=True).stdout

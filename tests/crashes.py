@@ -8,15 +8,10 @@ import signal
 import time
 
 from running import dialogue, ended, fresh, program, shortened, tell, written
+from schemas import CELLS, NOTES, pid
 
-CELLS = b"storagetype Cell{state long v;};storagehome Cells of Cell{};"
-NOTES = b"storagetype Note{state string t;};storagehome Notes of Note{};"
 FIRST_SLOT = 4456448
 PAGE = 16384
-
-
-def pid(serial):
-    return f"{1:08x}{serial:016x}"
 
 
 # ---- kill -9

@@ -1,9 +1,7 @@
 """Scripts up to the greatest numbers that are served. A case is its name, the schema's text, the lines of the script and the replies, and those of a
 second run over the store, or none."""
 
-CELLS = b"storagetype Cell{state long v;};storagehome Cells of Cell{};"
-KEYED = b"storagetype Cell{state long v;};storagehome Cells of Cell{key v;};"
-NOTES = b"storagetype Note{state string t;};storagehome Notes of Note{};"
+from schemas import CELLS, KEYED, NOTES, pid
 
 OPENED = ("open s1 basic rw", "OK")
 FLUSHED = ("flush s1", "OK")
@@ -17,10 +15,6 @@ LONGEST_LINE = 65536
 MOST_OCTETS = 67108864
 # A record of 8,000 octets: one in front, three to the next place of four, a length of four, the letters and a zero octet.
 LONGEST_NOTE = 7991
-
-
-def pid(serial):
-    return f"{1:08x}{serial:016x}"
 
 
 def created(home, number, value):

@@ -3,8 +3,8 @@ import os
 import threading
 
 from running import USAGE, contents, cells, ended, examples, fresh, program, shortened, tell, written
+from schemas import CELLS
 
-CELLS = b"storagetype Cell{state long v;};storagehome Cells of Cell{};"
 FIRST = b"open s1 basic rw\ncreate s1 Cells 7\nget s1 i1 v\n"
 REPLIES = b"OK\nOK i1 000000010000000000000001\nOK 7\n"
 

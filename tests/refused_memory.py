@@ -4,8 +4,8 @@ import shutil
 import subprocess
 
 from running import ended, here, program, tell, written
+from schemas import KEYED
 
-CELLS = b"storagetype Cell{state long v;};storagehome Cells of Cell{key v;};"
 # Three commits, with a checkpoint behind the second.
 SCRIPT = b"open s basic rw\ncreate s Cells 7\nflush s\ncreate s Cells 8\nflush s\ncheckpoint\ncreate s Cells 9\nflush s\ncount s Cells\n"
 REPLIES = b"OK\nOK i1 000000010000000000000001\nOK\nOK i2 000000010000000000000002\nOK\nOK\nOK i3 000000010000000000000003\nOK\nOK 3\n"
@@ -26,7 +26,7 @@ def with_refused(shim, number, words, **more):
 def refused_memory(folder):
     shim = os.path.join(folder, "refused.so")
     subprocess.run(["cc", "-O2", "-shared", "-fPIC", "-o", shim, os.path.join(here, "refused.c"), "-ldl"], check=True)
-    schema = written(folder, CELLS)
+    schema = written(folder, KEYED)
     first, store, count = (os.path.join(folder, name) for name in ("first", "store", "count"))
     made = ended([program, "init", schema, first])
     tell("a store is made", made == (0, b"", b""), made)

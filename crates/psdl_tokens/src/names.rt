@@ -1,40 +1,10 @@
 // The words of the grammar, and those that it leaves out.
 ghost use Rattle.std.specs.Prelude.{◌↔◌, IsTrue, Any, Contains, map};
 ghost use Rattle.psdl_tokens.specs.Names.{SameButForCase, keywords, left_out_words};
+ghost use Rattle.psdl_tokens.specs.Spellings.{keyword_spelling};
 
-// The words of the grammar. No name is one of them in any case.
-const KEYWORDS: [&str; 30] = [
-    "abstract",
-    "boolean",
-    "catalog",
-    "char",
-    "const",
-    "enum",
-    "factory",
-    "implements",
-    "in",
-    "inout",
-    "key",
-    "long",
-    "module",
-    "octet",
-    "of",
-    "out",
-    "primary",
-    "provides",
-    "readonly",
-    "ref",
-    "sequence",
-    "short",
-    "state",
-    "storagehome",
-    "storagetype",
-    "string",
-    "struct",
-    "typedef",
-    "unsigned",
-    "void",
-];
+use crate::spelling::{ALL_KEYWORDS, keyword_spelling};
+use crate::token::Keyword;
 
 // The words of PSS 2.0 that this language leaves out. No name is one of them exactly.
 const LEFT_OUT_WORDS: [&str; 33] = [
@@ -73,12 +43,10 @@ const LEFT_OUT_WORDS: [&str; 33] = [
     "FALSE",
 ];
 
-fn is_in_but_for_case(word: &[u8], table: &[&str]) -> bool
-    ensures { IsTrue result ↔ Any (SameButForCase word.now) (map (λ entry. entry.now) table.now) }
+fn is_like_one_of(word: &[u8], table: &[Keyword]) -> bool
+    ensures { IsTrue result ↔ Any (SameButForCase word.now) (map keyword_spelling table.now) }
 {
-    table
-        .iter()
-        .any(|entry| word.eq_ignore_ascii_case(entry.as_bytes()))
+    table.iter().any(|keyword| word.eq_ignore_ascii_case(keyword_spelling(*keyword).as_bytes()))
 }
 
 fn is_in(word: &[u8], table: &[&str]) -> bool
@@ -91,7 +59,7 @@ fn is_in(word: &[u8], table: &[&str]) -> bool
 pub fn is_keyword(word: &[u8]) -> bool
     ensures { IsTrue result ↔ Any (SameButForCase word.now) keywords }
 {
-    is_in_but_for_case(word, &KEYWORDS)
+    is_like_one_of(word, &ALL_KEYWORDS)
 }
 
 /// Tells whether this is a left-out word, in exact case.

@@ -6,7 +6,8 @@ ghost use Rattle.psdl_tokens.specs.Spellings.{keyword_spelling, keyword_of, mark
 use crate::alphabet::byte_at;
 use crate::token::{Keyword, Mark};
 
-const ALL_KEYWORDS: [Keyword; 30] = [
+// The words of the grammar. No name is one of them in any case.
+pub(crate) const ALL_KEYWORDS: [Keyword; 30] = [
     Keyword::Abstract,
     Keyword::Boolean,
     Keyword::Catalog,

@@ -15,7 +15,8 @@ pub enum Spelling {
     Lower,
 }
 
-fn in_small_letters(alloc: Global, name: &[u8]) -> Result<Vec<u8>, NoMemory>
+/// A name with its letters small.
+pub fn in_small_letters(alloc: Global, name: &[u8]) -> Result<Vec<u8>, NoMemory>
     ensures { IfOk result (λ v. v.items ≡ lower name.now) }
 {
     let mut spelled = name.to_vec(alloc)?;

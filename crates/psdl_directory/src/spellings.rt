@@ -36,7 +36,7 @@ impl Spellings {
         }
     }
 
-    /// How many there are. Their numbers are less than that.
+    /// More than each of their numbers.
     pub fn len(&self) -> usize
         ensures { (name : List ℕ) (n : ℕ) → number_of self.now name ≡ Some n → n < result }
     {

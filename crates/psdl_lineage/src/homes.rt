@@ -8,7 +8,6 @@ ghost use Rattle.psdl_directory.specs.Parts as parts;
 ghost use Rattle.psdl_lineage.specs.Descent as descent;
 ghost use Rattle.psdl_lineage.specs.inner.Meant.{meant_by, defined_by};
 
-use crate::sorts::{is_concrete_home, is_storage_type};
 use psdl_directory::{DeclarationNo, Directory, Header, Use};
 use pss_base::NoMemory;
 use std::alloc::Global;
@@ -19,7 +18,7 @@ fn storage_type(directory: &Directory<'_>, used: &Use) -> Option<DeclarationNo>
     let Some(defined) = used.defined else {
         return None;
     };
-    let holds = is_storage_type(directory.what(defined));
+    let holds = directory.what(defined).is_storage_type();
     if holds { Some(defined) } else { None }
 }
 
@@ -39,7 +38,7 @@ fn concrete_home(directory: &Directory<'_>, used: &Use) -> Option<DeclarationNo>
     let Some(defined) = used.defined else {
         return None;
     };
-    let holds = is_concrete_home(directory.what(defined));
+    let holds = directory.what(defined).is_concrete_home();
     if holds { Some(defined) } else { None }
 }
 
@@ -60,7 +59,7 @@ pub(crate) fn first_home(directory: &Directory<'_>, uses: &[Use]) -> Option<Decl
 fn add_home(directory: &Directory<'_>, homes: &mut Vec<usize>, index: usize) -> Result<(), NoMemory>
     ensures { OnOk result (homes.new.items ≡ homes.old.items ++ (if parts.is_concrete_home (at (all_of directory.now) index).what then index ∷ [] else [])) }
 {
-    let holds = is_concrete_home(directory.what(DeclarationNo::new(index)));
+    let holds = directory.what(DeclarationNo::new(index)).is_concrete_home();
     if holds {
         homes.push(index)?;
     }

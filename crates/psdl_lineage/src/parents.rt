@@ -2,14 +2,22 @@
 ghost use Rattle.std.specs.Prelude.{◌≡◌, ◌++◌, ◌∷◌, [], IfOk, OnOk};
 ghost use Rattle.psdl_directory.specs.Directories.{all_of};
 ghost use Rattle.psdl_directory.specs.Headers as of;
+ghost use Rattle.psdl_directory.specs.inner.Nodes.{what_view};
+ghost use Rattle.psdl_lineage.specs.Descent.{same_sort};
 ghost use Rattle.psdl_lineage.specs.Graph.{graph_of};
 ghost use Rattle.psdl_lineage.specs.inner.Meant.{of_uses};
 
 use crate::graph::Graph;
-use crate::sorts::same_sort;
-use psdl_directory::{DeclarationNo, Directory, Header, Use};
+use psdl_directory::{DeclarationNo, Directory, Header, Use, What};
 use pss_base::NoMemory;
 use std::alloc::Global;
+
+// Whether both are storage types, or both homes.
+fn same_sort(first: What<'_>, second: What<'_>) -> bool
+    ensures { result ≡ same_sort (what_view first.entry) (what_view second.entry) }
+{
+    (first.is_storage_type() && second.is_storage_type()) || (first.is_home() && second.is_home())
+}
 
 // Adds the definitions that are of the sort of a declaration.
 fn add_definitions(

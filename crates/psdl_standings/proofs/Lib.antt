@@ -35,3 +35,4 @@ pub mod Deepening
 pub mod Cutting
 pub mod Deeply
 pub mod Kept
+pub mod BodyStates

@@ -1,6 +1,6 @@
 -- The types of the states in bodies, as the program keeps them.
-use Rattle.std.specs.Prelude.{◌≡◌, ℕ, ◌+◌, List, [], map, Option, Bool, true, false, not, nat_lt, IsTrue}
-use Rattle.std.specs.List.{flat_map, list_all}
+use Rattle.std.specs.Prelude.{◌≡◌, ℕ, ◌+◌, List, [], length, map, Option, Bool, true, false, not, nat_lt, IsTrue}
+use Rattle.std.specs.List.{flat_map, list_all, range_with_len}
 use Rattle.std.specs.Option.{option_map}
 use Rattle.psdl_tree.specs.Trees.{StateType, State}
 use Rattle.type_layout.specs.declared.home.HomeNo.{HomeNo}
@@ -28,14 +28,26 @@ state_types what = flat_map types_of_state (states what)
 abbrev pub body_type : List Declaration → List Standing → (ℕ → List HomeNo) → ℕ → StateType → Option PlainType
 body_type all done homes n type = state_type_by (sight all done (n + 1) (at all n).path) (λ name. option_map homes (defined all n name)) type
 
--- the same by what is kept: the number of a type, or the definition that a reference is to
+-- of the states in the body of a declaration, in order
+abbrev pub own_types : List Declaration → (ℕ → List HomeNo) → ℕ → List (Option PlainType)
+own_types all homes n = map (body_type all (standings all) homes n) (state_types (at all n).what)
+
+-- there are states in the body of a declaration
+abbrev pub has_states : List Declaration → ℕ → Bool
+has_states all n = nat_lt 0 (length (state_types (at all n).what))
+
+-- of the first so many
+abbrev pub flags : List Declaration → ℕ → List Bool
+flags all count = map (has_states all) (range_with_len 0 count)
+
+-- the type of a state by what is kept: the number of a type, or the definition that a reference is to
 abbrev pub type_kept : List PlainType → (ℕ → List HomeNo) → StateEntry → Option PlainType
 type_kept types homes (entries.Plain number) = entry_type types number
 type_kept types homes (entries.Reference definition) = option_map RefTo (option_map homes definition)
 
 -- of a declaration
 abbrev pub AreStates : List Declaration → List PlainType → ℕ → List StateEntry → Type 0
-AreStates all types n kept = (homes : ℕ → List HomeNo) → map (type_kept types homes) kept ≡ map (body_type all (standings all) homes n) (state_types (at all n).what)
+AreStates all types n kept = (homes : ℕ → List HomeNo) → map (type_kept types homes) kept ≡ own_types all homes n
 
 -- it is one of the first so many types, or of the first so many declarations
 abbrev pub is_kept_below : ℕ → ℕ → StateEntry → Bool

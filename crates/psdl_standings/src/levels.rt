@@ -10,8 +10,11 @@ use crate::types::{FieldNode, Node, Types};
 use pss_base::NoMemory;
 use std::alloc::Global;
 
-/// One more than may be nested stands for all beyond it.
-pub(crate) const TOO_DEEP: usize = 33;
+/// So deep a type may nest.
+pub(crate) const DEEPEST: usize = 32;
+
+/// One more stands for all beyond it.
+pub(crate) const TOO_DEEP: usize = DEEPEST + 1;
 
 fn one_more(level: usize) -> usize
     ensures { result ≡ cut (suc level) }

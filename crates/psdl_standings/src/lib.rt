@@ -21,7 +21,6 @@ mod operator;
 mod places;
 mod range;
 mod sight;
-mod sorts;
 mod spot;
 mod standings;
 mod state_entry;

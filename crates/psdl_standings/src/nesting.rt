@@ -15,7 +15,7 @@ ghost use Rattle.psdl_standings.specs.inner.Levels.{depth, part_depth, names_at,
 ghost use Rattle.psdl_standings.specs.inner.Measured.{cut, IsLevelled};
 ghost use Rattle.psdl_standings.specs.inner.Tellings.{stand};
 
-use crate::levels::TOO_DEEP;
+use crate::levels::{DEEPEST, TOO_DEEP};
 use crate::numbered_standing::NumberedStanding;
 use crate::walk::index_of;
 use psdl_directory::{DeclarationNo, Directory, Spelling, What};
@@ -244,7 +244,7 @@ fn is_deep(nesting: Option<usize>) -> bool
     ensures { result ≡ given nesting false (λ k. nat_lt 32 k) }
 {
     match nesting {
-        Some(levels) => 32 < levels,
+        Some(levels) => DEEPEST < levels,
         None => false,
     }
 }

@@ -29,7 +29,9 @@ pub struct Standings<'l, 'd> {
 }
 
 impl<'l, 'd> Standings<'l, 'd> {
-    ghost use Rattle.std.specs.Prelude.{◌≡◌, [], length, option_map, IfOk};
+    ghost use Rattle.std.specs.Prelude.{◌≡◌, ℕ, List, [], length, map, option_map, IfOk};
+    ghost use Rattle.std.specs.List.{flat_map};
+    ghost use Rattle.type_layout.specs.declared.home.HomeNo.{HomeNo};
     ghost use Rattle.psdl_directory.specs.Directories.{all_of};
     ghost use Rattle.psdl_directory.specs.Fault.{least, each};
     ghost use Rattle.psdl_directory.specs.Headers.{headers as headers_in};
@@ -39,7 +41,7 @@ impl<'l, 'd> Standings<'l, 'd> {
     ghost use Rattle.psdl_standings.specs.Ranges.{of_values};
     ghost use Rattle.psdl_standings.specs.Selves.{of_selves};
     ghost use Rattle.psdl_standings.specs.Standings.{standings};
-    ghost use Rattle.psdl_standings.specs.States.{type_kept, AreStates, AreKeptBelow, is_compound_kept};
+    ghost use Rattle.psdl_standings.specs.States.{type_kept, AreStates, AreKeptBelow, is_compound_kept, flags, own_types};
     ghost use Rattle.psdl_standings.specs.Texts.{text_of, types_in};
     ghost use Rattle.psdl_standings.specs.Turns.{AreInTurn};
     ghost use Rattle.psdl_standings.specs.inner.Declared.{IsWalked};
@@ -108,6 +110,30 @@ impl<'l, 'd> Standings<'l, 'd> {
             Some(states) => states,
             None => &[],
         }
+    }
+
+    /// Which of the first so many declarations have states in their bodies.
+    pub fn stated(&self, alloc: Global, count: usize) -> Result<Vec<bool>, NoMemory>
+        ensures { IfOk result (λ v. v.items ≡ flags (text_of self.now) count) }
+    {
+        let mut flags = Vec::new(alloc);
+        for index in 0..count {
+            let has_states = !self.states(DeclarationNo::new(index)).is_empty();
+            flags.push(has_states)?;
+        }
+        Ok(flags)
+    }
+
+    /// The types of the states in these bodies, in order.
+    pub fn kept_in(&self, alloc: Global, bodies: &[usize]) -> Result<Vec<StateEntry>, NoMemory>
+        ensures types { IfOk result (λ v. (homes : ℕ → List HomeNo) → map (type_kept (types_in self.now) homes) v.items ≡ flat_map (own_types (text_of self.now) homes) bodies.now) }
+        ensures below { IfOk result (λ v. AreKeptBelow (length (types_in self.now)) (length (text_of self.now)) v.items) }
+    {
+        let mut kept = Vec::new(alloc);
+        for body in bodies {
+            kept.extend_from_slice(self.states(DeclarationNo::new(*body)))?;
+        }
+        Ok(kept)
     }
 
     /// Whether the type of a state is a struct, a sequence, an array or a reference.

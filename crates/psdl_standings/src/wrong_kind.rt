@@ -1,9 +1,8 @@
 // C4: names that mean another kind than their place needs.
 use crate::need::Need;
 use crate::numbered_standing::numbered_standing_at;
-use crate::sorts::{is_storage_type, is_type};
 use crate::walk::Walk;
-use psdl_directory::{DeclarationNo, What};
+use psdl_directory::DeclarationNo;
 
 impl<'b, 'a> Walk<'b, 'a> {
     ghost use Rattle.std.specs.Prelude.{◌≡◌};
@@ -19,14 +18,14 @@ impl<'b, 'a> Walk<'b, 'a> {
         let what = self.directory.what(meant);
         let told = numbered_standing_at(&self.told, meant.index());
         match need {
-            Need::OfType => is_type(what),
+            Need::OfType => what.is_type(),
             Need::OfConstantType => self.types.may_be_constant(told),
             Need::OfNumber => told.is_number(),
-            Need::OfStorageType => is_storage_type(what),
-            Need::OfAbstractType => matches!(what, What::AbstractType(_)),
-            Need::OfConcreteType => matches!(what, What::ConcreteType(_)),
-            Need::OfAbstractHome => matches!(what, What::AbstractHome(_)),
-            Need::OfConcreteHome => matches!(what, What::ConcreteHome(_)),
+            Need::OfStorageType => what.is_storage_type(),
+            Need::OfAbstractType => what.is_abstract_type(),
+            Need::OfConcreteType => what.is_concrete_type(),
+            Need::OfAbstractHome => what.is_abstract_home(),
+            Need::OfConcreteHome => what.is_concrete_home(),
         }
     }
 }

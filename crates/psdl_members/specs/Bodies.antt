@@ -9,7 +9,7 @@ use Rattle.psdl_lineage.specs.Descent.{StateMember, members_in}
 use Rattle.psdl_members.specs.declared.member.Member.{Member}
 
 abbrev pub member_view : Member → StateMember
-member_view m = record { home = m.home; name = m.name.now; state_type = state_type_view m.state_type.now; readonly = m.readonly }
+member_view m = record { home = m.declaration; name = m.name.now; state_type = state_type_view m.state_type.now; readonly = m.readonly }
 
 abbrev pub member_views : List Member → List StateMember
 member_views ms = map member_view ms

@@ -13,7 +13,7 @@ use crate::own::{Own, own_of, owners};
 use crate::owners::members_of;
 use crate::type_clash::have_clash;
 use psdl_directory::{DeclarationNo, What};
-use psdl_lineage::{Lineage, Sources, is_home, is_storage_type};
+use psdl_lineage::{Lineage, Sources};
 use pss_base::NoMemory;
 use std::alloc::Global;
 
@@ -136,11 +136,11 @@ impl<'l, 'd> Inherited<'l, 'd> {
         ensures same { inherited_in self.new ≡ inherited_in self.old }
         ensures clash { IfOk result (λ r. r ≡ clashes.has_clash (inherited_in self.old) number (what_view what.entry)) }
     {
-        if is_storage_type(what) {
+        if what.is_storage_type() {
             let clash = self.members_clash(alloc, number)?;
             return Ok(clash);
         }
-        if is_home(what) {
+        if what.is_home() {
             let clash = self.lists_clash(alloc, number)?;
             return Ok(clash);
         }

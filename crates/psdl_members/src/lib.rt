@@ -36,6 +36,7 @@ pub use inherited::Inherited;
 pub use list_kind::ListKind;
 pub use list_numbers::ListNumbers;
 pub use listed::Listed;
+pub use masks::mask_at;
 pub use member::Member;
 pub use own_lists::add_lists;
 pub use spelled::{add_number, add_numbers};

@@ -13,11 +13,13 @@ pub struct ListNumbers {
 }
 
 impl ListNumbers {
-    ghost use Rattle.std.specs.Prelude.{◌≡◌, ◌<◌, ℕ, List, Some, IfOk};
+    ghost use Rattle.std.specs.Prelude.{◌≡◌, ◌<◌, ℕ, List, Some, None, IfOk};
     ghost use Rattle.psdl_members.specs.inner.ListNumbered.{list_number, KeepsLists};
 
     /// None. It takes no memory.
-    pub fn new(alloc: Global) -> ListNumbers {
+    pub fn new(alloc: Global) -> ListNumbers
+        ensures { (list : List ℕ) → list_number result list ≡ None }
+    {
         ListNumbers {
             numbers: BTreeMap::new(alloc),
         }

@@ -6,7 +6,7 @@ ghost use Rattle.psdl_members.specs.inner.Bits.{has_bit};
 use pss_base::NoMemory;
 
 /// The mask of a number, 0 past the last.
-pub(crate) fn mask_at(masks: &[u64], number: usize) -> u64
+pub fn mask_at(masks: &[u64], number: usize) -> u64
     ensures { result ≡ get_or masks.now number 0 }
 {
     match masks.get(number) {

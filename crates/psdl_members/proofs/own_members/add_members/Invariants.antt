@@ -8,5 +8,5 @@ use Rattle.psdl_members.proofs.own_members.add_members.Given as goal
 
 abbrev pub invariant-loop-member : goal.invariant-loop-member
 invariant-loop-member l =
-    member_views l.found.items ++ flat_map (members_in l.home) (flat_map state_of (map abstract_type_member_view (drop l.member-index l.members)))
-    ≡ member_views l.fn.found.items ++ flat_map (members_in l.home) (flat_map state_of (map abstract_type_member_view l.members))
+    member_views l.found.items ++ flat_map (members_in l.declaration) (flat_map state_of (map abstract_type_member_view (drop l.member-index l.members)))
+    ≡ member_views l.fn.found.items ++ flat_map (members_in l.declaration) (flat_map state_of (map abstract_type_member_view l.members))

@@ -7,5 +7,5 @@ use Rattle.psdl_members.proofs.own_members.add_states.Given as goal
 
 abbrev pub invariant-loop-state : goal.invariant-loop-state
 invariant-loop-state l =
-    member_views l.found.items ++ flat_map (members_in l.home) (map state_view (drop l.state-index l.states))
-    ≡ member_views l.fn.found.items ++ flat_map (members_in l.home) (map state_view l.states)
+    member_views l.found.items ++ flat_map (members_in l.declaration) (map state_view (drop l.state-index l.states))
+    ≡ member_views l.fn.found.items ++ flat_map (members_in l.declaration) (map state_view l.states)

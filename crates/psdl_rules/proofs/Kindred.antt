@@ -1,10 +1,10 @@
 -- Homes of one family and one type.
-use Rattle.std.proofs.Common.{◌≡◌, ℕ, zero, suc, ◌+◌, ◌≤◌, ◌<◌, List, [], ◌∷◌, Bool, true, false, cond, ◌==◌, ◌&&◌, ◌||◌, length, take, drop, map, Option, Some, None, is_some, refl, sym, ap, ◌∙◌, arith, add-one, drop-cons, ⊎_elim}
+use Rattle.std.proofs.Common.{◌≡◌, ℕ, zero, suc, ◌+◌, ◌≤◌, ◌<◌, List, [], ◌∷◌, Bool, true, false, cond, ◌==◌, ◌&&◌, ◌||◌, length, take, drop, map, Option, Some, None, refl, sym, ap, ◌∙◌, arith, add-one, drop-cons, ⊎_elim}
 use Rattle.std.specs.Cmp.{tied_then}
 use Rattle.std.specs.List.{list_any, range_with_len, enumerate_from}
 use Rattle.std.specs.Option.{option_map}
 use Rattle.std.specs.Ordering.{is_eq, nat_cmp}
-use Rattle.std.specs.BTreeMap.{BTreeMap}
+use Rattle.std.specs.BTreeSet.{BTreeSet}
 use Rattle.std.proofs.lemmas.Bool.{and_parts, and_from, eqb-true, eq-eqb, cases_Bool}
 use Rattle.std.proofs.lemmas.List.FromFn.{map-range_with_len_more}
 use Rattle.type_layout.specs.Schemas.{given}
@@ -58,39 +58,27 @@ or_turned true false = refl
 or_turned false true = refl
 or_turned false false = refl
 
-entered_at : (f g : Membership → Option ℕ) (key q : Membership) (v : ℕ) → g q ≡ cond (same_membership key q) (Some v) (f q) → (b : Bool) → same_membership key q ≡ b
-    → is_some (g q) ≡ (is_some (f q) || same_membership q key)
-entered_at f g key q v is true h = rw (is, h, turned key q true h) (or_true (is_some (f q)))
-entered_at f g key q v is false h = rw (is, h, turned key q false h) (or_false (is_some (f q)))
+entered_at : (f g : Membership → Bool) (key q : Membership) → g q ≡ cond (same_membership key q) true (f q) → (b : Bool) → same_membership key q ≡ b → g q ≡ (f q || same_membership q key)
+entered_at f g key q is true h = rw (is, h, turned key q true h) (or_true (f q))
+entered_at f g key q is false h = rw (is, h, turned key q false h) (or_false (f q))
 
 -- one is entered
-pub entered : (f g : Membership → Option ℕ) (key : Membership) (v : ℕ) → ((q : Membership) → g q ≡ cond (is_eq (by_membership key q)) (Some v) (f q))
-    → (q : Membership) → is_some (g q) ≡ (is_some (f q) || same_membership q key)
-entered f g key v updates q = entered_at f g key q v (updates q ∙ ap (λ (b : Bool). cond b (Some v) (f q)) (ties key q)) (same_membership key q) refl
-
-stays_at : (f : Membership → Option ℕ) (key q : Membership) (i : ℕ) → f key ≡ Some i → (b : Bool) → same_membership q key ≡ b → is_some (f q) ≡ (is_some (f q) || same_membership q key)
-stays_at f key q i some true h =
-    let there : f q ≡ Some i = ap f (one_membership q key h) ∙ some in
-    rw there refl
-stays_at f key q i some false h = rw h (or_false (is_some (f q)))
-
--- one that is there stays
-pub stays : (f : Membership → Option ℕ) (key : Membership) (i : ℕ) → f key ≡ Some i → (q : Membership) → is_some (f q) ≡ (is_some (f q) || same_membership q key)
-stays f key i some q = stays_at f key q i some (same_membership q key) refl
+pub entered : (f g : Membership → Bool) (key : Membership) → ((q : Membership) → g q ≡ cond (is_eq (by_membership key q)) true (f q)) → (q : Membership) → g q ≡ (f q || same_membership q key)
+entered f g key updates q = entered_at f g key q (updates q ∙ ap (λ (b : Bool). cond b true (f q)) (ties key q)) (same_membership key q) refl
 
 more : (all : List Declaration) (i : ℕ) (q : Membership) → list_any (has_membership q) (memberships_before all (i + 1)) ≡ (has_membership q (membership all i) || list_any (has_membership q) (memberships_before all i))
 more all i q =
     ap (λ (l : List (Option Membership)). list_any (has_membership q) l) (map-range_with_len_more (membership all) 0 i i (omega arith))
     ∙ any_push (has_membership q) (memberships_before all i) (membership all i)
 
-pub one_more : (all : List Declaration) (i : ℕ) (m : Membership) (old new : BTreeMap Membership ℕ) → AreMet all i old → Some m ≡ membership all i → ((q : Membership) → met new q ≡ (met old q || same_membership q m)) → AreMet all (i + 1) new
+pub one_more : (all : List Declaration) (i : ℕ) (m : Membership) (old new : BTreeSet Membership) → AreMet all i old → Some m ≡ membership all i → ((q : Membership) → met new q ≡ (met old q || same_membership q m)) → AreMet all (i + 1) new
 one_more all i m old new so_far is step q =
     step q ∙ ap (λ (b : Bool). b || same_membership q m) (so_far q)
     ∙ or_turned (list_any (has_membership q) (memberships_before all i)) (same_membership q m)
     ∙ ap (λ (o : Option Membership). has_membership q o || list_any (has_membership q) (memberships_before all i)) is
     ∙ sym (more all i q)
 
-pub none_more : (all : List Declaration) (i : ℕ) (old : BTreeMap Membership ℕ) → AreMet all i old → None ≡ membership all i → AreMet all (i + 1) old
+pub none_more : (all : List Declaration) (i : ℕ) (old : BTreeSet Membership) → AreMet all i old → None ≡ membership all i → AreMet all (i + 1) old
 none_more all i old so_far is q = so_far q ∙ ap (λ (o : Option Membership). has_membership q o || list_any (has_membership q) (memberships_before all i)) is ∙ sym (more all i q)
 
 -- ---- an earlier home of the same family and type
@@ -153,11 +141,11 @@ by_member all n t lt type =
     ∙ sym (any_mapped (has_membership q) (membership all) (range_with_len 0 n))
 
 -- an earlier one was met
-pub met_before : (all : List Declaration) (table : BTreeMap Membership ℕ) (q : Membership) (n : ℕ) → AreMet all n table → n < length all → Some q ≡ membership all n → met table q ≡ has_earlier all n
-met_before all table q n so_far lt here = by (is_concrete_home (at all n).what) refl (type_of_home all n) refl (sym here)
+pub met_before : (all : List Declaration) (set : BTreeSet Membership) (q : Membership) (n : ℕ) → AreMet all n set → n < length all → Some q ≡ membership all n → met set q ≡ has_earlier all n
+met_before all set q n so_far lt here = by (is_concrete_home (at all n).what) refl (type_of_home all n) refl (sym here)
   where
     by : (b : Bool) → is_concrete_home (at all n).what ≡ b → (o : Option ℕ) → type_of_home all n ≡ o → cond b (option_map (member (family all n)) o) None ≡ Some q
-        → met table q ≡ (b && earlier all n)
+        → met set q ≡ (b && earlier all n)
     by true home (Some t) type e =
         let same : member (family all n) t ≡ q = some_same (member (family all n) t) q e in
         so_far q

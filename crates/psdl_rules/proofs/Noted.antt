@@ -1,8 +1,15 @@
 -- Names that are noted one after the other.
-use Rattle.std.proofs.Common.{◌≡◌, ℕ, zero, suc, arith, ◌+◌, ◌<◌, ◌≤◌, List, [], ◌∷◌, ◌++◌, Bor, length, get_or, take, drop, map, reverse, Bool, true, false, cond, ◌||◌, Option, Some, is_some, refl, sym, ap, ◌∙◌, add-one, drop-cons}
+use Rattle.std.proofs.Common.{◌≡◌, ℕ, zero, suc, arith, ◌+◌, ◌<◌, ◌≤◌, List, [], ◌∷◌, ◌++◌, Bor, length, get_or, take, drop, map, reverse, Bool, true, false, not, ◌||◌, Option, Ordering, refl, sym, ap, ◌∙◌, add-one, drop-cons}
+use Rattle.std.specs.BTreeSet.{BTreeSet, Updates}
+use Rattle.std.specs.Cmp.Lexicographic.{slice_cmp}
 use Rattle.std.specs.List.{list_any}
+use Rattle.std.specs.Ordering.{is_eq, nat_cmp}
+use Rattle.std.specs.Set.{KeepsOthers}
+use Rattle.std.specs.declared.vec.Vec.{Vec}
 use Rattle.std.specs.Str.{bytes_eq}
 use Rattle.std.proofs.lemmas.List.{reverse-append, drop_all}
+use Rattle.std.proofs.lemmas.Map.Text.{is_eq-slice_cmp}
+use Rattle.std.proofs.lemmas.Slice.Eq.{bytes_eq-Decides}
 use Rattle.psdl_tree.specs.declared.names.Identifier.{Identifier}
 use Rattle.psdl_directory.specs.declared.fault.CheckFault.{CheckFault}
 use Rattle.psdl_directory.specs.declared.fault.CheckKind.TheVariants.{Redefined}
@@ -13,6 +20,7 @@ use Rattle.psdl_directory.proofs.Noting.{noting-append}
 use Rattle.psdl_lineage.proofs.Listing.{map_more}
 use Rattle.psdl_members.specs.Clashes.{are_alike}
 use Rattle.psdl_rules.specs.Faults.Redefined.{redefined_behind}
+use Rattle.psdl_rules.specs.inner.Scopes.{has_name}
 
 or_swap : (a b c : Bool) → a || (b || c) ≡ b || (a || c)
 or_swap true true c = refl
@@ -34,10 +42,34 @@ any_at test view [] i x lt at h = absurd (omega (arith, lt))
 any_at {X} test view (y ∷ ys) zero x lt at h = sym (ap (λ (b : Bool). b || list_any test (map view ys)) (ap (λ (z : X). test (view z)) (sym at) ∙ h))
 any_at test view (y ∷ ys) (suc i) x lt at h = or_is (test (view y)) (list_any test (map view ys)) (any_at test view ys i x (omega (arith, lt)) at h)
 
+pub not_not : (b : Bool) → not (not b) ≡ b
+not_not true = refl
+not_not false = refl
+
+-- ---- a name that is entered
+
+same_bytes : (xs ys : List ℕ) → bytes_eq xs ys ≡ true → xs ≡ ys
+same_bytes xs ys h = (bytes_eq-Decides xs ys).0 h
+
+same_order : (xs ys : List ℕ) → is_eq (slice_cmp nat_cmp xs ys) ≡ true → xs ≡ ys
+same_order xs ys h = same_bytes xs ys (sym (is_eq-slice_cmp xs ys) ∙ h)
+
+by_test : (P : Bool → Type 0) (b : Bool) → (b ≡ true → P true) → (b ≡ false → P false) → P b
+by_test P true f g = f refl
+by_test P false f g = g refl
+
+abbrev by_items : {Z : Type 0} → Vec ℕ Z → Vec ℕ Z → Ordering
+by_items x y = slice_cmp nat_cmp x.items y.items
+
 -- a name is there, or it was
-pub entered : (b : Bool) (v : ℕ) (o : Option ℕ) → is_some (cond b (Some v) o) ≡ b || is_some o
-entered true v o = refl
-entered false v o = refl
+pub entered : {Z : Type 0} (old new : BTreeSet (Vec ℕ Z)) (key : Vec ℕ Z) → Updates by_items old new key true → (q : List ℕ) → has_name new q ≡ bytes_eq q key.items || has_name old q
+unfolding KeepsOthers
+entered old new key updates q =
+    by_test (λ b. bytes_eq q key.items ≡ b → has_name new q ≡ b || has_name old q) (bytes_eq q key.items)
+    (λ e same. ap (λ (l : List ℕ). has_name new l) (same_bytes q key.items same) ∙ updates.1)
+    (λ e apart. updates.3 (λ k. is_eq (slice_cmp nat_cmp q k.items)) (λ x y at. ap (λ (l : List ℕ). is_eq (slice_cmp nat_cmp l y.items)) (same_order q x.items at))
+    (λ k at. is_eq-slice_cmp q k.items ∙ ap (bytes_eq q) (sym (same_order key.items k.items at)) ∙ apart))
+    refl
 
 -- the identifiers in front of one, the last first
 abbrev pub before : List (Bor Identifier) → ℕ → List Identifier

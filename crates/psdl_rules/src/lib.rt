@@ -15,7 +15,6 @@ mod operations;
 mod redefined_inside;
 mod scopes;
 mod settled;
-mod sorts;
 mod taken_names;
 mod text;
 

@@ -15,7 +15,7 @@ use psdl_members::Member;
 use psdl_tree::Identifier;
 use pss_base::NoMemory;
 use std::alloc::Global;
-use std::collections::BTreeMap;
+use std::collections::BTreeSet;
 
 /// Whether a member has that name.
 pub(crate) fn is_called(identifier: &Identifier, member: &Member<'_>) -> bool
@@ -39,7 +39,7 @@ fn listed_identifier(
     alloc: Global,
     kind: CheckKind,
     members: &[Member<'_>],
-    names: &mut BTreeMap<Vec<u8>, usize>,
+    names: &mut BTreeSet<Vec<u8>>,
     identifier: &Identifier,
     least: &mut Least,
 ) -> Result<(), NoMemory>
@@ -63,7 +63,7 @@ pub(crate) fn listed_wrong(
 ) -> Result<(), NoMemory>
     ensures { OnOk result (least.new ≡ noting least.old (conditions.listed_wrong kind (member_views members.now) [] (map (λ i. i.now) identifiers.now))) }
 {
-    let mut names = BTreeMap::new(alloc);
+    let mut names = BTreeSet::new(alloc);
     for identifier in identifiers {
         listed_identifier(alloc, kind, members, &mut names, identifier, least)?;
     }

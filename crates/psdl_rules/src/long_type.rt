@@ -15,10 +15,9 @@ ghost use Rattle.psdl_standings.specs.Texts.{text_of as told_of, types_in};
 
 use crate::member_types::{member_sources, types_of_members};
 use crate::settled::is_settled;
-use crate::sorts::is_concrete_type;
 use crate::text::Text;
 use psdl_directory::{CheckKind, DeclarationNo, Least, What};
-use psdl_lineage::{Sources, is_storage_type};
+use psdl_lineage::Sources;
 use psdl_standings::{Extent, Standings, StateEntry};
 use pss_base::NoMemory;
 use std::alloc::Global;
@@ -53,7 +52,7 @@ fn has_long_default(standings: &Standings, kept: &[StateEntry]) -> bool
 fn is_long(standings: &Standings, what: What<'_>, kept: &[StateEntry]) -> bool
     ensures { result ≡ (nat_lt 255 (length kept.now) || (parts.is_concrete_type (what_view what.entry) && are_long (default_types (types_in standings.now) kept.now))) }
 {
-    kept.len() > MOST_MEMBERS || (is_concrete_type(what) && has_long_default(standings, kept))
+    kept.len() > MOST_MEMBERS || (what.is_concrete_type() && has_long_default(standings, kept))
 }
 
 #[tactic(auto, using(crate::proofs::Parts::by_order))]
@@ -74,7 +73,7 @@ fn long_type_at(
     if !least.comes_first(CheckKind::Limit, place) {
         return Ok(());
     }
-    let is_type = is_storage_type(text.what(number));
+    let is_type = text.what(number).is_storage_type();
     if !is_type {
         return Ok(());
     }

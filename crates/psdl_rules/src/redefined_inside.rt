@@ -16,38 +16,24 @@ ghost use Rattle.psdl_rules.specs.inner.Scopes.{has_name};
 use crate::operations::operations;
 use crate::scopes::{body_names, parameter_names};
 use crate::text::Text;
-use psdl_directory::{CheckKind, DeclarationNo, Least, What};
+use psdl_directory::{CheckKind, DeclarationNo, Least, What, in_small_letters};
 use psdl_tree::{Identifier, Operation};
 use pss_base::NoMemory;
 use std::alloc::Global;
-use std::collections::BTreeMap;
+use std::collections::BTreeSet;
 
 /// Enters a name, unless it is there. Answers whether it was.
-pub(crate) fn enter(names: &mut BTreeMap<Vec<u8>, usize>, name: Vec<u8>) -> Result<bool, NoMemory>
+pub(crate) fn enter(names: &mut BTreeSet<Vec<u8>>, name: Vec<u8>) -> Result<bool, NoMemory>
     ensures there { IfOk result (λ r. r ≡ has_name names.old name.items) }
     ensures names { OnOk result ((q : List ℕ) → has_name names.new q ≡ (bytes_eq q name.items || has_name names.old q)) }
 {
-    match names.get(&name) {
-        Some(_) => Ok(true),
-        None => {
-            let number = names.len();
-            names.insert(name, number)?;
-            Ok(false)
-        }
-    }
-}
-
-fn in_small_letters(alloc: Global, name: &[u8]) -> Result<Vec<u8>, NoMemory>
-    ensures { IfOk result (λ v. v.items ≡ lower name.now) }
-{
-    let mut spelled = name.to_vec(alloc)?;
-    spelled.make_ascii_lowercase();
-    Ok(spelled)
+    let is_new = names.insert(name)?;
+    Ok(!is_new)
 }
 
 fn redefined_identifier(
     alloc: Global,
-    names: &mut BTreeMap<Vec<u8>, usize>,
+    names: &mut BTreeSet<Vec<u8>>,
     identifier: &Identifier,
     least: &mut Least,
 ) -> Result<(), NoMemory>
@@ -67,7 +53,7 @@ fn redefined_in(
 ) -> Result<(), NoMemory>
     ensures { OnOk result (least.new ≡ noting least.old (conditions.redefined_in (map (λ i. i.now) identifiers.now))) }
 {
-    let mut names = BTreeMap::new(alloc);
+    let mut names = BTreeSet::new(alloc);
     for identifier in identifiers {
         redefined_identifier(alloc, &mut names, identifier, least)?;
     }

@@ -7,7 +7,7 @@ ghost use Rattle.psdl_rules.specs.Words.{has_settled_header};
 ghost use Rattle.psdl_rules.specs.inner.Headed.{are_meant};
 
 use crate::text::Text;
-use psdl_directory::{DeclarationNo, Use, is_forward};
+use psdl_directory::{DeclarationNo, Use};
 
 fn are_meant(uses: &[Use]) -> bool
     ensures { result ≡ are_meant uses.now }
@@ -40,6 +40,6 @@ fn has_settled_header(text: &Text, number: DeclarationNo) -> bool
 pub(crate) fn is_settled(text: &Text, number: DeclarationNo) -> bool
     ensures { result ≡ (not (is_forward (at (judged text.now) number).what) && has_settled_header (judged text.now) number) }
 {
-    let is_forward = is_forward(text.what(number));
+    let is_forward = text.what(number).is_forward();
     !is_forward && has_settled_header(text, number)
 }

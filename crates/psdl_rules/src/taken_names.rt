@@ -13,7 +13,7 @@ ghost use Rattle.psdl_rules.specs.Texts.{judged};
 ghost use Rattle.psdl_rules.specs.inner.Others as of;
 
 use crate::text::Text;
-use psdl_directory::{CheckKind, DeclarationNo, Directory, Least, What, is_forward, same_kind};
+use psdl_directory::{CheckKind, DeclarationNo, Directory, Least, What, same_kind};
 use pss_base::NoMemory;
 use std::alloc::Global;
 
@@ -77,7 +77,7 @@ fn is_below(found: Option<usize>, number: usize) -> bool
 fn may_stand_again(what: What<'_>) -> bool
     ensures { result ≡ (is_module (what_view what.entry) || is_forward (what_view what.entry)) }
 {
-    matches!(what, What::Module(_)) || is_forward(what)
+    matches!(what, What::Module(_)) || what.is_forward()
 }
 
 fn is_defined_before(directory: &Directory<'_>, number: usize) -> bool

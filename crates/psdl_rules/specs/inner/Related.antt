@@ -1,10 +1,10 @@
 -- The families of concrete homes, and their types.
-use Rattle.std.specs.Prelude.{◌≡◌, ℕ, List, map, take, Option, None, is_some, Bool, false, ◌==◌, ◌&&◌, if◌then◌else◌}
+use Rattle.std.specs.Prelude.{◌≡◌, ℕ, List, map, take, Option, None, Bool, false, ◌==◌, ◌&&◌, if◌then◌else◌}
 use Rattle.std.specs.List.{list_any, range_with_len, enumerate_from}
 use Rattle.std.specs.Option.{option_map}
 use Rattle.std.specs.Ordering.{nat_cmp, ordering_then}
 use Rattle.std.specs.declared.cmp.Ordering.{Ordering}
-use Rattle.std.specs.BTreeMap.{BTreeMap, get}
+use Rattle.std.specs.BTreeSet.{BTreeSet, contains}
 use Rattle.type_layout.specs.Schemas.{given}
 use Rattle.psdl_directory.specs.Declarations.{Declaration}
 use Rattle.psdl_directory.specs.Parts.{is_concrete_home}
@@ -30,13 +30,13 @@ by_membership a b = ordering_then (nat_cmp a.family b.family) (nat_cmp a.home_ty
 abbrev pub has_membership : Membership → Option Membership → Bool
 has_membership q o = given o false (same_membership q)
 
--- a table has it
-abbrev pub met : BTreeMap Membership ℕ → Membership → Bool
-met table q = is_some (get by_membership table q)
+-- a set has it
+abbrev pub met : BTreeSet Membership → Membership → Bool
+met set q = contains by_membership set q
 
 -- it has those of the first so many declarations
-abbrev pub AreMet : List Declaration → ℕ → BTreeMap Membership ℕ → Type 0
-AreMet all i table = (q : Membership) → met table q ≡ list_any (has_membership q) (memberships_before all i)
+abbrev pub AreMet : List Declaration → ℕ → BTreeSet Membership → Type 0
+AreMet all i set = (q : Membership) → met set q ≡ list_any (has_membership q) (memberships_before all i)
 
 -- a concrete home has one of its family and its type in front of it
 abbrev pub has_earlier : List Declaration → ℕ → Bool

@@ -1,9 +1,10 @@
 -- The names of a scope.
-use Rattle.std.specs.Prelude.{ℕ, List, Bool, is_some}
-use Rattle.std.specs.BTreeMap.{BTreeMap}
+use Rattle.std.specs.Prelude.{ℕ, List, Bool}
+use Rattle.std.specs.BTreeSet.{BTreeSet, contains_by}
+use Rattle.std.specs.Cmp.Lexicographic.{slice_cmp}
+use Rattle.std.specs.Ordering.{nat_cmp}
 use Rattle.std.specs.declared.vec.Vec.{Vec}
-use Rattle.psdl_directory.specs.inner.Spelt.{number_in}
 
 -- the name is one of them
-abbrev pub has_name : {Z : Type 0} → BTreeMap (Vec ℕ Z) ℕ → List ℕ → Bool
-has_name names name = is_some (number_in names name)
+abbrev pub has_name : {Z : Type 0} → BTreeSet (Vec ℕ Z) → List ℕ → Bool
+has_name names name = contains_by (λ k. slice_cmp nat_cmp name k.items) names

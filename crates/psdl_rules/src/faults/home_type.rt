@@ -13,10 +13,9 @@ ghost use Rattle.psdl_rules.specs.Texts.{judged};
 ghost use Rattle.psdl_rules.specs.inner.Headed.{differs_as_base, is_other_use, managed_use};
 
 use crate::home_types::types_with;
-use crate::sorts::{is_abstract_type, is_concrete_type};
 use crate::text::Text;
 use psdl_directory::{CheckKind, DeclarationNo, Least, Use, What};
-use psdl_lineage::{Conformity, is_concrete_home};
+use psdl_lineage::Conformity;
 use pss_base::NoMemory;
 use std::alloc::Global;
 
@@ -25,8 +24,8 @@ fn is_other_kind(home: What<'_>, managed: What<'_>) -> bool
     ensures { result ≡ conditions.is_other_kind (what_view home.entry) (what_view managed.entry) }
 {
     match home {
-        What::AbstractHome(_) => is_concrete_type(managed),
-        What::ConcreteHome(_) => is_abstract_type(managed),
+        What::AbstractHome(_) => managed.is_concrete_type(),
+        What::ConcreteHome(_) => managed.is_abstract_type(),
         _ => false,
     }
 }
@@ -55,7 +54,7 @@ fn differs_from_base(
     let Some(types) = types_with(text, number, used) else {
         return Ok(false);
     };
-    let is_concrete = is_concrete_home(text.what(number));
+    let is_concrete = text.what(number).is_concrete_home();
     let conforms = conformity.conforms(alloc, types.own, types.named)?;
     Ok(!conforms || (is_concrete && types.own == types.named))
 }

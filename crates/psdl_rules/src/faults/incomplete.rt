@@ -11,7 +11,7 @@ ghost use Rattle.psdl_rules.specs.Texts.{judged};
 ghost use Rattle.psdl_rules.specs.inner.Headed.{above, is_forward_use, forward_use};
 
 use crate::text::Text;
-use psdl_directory::{CheckKind, DeclarationNo, Least, Use, is_forward};
+use psdl_directory::{CheckKind, DeclarationNo, Least, Use};
 
 fn is_forward_use(number: DeclarationNo, used: &Use) -> bool
     ensures { result ≡ is_forward_use number used.now }
@@ -47,7 +47,7 @@ fn header_uses(text: &Text, number: DeclarationNo, least: &mut Least)
 fn is_never_defined(text: &Text, number: DeclarationNo) -> bool
     ensures { number < length (judged text.now) → result ≡ (parts.is_forward (at (judged text.now) number).what && is_none (definition (judged text.now) number)) }
 {
-    let is_forward = is_forward(text.what(number));
+    let is_forward = text.what(number).is_forward();
     if !is_forward {
         return false;
     }

@@ -15,7 +15,6 @@ ghost use Rattle.psdl_standings.specs.Texts.{text_of as told_of};
 use crate::long_type::long_type;
 use crate::text::Text;
 use psdl_directory::{CheckKind, DeclarationNo, Least};
-use psdl_lineage::is_concrete_home;
 use psdl_standings::Standings;
 use pss_base::NoMemory;
 use std::alloc::Global;
@@ -54,7 +53,7 @@ fn stands_at(text: &Text, place: usize, number: DeclarationNo) -> bool
 fn passes_limit(text: &Text, number: DeclarationNo) -> bool
     ensures { result ≡ (is_concrete (at (judged text.now) number).what && home_number (judged text.now) number == most_homes + 1) }
 {
-    let is_home = is_concrete_home(text.what(number));
+    let is_home = text.what(number).is_concrete_home();
     if !is_home {
         return false;
     }

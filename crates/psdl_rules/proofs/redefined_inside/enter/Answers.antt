@@ -1,12 +1,10 @@
-use Rattle.std.proofs.Common.{◌∙◌, ap, is_some, Option, ℕ}
-use Rattle.std.specs.Str.{bytes_eq}
-use Rattle.psdl_directory.specs.inner.Spelt.{number_in}
-use Rattle.psdl_directory.proofs.Spelt.{noted}
-use Rattle.psdl_rules.proofs.Noted.{entered}
+use Rattle.std.proofs.Common.{◌∙◌, not, ap}
+use Rattle.psdl_rules.specs.inner.Scopes.{has_name}
+use Rattle.psdl_rules.proofs.Noted.{not_not, entered}
 use Rattle.psdl_rules.proofs.redefined_inside.enter.Goals as goal
 
-pub returns-in_ok-insert-in-None-clause-names : goal.returns-in_ok-insert-in-None-clause-names
-returns-in_ok-insert-in-None-clause-names c = λ q.
-    let old = c.args.names.now in
-    let updates = c.in_ok-insert-in-None.ensures.updates in
-    ap (λ (o : Option ℕ). is_some o) (noted old c.insert.new.self c.args.name.items c.len-number.result updates.1 updates.3 q) ∙ entered (bytes_eq q c.args.name.items) c.len-number.result (number_in old q)
+pub returns-clause-there : goal.returns-clause-there
+returns-clause-there c = ap not c.in_ok-is_new.ensures.added ∙ not_not (has_name c.args.names.now c.args.name.items)
+
+pub returns-clause-names : goal.returns-clause-names
+returns-clause-names c = entered c.args.names.now c.insert.new.self c.args.name c.in_ok-is_new.ensures.updates

@@ -13,6 +13,7 @@ ghost use Rattle.psdl_check.specs.inner.Texts.{text_in};
 use crate::text::Text;
 use psdl_directory::DeclarationNo;
 use psdl_lineage::Graph;
+use psdl_members::mask_at;
 use pss_base::NoMemory;
 use std::alloc::Global;
 use type_layout::HomeNo;
@@ -28,15 +29,6 @@ fn has_bit(mask: u64, bit: usize) -> bool
     ensures { result ≡ has_bit mask bit }
 {
     mask >> bit & 1 == 1
-}
-
-fn mask_at(masks: &[u64], number: usize) -> u64
-    ensures { result ≡ get_or masks.now number 0 }
-{
-    match masks.get(number) {
-        Some(mask) => *mask,
-        None => 0,
-    }
 }
 
 // The bit of a declaration itself, where it is of the group.

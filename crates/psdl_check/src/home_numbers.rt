@@ -6,7 +6,6 @@ ghost use Rattle.psdl_check.specs.Schemas.{home_no};
 ghost use Rattle.psdl_check.specs.inner.HomeNos.{HasFewHomes, home_nos, homes_in_front};
 
 use psdl_directory::{DeclarationNo, Directory};
-use psdl_lineage::is_concrete_home;
 use pss_base::NoMemory;
 use std::alloc::Global;
 use type_layout::HomeNo;
@@ -24,7 +23,7 @@ fn add_number(
     ensures numbers { OnOk result (numbers.new.items ≡ numbers.old.items ++ home_no (all_of directory.now) index ∷ []) }
     ensures homes { IfOk result (λ r. r ≡ homes_in_front (all_of directory.now) (index + 1)) }
 {
-    let is_home = is_concrete_home(directory.what(DeclarationNo::new(index)));
+    let is_home = directory.what(DeclarationNo::new(index)).is_concrete_home();
     if !is_home {
         numbers.push(HomeNo(0))?;
         return Ok(homes);

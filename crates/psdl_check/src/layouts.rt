@@ -1,6 +1,5 @@
 // The layouts of homes.
-ghost use Rattle.std.specs.Prelude.{◌≡◌, ℕ, List, None, length, map, option_map, slice_get, IfOk, IfSome, IsTrue};
-ghost use Rattle.std.specs.List.{flat_map};
+ghost use Rattle.std.specs.Prelude.{◌≡◌, ℕ, List, None, map, option_map, slice_get, IfOk, IfSome, IsTrue};
 ghost use Rattle.type_layout.specs.declared.home.HomeNo.{HomeNo};
 ghost use Rattle.type_layout.specs.Schemas.{given};
 ghost use Rattle.type_layout.specs.Types.{PlainType};
@@ -9,31 +8,17 @@ ghost use Rattle.psdl_members.specs.Bodies.{member_view, member_views};
 ghost use Rattle.psdl_members.specs.Texts.{inherited_in};
 ghost use Rattle.psdl_standings.specs.Standings.{all_there};
 ghost use Rattle.psdl_standings.specs.States.{type_kept, is_kept_below, AreKeptBelow};
-ghost use Rattle.psdl_standings.specs.Texts as told;
-ghost use Rattle.psdl_standings.specs.Texts.{types_in};
-ghost use Rattle.psdl_check.specs.inner.Stated.{AreStated, flags};
-ghost use Rattle.psdl_check.specs.inner.TypedMembers.{type_by, typed_view, typed_views, is_there, AreThere, own_types, laid_out, laid};
+ghost use Rattle.psdl_check.specs.inner.Stated.{AreStated};
+ghost use Rattle.psdl_check.specs.inner.TypedMembers.{type_by, typed_view, typed_views, is_there, AreThere, laid_out, laid};
 
 use crate::members::{MemberType, TypedMember};
 use crate::text::Text;
 use psdl_directory::DeclarationNo;
 use psdl_lineage::Sources;
 use psdl_members::{Inherited, Member};
-use psdl_standings::{Standings, StateEntry};
+use psdl_standings::StateEntry;
 use pss_base::NoMemory;
 use std::alloc::Global;
-
-// Which declarations have states in their bodies.
-fn stated(alloc: Global, standings: &Standings, count: usize) -> Result<Vec<bool>, NoMemory>
-    ensures { IfOk result (λ v. v.items ≡ flags (told.text_of standings.now) count) }
-{
-    let mut flags = Vec::new(alloc);
-    for index in 0..count {
-        let has_states = !standings.states(DeclarationNo::new(index)).is_empty();
-        flags.push(has_states)?;
-    }
-    Ok(flags)
-}
 
 /// What is asked to lay types out: their members, and the declarations that have these in their bodies.
 #[derive(Drop)]
@@ -95,22 +80,6 @@ fn typed_members<'d>(
     Ok(Some(typed))
 }
 
-// What is kept of the types of the states in these bodies.
-fn kept_in(
-    alloc: Global,
-    standings: &Standings,
-    bodies: &[usize],
-) -> Result<Vec<StateEntry>, NoMemory>
-    ensures types { IfOk result (λ v. (homes : ℕ → List HomeNo) → map (type_kept (types_in standings.now) homes) v.items ≡ flat_map (own_types (told.text_of standings.now) homes) bodies.now) }
-    ensures below { IfOk result (λ v. AreKeptBelow (length (types_in standings.now)) (length (told.text_of standings.now)) v.items) }
-{
-    let mut kept = Vec::new(alloc);
-    for body in bodies {
-        kept.extend_from_slice(standings.states(DeclarationNo::new(*body)))?;
-    }
-    Ok(kept)
-}
-
 impl<'t, 'd> Layouts<'t, 'd> {
     ghost use Rattle.std.specs.Prelude.{◌≡◌, ℕ, List, [], length, IfOk};
     ghost use Rattle.type_layout.specs.declared.home.HomeNo.{HomeNo};
@@ -128,7 +97,7 @@ impl<'t, 'd> Layouts<'t, 'd> {
         ensures { IfOk result (λ l. laid_text l ≡ text_in text.now) }
     {
         let inherited = Inherited::new(alloc, text.lineage)?;
-        let flags = stated(alloc, text.standings, text.directory().len())?;
+        let flags = text.standings.stated(alloc, text.directory().len())?;
         let sources = Sources::new(alloc, text.lineage, flags)?;
         Ok(Layouts { inherited, sources })
     }
@@ -148,7 +117,7 @@ impl<'t, 'd> Layouts<'t, 'd> {
     {
         let members = self.inherited.members(alloc, number)?;
         let bodies = self.sources.of(alloc, number)?;
-        let kept = kept_in(alloc, text.standings, &bodies)?;
+        let kept = text.standings.kept_in(alloc, &bodies)?;
         match typed_members(alloc, &members, &kept)? {
             Some(typed) => Ok(typed),
             None => Ok(Vec::new(alloc)),

@@ -6,11 +6,9 @@ use Rattle.type_layout.specs.declared.home.HomeNo.{HomeNo}
 use Rattle.type_layout.specs.Schemas.{given}
 use Rattle.type_layout.specs.Types.{PlainType, RefTo, PlainMember}
 use Rattle.psdl_directory.specs.Declarations.{Declaration}
-use Rattle.psdl_directory.specs.Lookup.{at}
 use Rattle.psdl_lineage.specs.Descent.{StateMember, type_of_home}
 use Rattle.psdl_rules.specs.Layouts.{layout}
 use Rattle.psdl_standings.specs.Standings.{standings}
-use Rattle.psdl_standings.specs.States.{body_type, state_types}
 use Rattle.psdl_standings.specs.inner.TypeNodes.{type_at}
 use Rattle.psdl_check.specs.declared.members.MemberType.{MemberType}
 use Rattle.psdl_check.specs.declared.members.MemberType.TheVariants as kinds
@@ -50,10 +48,6 @@ AreTyped types (m ∷ ms) = IsTyped types m.member_type × AreTyped types ms
 -- the layout of the type of a home, none where it is not there
 abbrev pub layout_of_home : List Declaration → (ℕ → List HomeNo) → ℕ → List PlainMember
 layout_of_home all homes h = given (option_and_then (layout all (standings all) homes) (type_of_home all h)) [] (λ ms. ms)
-
--- the types of the states in the body of a declaration, in order
-abbrev pub own_types : List Declaration → (ℕ → List HomeNo) → ℕ → List (Option PlainType)
-own_types all homes a = map (body_type all (standings all) homes a) (state_types (at all a).what)
 
 -- a member with its type, where that is there
 abbrev pub laid_out : StateMember → PlainType → PlainMember

@@ -1,7 +1,8 @@
 use Rattle.std.proofs.Common.{◌≡◌, ◌∙◌, List, length, sym, ap, subst, rules}
 use Rattle.psdl_directory.specs.Declarations.{Declaration}
 use Rattle.psdl_members.specs.Texts.{inherited_in}
-use Rattle.psdl_check.specs.inner.Stated.{flags, AreStated}
+use Rattle.psdl_standings.specs.States.{flags}
+use Rattle.psdl_check.specs.inner.Stated.{AreStated}
 use Rattle.psdl_check.specs.inner.Texts.{text_in}
 use Rattle.psdl_check.proofs.Stating.{are_stated}
 use Rattle.psdl_check.proofs.layouts.Layouts.new.Goals as goal

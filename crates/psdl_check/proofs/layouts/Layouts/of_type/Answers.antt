@@ -9,11 +9,11 @@ use Rattle.psdl_standings.specs.declared.state_entry.StateEntry.{StateEntry}
 use Rattle.psdl_members.specs.Texts.{inherited_in}
 use Rattle.psdl_rules.specs.Layouts.{layout}
 use Rattle.psdl_standings.specs.Standings.{all_there, standings}
-use Rattle.psdl_standings.specs.States.{type_kept, AreKeptBelow}
+use Rattle.psdl_standings.specs.States.{type_kept, AreKeptBelow, own_types}
 use Rattle.psdl_standings.specs.Texts.{types_in}
 use Rattle.psdl_check.specs.inner.Stated.{AreStated}
 use Rattle.psdl_check.specs.inner.Texts.{text_in}
-use Rattle.psdl_check.specs.inner.TypedMembers.{own_types, laid, AreThere, typed_views}
+use Rattle.psdl_check.specs.inner.TypedMembers.{laid, AreThere, typed_views}
 use Rattle.psdl_check.proofs.Stating.{layout_is, with_types, without_types, some_of}
 use Rattle.psdl_check.proofs.layouts.Layouts.of_type.Goals as goal
 

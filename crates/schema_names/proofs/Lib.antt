@@ -1,4 +1,5 @@
 pub mod Entering
+pub mod Firsts
 pub mod Finding
 pub mod Placing
 pub mod Rooted

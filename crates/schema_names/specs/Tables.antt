@@ -1,5 +1,5 @@
 -- Tables of names.
-use Rattle.std.specs.Prelude.{ℕ, ◌≡◌, List, Option, Some, None, cond}
+use Rattle.std.specs.Prelude.{ℕ, ◌+◌, ◌≡◌, List, Option, Some, None, cond, take}
 use Rattle.std.specs.Option.{option_or}
 use Rattle.std.specs.Str.{bytes_eq}
 use Rattle.std.specs.Map.{lookup}
@@ -17,3 +17,7 @@ module _ {Z T : Type 0} where
   -- the table has what is found of each word
   abbrev pub Finds : List (Vec ℕ Z × T) → (List ℕ → Option T) → Type 0
   Finds es found = (q : List ℕ) → value_at es q ≡ found q
+
+  -- a name that is none of the first so many is not the next one either
+  abbrev pub IsFurther : List (Vec ℕ Z × T) → List ℕ → ℕ → Type 0
+  IsFurther es name n = value_at (take n es) name ≡ None → value_at (take (n + 1) es) name ≡ None

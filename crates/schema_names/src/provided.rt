@@ -1,5 +1,5 @@
 // What catalogs provide, by the hashes of the words that name it.
-ghost use Rattle.std.specs.Prelude.{codes, ℕ, ◌≡◌, ◌<◌, ◌≤◌, List, [], IfOk, IfSome, OnOk, map, length, take, find, position, eqb};
+ghost use Rattle.std.specs.Prelude.{codes, ℕ, ◌≡◌, ◌<◌, List, IfOk, IfSome, OnOk, map, length, take, find, position, eqb};
 ghost use Rattle.std.specs.Map.{lookup};
 ghost use Rattle.std.specs.Option.{option_map};
 ghost use Rattle.table_hash.specs.Hashing.{fed_all};

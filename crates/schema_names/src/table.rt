@@ -1,6 +1,6 @@
 // What stands behind names.
-ghost use Rattle.std.specs.Prelude.{◌≡◌, [], OnOk, IfSome};
-ghost use Rattle.schema_names.specs.Tables.{value_at, IsEntered};
+ghost use Rattle.std.specs.Prelude.{◌≡◌, [], OnOk, MatchOption, take};
+ghost use Rattle.schema_names.specs.Tables.{value_at, IsEntered, IsFurther};
 
 use indexmap::IndexMap;
 use pss_base::NoMemory;
@@ -23,7 +23,7 @@ const FEW: usize = 4;
 // What stands at a place of the table, where the name stands there.
 #[inline(always)]
 fn value_there<T: Copy + Drop>(table: &NameTable<T>, place: usize, name: &[u8]) -> Option<T>
-    ensures { IfSome result (λ value. value_at table.now.entries name.now ≡ Some value) }
+    ensures { MatchOption result (IsFurther table.now.entries name.now place) (λ value. value_at table.now.entries name.now ≡ Some value) }
 {
     match table.get_index(place) {
         Some((there, value)) if there.as_slice() == name => Some(*value),
@@ -31,10 +31,10 @@ fn value_there<T: Copy + Drop>(table: &NameTable<T>, place: usize, name: &[u8]) 
     }
 }
 
-// What stands behind a name that is one of the first.
+// What stands behind a name that is one of the first. None: it is none of them.
 #[inline(always)]
 fn read_first<T: Copy + Drop>(table: &NameTable<T>, name: &[u8]) -> Option<T>
-    ensures { IfSome result (λ value. value_at table.now.entries name.now ≡ Some value) }
+    ensures { MatchOption result (value_at (take 4 table.now.entries) name.now ≡ None) (λ value. value_at table.now.entries name.now ≡ Some value) }
 {
     for place in 0..FEW {
         if let Some(value) = value_there(table, place, name) {
@@ -44,6 +44,17 @@ fn read_first<T: Copy + Drop>(table: &NameTable<T>, name: &[u8]) -> Option<T>
     None
 }
 
+// What stands behind a name, where it may be none of the first.
+fn read_all<T: Copy + Drop>(table: &NameTable<T>, name: &[u8]) -> Option<T>
+    requires { value_at (take 4 table.now.entries) name.now ≡ None }
+    ensures { result ≡ value_at table.now.entries name.now }
+{
+    if table.len() <= FEW {
+        return None;
+    }
+    table.get(name).copied()
+}
+
 /// What stands behind a name, if something does.
 #[inline(always)]
 pub fn read<T: Copy + Drop>(table: &NameTable<T>, name: &[u8]) -> Option<T>
@@ -51,7 +62,7 @@ pub fn read<T: Copy + Drop>(table: &NameTable<T>, name: &[u8]) -> Option<T>
 {
     match read_first(table, name) {
         Some(value) => Some(value),
-        None => table.get(name).copied(),
+        None => read_all(table, name),
     }
 }
 

@@ -3,9 +3,11 @@ pub mod Octets
 pub mod Loop
 pub mod Readers
 pub mod Ones
+pub mod Letters
 pub mod Texts
 pub mod Types
 pub mod Records
+pub mod Nuls
 pub mod Ends
 pub mod Taking
 pub mod Counts

@@ -10,7 +10,7 @@ use Rattle.cdr_codec.specs.Primitives.{Primitive, Letters, width_of, refuses, fa
 use Rattle.cdr_codec.specs.Reading.{Reader, plain_at, one_at}
 use Rattle.cdr_codec.proofs.Octets.{IsNumber, turned_back}
 use Rattle.cdr_codec.specs.Laws.{AreOctets}
-use Rattle.cdr_codec.proofs.Readers.{done, failed, Takes, IsReader}
+use Rattle.cdr_codec.proofs.Readers.{done, failed, IsNear, Takes, IsReader}
 
 given_ok : {A : Type 0} (o : Option RecordFault) (r : A) (y : A) → given {B = Result A RecordFault} o (Ok r) Err ≡ Ok y → (o ≡ None) × (r ≡ y)
 given_ok None r y e = (refl, cc)
@@ -39,29 +39,33 @@ only_one p q (r ∷ s ∷ front) back e = absurd (let no : [] ≡ s ∷ (front +
 
 -- a reader of one primitive, by what it makes of the octets
 pub piece_law : {A : Type 0} (p : Primitive) (read : Reader A) (value : List ℕ → A) (octets : A → List ℕ) (Fits : A → Type 0) (some : A) → Fits some
+    → ((rest : List ℕ) → AreOctets rest → (x : A) × Fits x × IsNear p (octets x) rest)
     → ((bytes : List ℕ) (at : ℕ) → at ≤ length bytes → read bytes at ≡ given (refusal p at (drop at bytes)) (Ok (value (drop at bytes), at + width_of p)) Err)
     → ((at : ℕ) (xs : List ℕ) → AreOctets xs → width_of p ≤ length xs → judged p at (take (width_of p) xs) ≡ None → Fits (value xs) × (octets (value xs) ≡ take (width_of p) xs))
     → ((at : ℕ) (x : A) (rest : List ℕ) → Fits x → (length (octets x) ≡ width_of p) × (judged p at (octets x) ≡ None) × (value (octets x ++ rest) ≡ x))
     → IsReader read (λ x at. record { what = p; octets = octets x } ∷ []) Fits
-piece_law {A} p read value octets Fits some some_fits is back forth = record {
+piece_law {A} p read value octets Fits some some_fits near is back forth = record {
   some = some;
   some_fits = some_fits;
   takes = piece_take;
   reads = piece_read;
-  stops = λ bytes at f o le e. record {
-    value = some;
-    fits = some_fits;
-    cut = record {
-      front = [];
-      next = record { what = p; octets = octets some };
-      back = [];
-      rest = drop at bytes;
-      split = refl;
-      same = refl;
-      refused = (let here : at ≡ at + 0 = omega arith in
-          subst (λ (k : ℕ). refusal p k (drop at bytes) ≡ Some f) here (given_err (refusal p at (drop at bytes)) (value (drop at bytes), at + width_of p) f (sym (is bytes at le) ∙ e)));
-    };
-  };
+  stops = λ bytes at f o le e. (let n = near (drop at bytes) (later_octets bytes at o) in record {
+    value = n.0;
+    fits = n.1;
+    cut = (
+      record {
+        front = [];
+        next = record { what = p; octets = octets n.0 };
+        back = [];
+        rest = drop at bytes;
+        split = refl;
+        same = refl;
+        refused = (let here : at ≡ at + 0 = omega arith in
+            subst (λ (k : ℕ). refusal p k (drop at bytes) ≡ Some f) here (given_err (refusal p at (drop at bytes)) (value (drop at bytes), at + width_of p) f (sym (is bytes at le) ∙ e)));
+      },
+      n.2,
+    );
+  });
   refuses = λ bytes at x f le fits cut.
       (let alone = only_one (record { what = p; octets = octets x }) cut.next cut.front cut.back cut.split in
       let whole : drop at bytes ≡ cut.rest = cut.same ∙ ap (λ (ps : List Piece). joined ps ++ cut.rest) alone.0 in
@@ -72,12 +76,14 @@ piece_law {A} p read value octets Fits some some_fits is back forth = record {
       is bytes at le ∙ rw third refl);
 }
   where
+    later_octets : (bytes : List ℕ) (at : ℕ) → AreOctets bytes → AreOctets (drop at bytes)
+    later_octets bytes at o i = rw (get_or-drop at bytes i 0) (o (at + i))
+
     piece_take : (bytes : List ℕ) (at : ℕ) (x : A) (after : ℕ) → AreOctets bytes → at ≤ length bytes → read bytes at ≡ Ok (x, after) → Fits x × Takes bytes at (octets x ++ []) after
     piece_take bytes at x after o le e =
         let g = given_ok (refusal p at (drop at bytes)) (value (drop at bytes), at + width_of p) (x, after) (sym (is bytes at le) ∙ e) in
         let a = accepted p at (drop at bytes) g.0 in
-        let here : AreOctets (drop at bytes) = (λ i. rw (get_or-drop at bytes i 0) (o (at + i))) in
-        let b = back at (drop at bytes) here a.long a.fine in
+        let b = back at (drop at bytes) (later_octets bytes at o) a.long a.fine in
         let text = take (width_of p) (drop at bytes) in
         let long : at + width_of p ≤ length bytes = omega (arith, a.long, length-drop at bytes, le) in
         let size : length text ≡ width_of p = omega (arith, length-take (width_of p) (drop at bytes), a.long) in
@@ -134,8 +140,12 @@ one_is p is bytes at le = by_test (ltb (length bytes) (at + width_of p)) refl
         let there : ltb (length (drop at bytes)) (width_of p) ≡ false = le-ltb _ _ (omega (arith, length-drop at bytes)) in
         rw (test, there, judged_is p at (take (width_of p) (drop at bytes)) is, whole) (by_refusal (refuses p (big_number (width_of p) (drop at bytes))))
 
+near_number : (p : Primitive) → IsNumber p → (octets rest : List ℕ) → IsNear p octets rest
+near_number (Letters n) is octets rest = absurd is
+near_number _ is octets rest = tt
+
 pub one_law : (p : Primitive) → IsNumber p → (n : ℕ) → MayBe p n → IsReader (one_at p) (λ x at. record { what = p; octets = big_bytes (width_of p) x } ∷ []) (MayBe p)
-one_law p is n fits = piece_law p (one_at p) (big_number (width_of p)) (big_bytes (width_of p)) (MayBe p) n fits (one_is p is) back forth
+one_law p is n fits = piece_law p (one_at p) (big_number (width_of p)) (big_bytes (width_of p)) (MayBe p) n fits (λ rest o. (n, fits, near_number p is (big_bytes (width_of p) n) rest)) (one_is p is) back forth
   where
     unrefused : (b : Bool) (f : RecordFault) → cond b (Some f) None ≡ None → b ≡ false
     unrefused true f e = absurd cc

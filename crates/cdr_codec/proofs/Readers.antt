@@ -1,8 +1,8 @@
 -- What a reader owes to the pieces that it reads.
-use Rattle.std.proofs.Common.{◌≡◌, ℕ, ◌+◌, ◌≤◌, List, [], ◌∷◌, ◌++◌, length, drop, Some, Result, Ok, Err, refl, sym, ap, subst, ◌∙◌, append_assoc, arith, ◌⊎◌, inl, inr, length-append}
+use Rattle.std.proofs.Common.{◌≡◌, ℕ, ◌+◌, ◌≤◌, List, [], ◌∷◌, ◌++◌, length, take, drop, Some, Result, Ok, Err, refl, sym, ap, subst, ◌∙◌, append_assoc, arith, ◌⊎◌, inl, inr, length-append}
 use Rattle.std.proofs.lemmas.List.{drop_at, drop-drop, length-drop}
 use Rattle.cdr_codec.specs.declared.fault.RecordFault.{RecordFault}
-use Rattle.cdr_codec.specs.Primitives.{Piece, joined, size_of, followed, refusal, IsRefusedAmong}
+use Rattle.cdr_codec.specs.Primitives.{Primitive, Letters, wrong_letter, Piece, joined, size_of, followed, refusal, IsRefusedAmong}
 use Rattle.cdr_codec.specs.Reading.{◌>>=◌, Reader}
 use Rattle.cdr_codec.specs.Laws.{AreOctets}
 
@@ -62,30 +62,45 @@ joined-append (p ∷ ps) qs = ap (λ (l : List ℕ). p.octets ++ l) (joined-appe
 pub size-append : (ps qs : List Piece) → size_of (ps ++ qs) ≡ size_of ps + size_of qs
 size-append ps qs = ap length (joined-append ps qs) ∙ length-append (joined ps) (joined qs)
 
+-- a string's octets are those that stand there, up to the first wrong one
+abbrev pub IsNear : Primitive → List ℕ → List ℕ → Type 0
+IsNear (Letters n) octets rest = (i : ℕ) (more : List ℕ) → wrong_letter n (take (n + 1) rest) ≡ Some i → take i (octets ++ more) ≡ take i rest
+IsNear _ octets rest = Unit {0}
+
+-- a refusal of a piece that is as near as can be
+abbrev pub IsCut : List Piece → ℕ → List ℕ → RecordFault → Type 0
+IsCut ps at octets f = (c : IsRefusedAmong ps at octets f) × IsNear c.next.what c.next.octets c.rest
+
 -- a refusal among the first pieces
-pub cut_left : (ps qs : List Piece) (at : ℕ) (octets : List ℕ) (f : RecordFault) → IsRefusedAmong ps at octets f → IsRefusedAmong (ps ++ qs) at octets f
-cut_left ps qs at octets f c = record {
-  front = c.front;
-  next = c.next;
-  back = c.back ++ qs;
-  rest = c.rest;
-  split = ap (λ (l : List Piece). l ++ qs) c.split ∙ append_assoc c.front (c.next ∷ c.back) qs;
-  same = c.same;
-  refused = c.refused;
-}
+pub cut_left : (ps qs : List Piece) (at : ℕ) (octets : List ℕ) (f : RecordFault) → IsCut ps at octets f → IsCut (ps ++ qs) at octets f
+cut_left ps qs at octets f (c, near) = (
+  record {
+    front = c.front;
+    next = c.next;
+    back = c.back ++ qs;
+    rest = c.rest;
+    split = ap (λ (l : List Piece). l ++ qs) c.split ∙ append_assoc c.front (c.next ∷ c.back) qs;
+    same = c.same;
+    refused = c.refused;
+  },
+  near,
+)
 
 -- a refusal behind pieces that the octets have
-pub cut_right : (ps qs : List Piece) (at : ℕ) (octets rest : List ℕ) (f : RecordFault) → octets ≡ joined ps ++ rest → IsRefusedAmong qs (at + size_of ps) rest f → IsRefusedAmong (ps ++ qs) at octets f
-cut_right ps qs at octets rest f whole c = record {
-  front = ps ++ c.front;
-  next = c.next;
-  back = c.back;
-  rest = c.rest;
-  split = ap (λ (l : List Piece). ps ++ l) c.split ∙ sym (append_assoc ps c.front (c.next ∷ c.back));
-  same = whole ∙ ap (λ (l : List ℕ). joined ps ++ l) c.same ∙ sym (append_assoc (joined ps) (joined c.front) c.rest) ∙ ap (λ (l : List ℕ). l ++ c.rest) (sym (joined-append ps c.front));
-  refused = (let place : at + size_of ps + size_of c.front ≡ at + size_of (ps ++ c.front) = omega (arith, size-append ps c.front) in
-      subst (λ (k : ℕ). refusal c.next.what k c.rest ≡ Some f) place c.refused);
-}
+pub cut_right : (ps qs : List Piece) (at : ℕ) (octets rest : List ℕ) (f : RecordFault) → octets ≡ joined ps ++ rest → IsCut qs (at + size_of ps) rest f → IsCut (ps ++ qs) at octets f
+cut_right ps qs at octets rest f whole (c, near) = (
+  record {
+    front = ps ++ c.front;
+    next = c.next;
+    back = c.back;
+    rest = c.rest;
+    split = ap (λ (l : List Piece). ps ++ l) c.split ∙ sym (append_assoc ps c.front (c.next ∷ c.back));
+    same = whole ∙ ap (λ (l : List ℕ). joined ps ++ l) c.same ∙ sym (append_assoc (joined ps) (joined c.front) c.rest) ∙ ap (λ (l : List ℕ). l ++ c.rest) (sym (joined-append ps c.front));
+    refused = (let place : at + size_of ps + size_of c.front ≡ at + size_of (ps ++ c.front) = omega (arith, size-append ps c.front) in
+        subst (λ (k : ℕ). refusal c.next.what k c.rest ≡ Some f) place c.refused);
+  },
+  near,
+)
 
 abbrev pub IsBehind : List Piece → List Piece → ℕ → List ℕ → RecordFault → Type 0
 IsBehind ps qs at octets f = (rest : List ℕ) × (octets ≡ joined ps ++ rest) × IsRefusedAmong qs (at + size_of ps) rest f
@@ -132,7 +147,7 @@ cut_split ps qs at octets f c = by_front ps c.front at octets c.split c.same c.r
 pub record Stops {A : Type 0} (spell : A → ℕ → List Piece) (Fits : A → Type 0) (bytes : List ℕ) (at : ℕ) (f : RecordFault) : Type 0 where
   pub value : A
   pub fits : Fits value
-  pub cut : IsRefusedAmong (spell value at) at (drop at bytes) f
+  pub cut : IsCut (spell value at) at (drop at bytes) f
 
 -- what a reader owes to the pieces
 pub record IsReader {A : Type 0} (read : Reader A) (spell : A → ℕ → List Piece) (Fits : A → Type 0) : Type 0 where
@@ -215,18 +230,18 @@ both_law {A} {B} {C} r1 s1 F1 r2 s2 F2 read spell Fits make l1 l2 is forth back 
           record {
             value = make s.value later.some;
             fits = made.0;
-            cut = subst (λ (ps : List Piece). IsRefusedAmong ps at (drop at bytes) f) (sym (made.1 at)) (cut_left (s1 s.value at) (s2 s.value later.some (at + size_of (s1 s.value at))) at (drop at bytes) f s.cut);
+            cut = subst (λ (ps : List Piece). IsCut ps at (drop at bytes) f) (sym (made.1 at)) (cut_left (s1 s.value at) (s2 s.value later.some (at + size_of (s1 s.value at))) at (drop at bytes) f s.cut);
           }
       | inr a ↦ elim (bind_err (r2 a.0.0 bytes a.0.1) (λ y. Ok (make a.0.0 y.0, y.1)) f a.2) [
         | inl second ↦
             let t = l1.takes bytes at a.0.0 a.0.1 o le a.1 in
             let s = (l2 a.0.0 t.0).stops bytes a.0.1 f o t.1.within second in
             let made = forth a.0.0 s.value t.0 s.fits in
-            let there : IsRefusedAmong (s2 a.0.0 s.value (at + size_of (s1 a.0.0 at))) (at + size_of (s1 a.0.0 at)) (drop a.0.1 bytes) f = subst (λ (k : ℕ). IsRefusedAmong (s2 a.0.0 s.value k) k (drop a.0.1 bytes) f) t.1.after_is s.cut in
+            let there : IsCut (s2 a.0.0 s.value (at + size_of (s1 a.0.0 at))) (at + size_of (s1 a.0.0 at)) (drop a.0.1 bytes) f = subst (λ (k : ℕ). IsCut (s2 a.0.0 s.value k) k (drop a.0.1 bytes) f) t.1.after_is s.cut in
             record {
               value = make a.0.0 s.value;
               fits = made.0;
-              cut = subst (λ (ps : List Piece). IsRefusedAmong ps at (drop at bytes) f) (sym (made.1 at)) (cut_right (s1 a.0.0 at) (s2 a.0.0 s.value (at + size_of (s1 a.0.0 at))) at (drop at bytes) (drop a.0.1 bytes) f t.1.whole there);
+              cut = subst (λ (ps : List Piece). IsCut ps at (drop at bytes) f) (sym (made.1 at)) (cut_right (s1 a.0.0 at) (s2 a.0.0 s.value (at + size_of (s1 a.0.0 at))) at (drop at bytes) (drop a.0.1 bytes) f t.1.whole there);
             }
         | inr b ↦ absurd (let no : done (make a.0.0 b.0.0, b.0.1) ≡ Err f = b.2 in cc)
       ]
@@ -272,7 +287,7 @@ seen_law {A} {C} r s F read spell Fits make l is forth back = record {
     | inl first ↦
         let t = l.stops bytes at f o le first in
         let fo = forth t.value t.fits in
-        record { value = make t.value; fits = fo.0; cut = subst (λ (ps : List Piece). IsRefusedAmong ps at (drop at bytes) f) (sym (fo.1 at)) t.cut }
+        record { value = make t.value; fits = fo.0; cut = subst (λ (ps : List Piece). IsCut ps at (drop at bytes) f) (sym (fo.1 at)) t.cut }
     | inr b ↦ absurd (let no : done (make b.0.0, b.0.1) ≡ Err f = b.2 in cc)
   ];
   refuses = λ bytes at z f le fits cut.

@@ -83,7 +83,7 @@ sound_fields (m ∷ ms) sound = (sound 0 m refl, sound_fields ms (λ i n e. soun
 abbrev pub record_spelled : List PlainMember → List PlainValue → ℕ → List Piece
 record_spelled members vs at = followed (aligned Flag 0 at) (field_pieces (layout_fields members) (values_of vs)) at
 
-members_law : (members : List PlainMember) → AreSound (layout_fields members) → IsReader (members_at members) (record_spelled members) (IsRecord members)
+pub members_law : (members : List PlainMember) → AreSound (layout_fields members) → IsReader (members_at members) (record_spelled members) (IsRecord members)
 unfolding members_at
 members_law members sound = both_law (judged_at Flag) (aligned Flag) (MayBe Flag) (λ n. fields_at (layout_fields members)) (λ n vs. field_pieces (layout_fields members) (values_of vs)) (λ n. FieldsAre (layout_fields members)) (members_at members) (record_spelled members) (IsRecord members) (λ n vs. vs)
     (judged_law Flag tt 0 (omega arith, refl)) (λ n f. fields_law (layout_fields members) sound)
@@ -127,41 +127,48 @@ record_again members sound bytes vs found =
     let read = members_again members sound bytes vs [] found.0 (found.1 ∙ sym (append-nil (record_spelling members vs))) in
     rw (read, eq-eqb (length (record_spelling members vs)) (length bytes) (ap length (sym found.1))) refl
 
--- the refused primitive is in no record that agrees with the bytes so far
-none_through : (members : List PlainMember) → IsSoundLayout members → (bytes : List ℕ) (f : RecordFault) (vs : List PlainValue) → IsRecord members vs → (cut : IsRefusedAmong (record_spelled members vs 0) 0 bytes f)
-    → (other : List PlainValue) → IsRecord members other → Agree (size_of cut.front + width_of cut.next.what) (record_spelling members other) bytes → ⊥
-none_through members sound bytes f vs fits cut other fits' agree =
+-- no record that agrees with the bytes up to a refused primitive has so many more octets as are refused, whatever is behind them
+pub none_behind : (members : List PlainMember) → IsSoundLayout members → (bytes : List ℕ) (f : RecordFault) (vs : List PlainValue) → IsRecord members vs → (cut : IsRefusedAmong (record_spelled members vs 0) 0 bytes f)
+    → (w : ℕ) → ((ys : List ℕ) → w ≤ length ys → take w ys ≡ take w cut.rest → (g : RecordFault) × (refusal cut.next.what (0 + size_of cut.front) ys ≡ Some g))
+    → (other : List PlainValue) → IsRecord members other → Agree (size_of cut.front + w) (record_spelling members other) bytes → ⊥
+none_behind members sound bytes f vs fits cut w refused other fits' agree =
     let s = size_of cut.front in
-    let w = width_of cut.next.what in
     let bs = record_spelling members other in
     let less : s ≤ s + w = omega arith in
     let behind_it : drop s bytes ≡ cut.rest = ap (drop s) cut.same ∙ drop_at (joined cut.front) cut.rest s refl in
-    let long : w ≤ length cut.rest = omega (arith, ap length cut.same, length-append (joined cut.front) cut.rest, agree.0) in
     let first : take s bs ≡ joined cut.front = sym (take-take s (s + w) bs less) ∙ ap (take s) agree.1 ∙ take-take s (s + w) bytes less ∙ ap (take s) cut.same ∙ take_at (joined cut.front) cut.rest s refl in
     let second : take w (drop s bs) ≡ take w cut.rest = sym (drop-take s w bs) ∙ ap (drop s) agree.1 ∙ drop-take s w bytes ∙ ap (take w) behind_it in
     let enough : s + w ≤ length bs = omega (arith, ap length agree.1, length-take (s + w) bs, length-take (s + w) bytes, agree.0) in
-    let there : w ≤ length (drop s bs) = omega (arith, length-drop s bs, enough) in
-    let judged_so : judged cut.next.what (0 + s) (take w cut.rest) ≡ Some f = rw (le-ltb (length cut.rest) w long) at cut.refused in
-    let refused : refusal cut.next.what (0 + s) (drop s bs) ≡ Some f = rw (le-ltb (length (drop s bs)) w there, second) judged_so in
-    let again : IsRefusedAmong (record_spelled members vs 0) 0 bs f = record {
+    let r = refused (drop s bs) (omega (arith, length-drop s bs, enough)) second in
+    let again : IsRefusedAmong (record_spelled members vs 0) 0 bs r.0 = record {
       front = cut.front;
       next = cut.next;
       back = cut.back;
       rest = drop s bs;
       split = cut.split;
       same = sym (take-append-drop s bs) ∙ ap (λ (l : List ℕ). l ++ drop s bs) first;
-      refused = refused;
+      refused = r.1;
     } in
-    let stop = (members_law members (sound_fields members sound)).refuses bs 0 vs f (omega arith) fits again in
+    let stop = (members_law members (sound_fields members sound)).refuses bs 0 vs r.0 (omega arith) fits again in
     let read = members_again members sound bs other [] fits' (sym (append-nil bs)) in
-    (let no : done (other, length bs) ≡ Err f = sym read ∙ stop in cc)
+    (let no : done (other, length bs) ≡ Err r.0 = sym read ∙ stop in cc)
+
+-- the refused primitive is in no record that agrees with the bytes so far
+pub none_through : (members : List PlainMember) → IsSoundLayout members → (bytes : List ℕ) (f : RecordFault) (vs : List PlainValue) → IsRecord members vs → (cut : IsRefusedAmong (record_spelled members vs 0) 0 bytes f)
+    → (other : List PlainValue) → IsRecord members other → Agree (size_of cut.front + width_of cut.next.what) (record_spelling members other) bytes → ⊥
+none_through members sound bytes f vs fits cut other fits' agree =
+    let s = size_of cut.front in
+    let w = width_of cut.next.what in
+    let long : w ≤ length cut.rest = omega (arith, ap length cut.same, length-append (joined cut.front) cut.rest, agree.0) in
+    let judged_so : judged cut.next.what (0 + s) (take w cut.rest) ≡ Some f = rw (le-ltb (length cut.rest) w long) at cut.refused in
+    none_behind members sound bytes f vs fits cut w (λ ys there same. (f, rw (le-ltb (length ys) w there, same) judged_so)) other fits' agree
 
 record_refused : (members : List PlainMember) → IsSoundLayout members → (bytes : List ℕ) (f : RecordFault) → AreOctets bytes → record_at members bytes ≡ Err f → IsRefused members bytes f
 unfolding record_at
 record_refused members sound bytes f o e = elim (bind_err (members_at members bytes 0) (λ x. cond (eqb x.1 (length bytes)) (Ok x.0) (Err (Rest x.1))) f e) [
   | inl stop ↦
       let s = (members_law members (sound_fields members sound)).stops bytes 0 f o (omega arith) stop in
-      inl (record { values = s.value; is_record = s.fits; cut = s.cut; none = none_through members sound bytes f s.value s.fits s.cut })
+      inl (record { values = s.value; is_record = s.fits; cut = s.cut.0; none = none_through members sound bytes f s.value s.fits s.cut.0 })
   | inr a ↦ inr (by_test a.0.0 a.0.1 (eqb a.0.1 (length bytes)) refl a.1 a.2)
 ]
   where
@@ -179,7 +186,7 @@ record_refused members sound bytes f o e = elim (bind_err (members_at members by
           place = (let is : Rest after ≡ f = cc in sym is ∙ ap Rest place);
         }
 
-refused_again : (members : List PlainMember) → IsSoundLayout members → (bytes : List ℕ) (f : RecordFault) → IsRefused members bytes f → record_at members bytes ≡ Err f
+pub refused_again : (members : List PlainMember) → IsSoundLayout members → (bytes : List ℕ) (f : RecordFault) → IsRefused members bytes f → record_at members bytes ≡ Err f
 unfolding record_at
 refused_again members sound bytes f (inl r) =
     let stop = (members_law members (sound_fields members sound)).refuses bytes 0 r.values f (omega arith) r.is_record r.cut in

@@ -13,18 +13,11 @@ use Rattle.cdr_codec.specs.Primitives.{Letters, given, judged, refusal, letters}
 use Rattle.cdr_codec.specs.Reading.{plain_at, letters_at}
 use Rattle.cdr_codec.proofs.Octets.{first_octet}
 use Rattle.cdr_codec.specs.Laws.{AreOctets}
-use Rattle.cdr_codec.proofs.Readers.{done, failed, bind_id, IsReader, seen_law}
+use Rattle.cdr_codec.proofs.Readers.{done, failed, bind_id, IsNear, IsReader, seen_law}
 use Rattle.cdr_codec.proofs.Ones.{piece_law}
+use Rattle.cdr_codec.proofs.Letters.{position_none, wrong_is, without_zeros, so_many, are_no_zeros, stay_octets, same_before}
 
 -- ---- octets of 0
-
-none_has : (i : ℕ) (xs : List ℕ) → position_from (λ b. b == 0) i xs ≡ None → has_zero xs ≡ false
-none_has i [] e = refl
-none_has i (x ∷ xs) e = by_test (eqb x 0) e (none_has (i + 1) xs)
-  where
-    by_test : (t : Bool) → cond t (Some i) (position_from (λ b. b == 0) (i + 1) xs) ≡ None → (position_from (λ b. b == 0) (i + 1) xs ≡ None → has_zero xs ≡ false) → (t || has_zero xs) ≡ false
-    by_test true e later = absurd cc
-    by_test false e later = later e
 
 has_none : (i : ℕ) (xs : List ℕ) → has_zero xs ≡ false → position_from (λ b. b == 0) i xs ≡ None
 has_none i [] e = refl
@@ -33,9 +26,6 @@ has_none i (x ∷ xs) e = by_test (eqb x 0) e (has_none (i + 1) xs)
     by_test : (t : Bool) → (t || has_zero xs) ≡ false → (has_zero xs ≡ false → position_from (λ b. b == 0) (i + 1) xs ≡ None) → cond t (Some i) (position_from (λ b. b == 0) (i + 1) xs) ≡ None
     by_test true e later = absurd cc
     by_test false e later = later e
-
-position_none : (xs : List ℕ) → position (λ b. b == 0) xs ≡ None → has_zero xs ≡ false
-position_none xs e = none_has 0 xs (sym (position_from-zero (λ b. b == 0) xs) ∙ e)
 
 none_position : (xs : List ℕ) → has_zero xs ≡ false → position (λ b. b == 0) xs ≡ None
 none_position xs e = position_from-zero (λ b. b == 0) xs ∙ has_none 0 xs e
@@ -109,8 +99,11 @@ right n None false at e = absurd cc
 right n (Some i) t at e = absurd cc
 
 n_letters : (n : ℕ) → IsReader (letters_at n) (λ t at. record { what = Letters n; octets = t ++ 0 ∷ [] } ∷ []) (IsText n)
-n_letters n = piece_law (Letters n) (letters_at n) (take n) (λ t. t ++ 0 ∷ []) (IsText n) (replicate n 97) (no_zeros n, length-replicate n 97, letters_are_bytes n) (letters_is n) back forth
+n_letters n = piece_law (Letters n) (letters_at n) (take n) (λ t. t ++ 0 ∷ []) (IsText n) (replicate n 97) (no_zeros n, length-replicate n 97, letters_are_bytes n) nearest (letters_is n) back forth
   where
+    nearest : (rest : List ℕ) → AreOctets rest → (t : List ℕ) × IsText n t × IsNear (Letters n) (t ++ 0 ∷ []) rest
+    nearest rest o = (without_zeros n rest, (are_no_zeros n rest, so_many n rest, stay_octets n rest o), (λ i more e. (let w = wrong_is n i rest e in ap (take i) (append_assoc (without_zeros n rest) (0 ∷ []) more) ∙ same_before n i rest (0 ∷ more) w.0 w.1 w.2)))
+
     back : (at : ℕ) (xs : List ℕ) → AreOctets xs → n + 1 ≤ length xs → judged (Letters n) at (take (n + 1) xs) ≡ None → IsText n (take n xs) × (take n xs ++ 0 ∷ [] ≡ take (n + 1) xs)
     back at xs o long fine =
         let front : take n (take (n + 1) xs) ≡ take n xs = take-take n (n + 1) xs (omega arith) in

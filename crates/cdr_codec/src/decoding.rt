@@ -1,7 +1,6 @@
 // From octets to records.
-ghost use Rattle.std.specs.Prelude.{◌≡◌, ◌≤◌, ◌<◌, ◌+◌, ◌-◌, ◌⊎◌, List, length, map, IfOk, IfErr, MatchResult};
+ghost use Rattle.std.specs.Prelude.{◌≡◌, ◌≤◌, ◌<◌, ◌+◌, ◌-◌, ◌⊎◌, List, length, IfOk, IfErr, MatchResult};
 ghost use Rattle.type_layout.specs.Types.{PlainValue};
-ghost use Rattle.type_layout.specs.Members.{plain_member};
 ghost use Rattle.type_layout.specs.Values.{IsRecord};
 ghost use Rattle.type_layout.specs.Sound.{IsSoundLayout};
 ghost use Rattle.type_layout.specs.Spelling.{record_spelling};
@@ -24,7 +23,8 @@ use type_layout::{Layout, Record};
 /// `only` that octets which spell a record are never refused. The refusals are those of `RecordFault`:
 /// some record of the layout has the octets up to a primitive, none has them through it, and it is
 /// refused with this fault (`refused`); and where that holds, no other answer comes (`always`). Here the
-/// octets of a string and its NUL are one primitive, and `BadNul` has the place of the first wrong one.
+/// octets of a string and its NUL are one primitive, and `BadNul` has the place of the first wrong one: some
+/// record has the octets up to that one, none has it as well (`bad_nul_has_the_first_wrong_octet`).
 /// Octets have a record or a refusal, one of them (`octets_are_a_record_or_refused`).
 ///
 /// A step is one number, or one string with its length; the padding in front is part of it. A record takes

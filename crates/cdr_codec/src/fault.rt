@@ -6,7 +6,9 @@ use pss_base::NoMemory;
 use std::alloc::{AllocError, AllocFailed};
 
 /// Why octets are no record of a layout: the first primitive that is refused, a primitive being an
-/// octet of padding, a number, or an octet of a string. Places count octets from the flag, from 0.
+/// octet of padding, a number, or the octets of a string with its NUL. Of a string `BadNul` has the place of
+/// the first wrong octet, which is the first that no record has there (`bad_nul_has_the_first_wrong_octet`).
+/// Places count octets from the flag, from 0.
 #[derive(Clone, Copy, Debug, PartialEq, Eq, Drop)]
 pub enum RecordFault {
     /// The octets end, at this number of them, before a primitive does; of a string, where its octets

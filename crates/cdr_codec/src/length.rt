@@ -1,6 +1,6 @@
 // The number of a record's octets.
 ghost use Rattle.std.specs.Int.{w32};
-ghost use Rattle.std.specs.Prelude.{◌≡◌, ◌++◌, [], ◌∷◌, Option, ◌+◌, ◌≤◌, ◌-◌, ◌^◌, length, map, min};
+ghost use Rattle.std.specs.Prelude.{◌≡◌, ◌++◌, [], ◌∷◌, Option, ◌+◌, ◌-◌, ◌^◌, length, map, min};
 ghost use Rattle.pss_base.specs.declared.pid.Pid.{Pid};
 ghost use Rattle.type_layout.specs.Types.{Items, Parts, fields_of, values_of};
 ghost use Rattle.type_layout.specs.Views.{plain_type, plain_field, plain_value};

@@ -19,7 +19,7 @@ mod width;
 pub use decoding::{decode, decode_record};
 pub use encode::encode_record;
 pub use fault::RecordFault;
-pub use laws::octets_are_a_record_or_refused;
+pub use laws::{bad_nul_has_the_first_wrong_octet, octets_are_a_record_or_refused};
 pub use length::record_len;
 pub use member::read_member;
 pub use member_places::MemberPlaces;

@@ -366,6 +366,7 @@ module _ (rows : List Row) (order : List HomeNo) (have : HaveOrder rows order) (
         (home_there h.0 s.positive s.within, up_derives h.0 of.0 s.below pos s.within));
     all = all;
     once = λ i j h at_i at_j. (let a = (slot of pos le i h at_i).place in let b = (slot of pos le j h at_j).place in omega (arith, a, b));
+    first = first;
   }
     where
       all : (h : HomeNo) → IsSome (home_at S h) → DescendsFrom S h of → (i : ℕ) × (slice_get (take (end_of rows of.0 - 1 - (place_of rows of.0 - 1)) (drop (place_of rows of.0 - 1) order)) i ≡ Some h)
@@ -395,11 +396,21 @@ module _ (rows : List Row) (order : List HomeNo) (have : HaveOrder rows order) (
               let item : get_or (take count (drop from order)) i none ≡ get_or order (from + i) none = get_or-take count (drop from order) i none small ∙ get_or-drop from order i none in
               (i, slice_get-get_or (take count (drop from order)) i none lt ∙ ap (λ (x : HomeNo). Some x) (item ∙ (λ j. record { 0 = number_there j })))
 
+      -- its own place is the first of its heirs'
+      first : IsSome (home_at S of) → slice_get (take (end_of rows of.0 - 1 - (place_of rows of.0 - 1)) (drop (place_of rows of.0 - 1) order)) 0 ≡ Some of
+      first there = (let own = all of there (itself of) in at own.0 own.1)
+        where
+          at : (i : ℕ) → slice_get (take (end_of rows of.0 - 1 - (place_of rows of.0 - 1)) (drop (place_of rows of.0 - 1) order)) i ≡ Some of → slice_get (take (end_of rows of.0 - 1 - (place_of rows of.0 - 1)) (drop (place_of rows of.0 - 1) order)) 0 ≡ Some of
+          at i is =
+              let place = (slot of pos le i of is).place in
+              let none : i ≡ 0 = omega (arith, place) in
+              subst (λ (i : ℕ). slice_get (take (end_of rows of.0 - 1 - (place_of rows of.0 - 1)) (drop (place_of rows of.0 - 1) order)) i ≡ Some of) none is
+
   pub heirs_there : (of : HomeNo) (row : Row) → row_in rows of.0 ≡ Some row → AreHeirs S of (take (row.end - 1 - (row.place - 1)) (drop (row.place - 1) order))
   heirs_there of row is = (let r = row_is rows order have of row is in subst (λ (x : Row). AreHeirs S of (take (x.end - 1 - (x.place - 1)) (drop (x.place - 1) order))) r.2 (heirs_of of r.0 r.1))
 
   pub heirs_none : (of : HomeNo) → row_in rows of.0 ≡ None → AreHeirs S of []
-  heirs_none of is = record { derive = λ i h at. absurd cc; all = λ h there d. absurd (by (inside rows order have of.0) h there d); once = λ i j h at_i at_j. absurd cc }
+  heirs_none of is = record { derive = λ i h at. absurd cc; all = λ h there d. absurd (by (inside rows order have of.0) h there d); once = λ i j h at_i at_j. absurd cc; first = λ there. absurd (by (inside rows order have of.0) of there (itself of)) }
     where
       by : ((0 < of.0) × (of.0 ≤ n)) ⊎ ((of.0 ≡ 0) ⊎ (n < of.0)) → (h : HomeNo) → IsSome (home_at S h) → DescendsFrom S h of → ⊥
       by (inl a) h there d = (let wrong : Some (row_at rows of.0) ≡ None = sym (row_there rows order have of.0 a.0 a.1) ∙ is in cc)

@@ -20,8 +20,9 @@ pub record IsRootOf (S : Schema) (home root : HomeNo) : Type 0 where
   pub derives : DescendsFrom S home root
   pub first : base_of S root ≡ None
 
--- the homes that derive from a home, and itself where it is there: each of them once, and no others
+-- the homes that derive from a home, and itself where it is there: each of them once, itself first, and no others
 pub record AreHeirs (S : Schema) (of : HomeNo) (heirs : List HomeNo) : Type 0 where
   pub derive : (i : ℕ) (h : HomeNo) → slice_get heirs i ≡ Some h → IsSome (home_at S h) × DescendsFrom S h of
   pub all : (h : HomeNo) → IsSome (home_at S h) → DescendsFrom S h of → (i : ℕ) × (slice_get heirs i ≡ Some h)
   pub once : (i j : ℕ) (h : HomeNo) → slice_get heirs i ≡ Some h → slice_get heirs j ≡ Some h → i ≡ j
+  pub first : IsSome (home_at S of) → slice_get heirs 0 ≡ Some of

@@ -1,7 +1,7 @@
 -- What commands come to at the limits of the program.
-use Rattle.std.proofs.Common.{◌≡◌, ℕ, ◌-◌, ◌==◌, Bool, true, false, ◌&&◌, List, length, Some, None, refl, ap, ◌∙◌}
-use Rattle.std.specs.Prelude.{Result, Ok, Err, nat_le, nat_lt, ◌^◌, if◌then◌else◌}
-use Rattle.std.specs.FinMap.{get}
+use Rattle.std.proofs.Common.{◌≡◌, ℕ, ◌-◌, ◌==◌, Bool, true, false, not, ◌&&◌, List, length, Some, None, refl, ap, ◌∙◌}
+use Rattle.std.specs.Prelude.{Result, Ok, Err, is_some, nat_le, nat_lt, ◌^◌, if◌then◌else◌}
+use Rattle.std.specs.FinMap.{get, len}
 use Rattle.pss_base.specs.declared.owner.OwnerNo.{OwnerNo}
 use Rattle.pss_base.specs.declared.session.SessionNo.{SessionNo}
 use Rattle.type_layout.specs.declared.schema.Schema.{Schema}
@@ -16,7 +16,7 @@ use Rattle.pss_machine.specs.declared.command.Command.TheVariants as command
 use Rattle.pss_machine.specs.declared.reply.Reply.{Reply}
 use Rattle.pss_machine.specs.declared.reply.Reply.TheVariants as reply
 use Rattle.pss_machine.specs.Limits.{standard}
-use Rattle.pss_machine.specs.Operations.{FindPid, Count, ListOf, Ask}
+use Rattle.pss_machine.specs.Operations.{FindPid, Count, ListOf, PlainOp, Create, Set, Destroy, Ask}
 use Rattle.pss_machine.specs.Commands.{data_session}
 use Rattle.pss_machine.specs.Owners.{Owner, net}
 use Rattle.pss_machine.specs.Sessions.{Session, session_named, first_open}
@@ -25,7 +25,7 @@ use Rattle.pss_machine.specs.Asking.{Asked, refused_where, obtaining, only, crea
 use Rattle.pss_machine.specs.Effects.{Effect, Commits, Flushes, RollsBack, does, says}
 use Rattle.pss_machine.specs.Stepping.{changes_further, is_create, within, decided, data_command}
 use Rattle.pss_machine.specs.Deciding.{in_session, is_marked, unless_full, committing, flushing, decision}
-use Rattle.pss_machine.specs.AtLimits.{asks_for, IsAsked, BelowAllLimits, ManyAt256, SerialsAtLast, EntriesAt65535, CommitsAt67108864, FullAt67108865, FlushesAt67108864, FlushFullAt67108865}
+use Rattle.pss_machine.specs.AtLimits.{asks_for, IsAsked, BelowAllLimits, ManyAt256, serial_to_change, NoFurtherAt256, AgainAt256, SerialsAtLast, EntriesAt65535, CommitsAt67108864, FullAt67108865, FlushesAt67108864, FlushFullAt67108865}
 use Rattle.pss_machine.proofs.Logic.{none_some, same_some}
 
 -- ---- data commands
@@ -94,6 +94,32 @@ pub many_at : ManyAt256
 many_at S k command s actor asked is further changed =
     asked_is S k command s actor asked is
     ∙ ap (decided S k s actor) (λ i. table (further i) (changed i) (is_create asked.op) k.next asked.obtains (length (copies_of k s).entries) asked)
+
+-- by whether its owner has changed the object
+further_is : (owner : Owner) (op : PlainOp) (serial : ℕ) → serial_to_change op ≡ Some serial → changes_further owner op ≡ not (is_some (get owner.changes serial))
+further_is owner (Create n object) serial e = ap (λ n. not (is_some (get owner.changes n))) (same_some e)
+further_is owner (Set p member value) serial e = ap (λ n. not (is_some (get owner.changes n))) (same_some e)
+further_is owner (Destroy p) serial e = ap (λ n. not (is_some (get owner.changes n))) (same_some e)
+further_is owner (Ask question) serial e = absurd (none_some e)
+
+pub no_further_at : NoFurtherAt256
+no_further_at S k command s actor asked is serial changes unchanged changed =
+    many_at S k command s actor asked is (further_is actor.owner asked.op serial changes ∙ ap (λ o. not (is_some o)) unchanged) changed
+
+again_all : (changed : ℕ) (creates obtains : Bool) (asked : Asked) → table false changed creates 18446744073709551614 obtains 65534 asked ≡ Ok asked
+again_all changed true true asked = refl
+again_all changed true false asked = refl
+again_all changed false true asked = refl
+again_all changed false false asked = refl
+
+pub again_at : AgainAt256
+again_at S k command s actor asked is serial changes has next entries =
+    asked_is S k command s actor asked is
+    ∙ ap (decided S k s actor)
+    ((λ i. table (again i) (len actor.owner.changes) (is_create asked.op) (next i) asked.obtains (entries i) asked) ∙ again_all (len actor.owner.changes) (is_create asked.op) asked.obtains asked)
+  where
+    again : changes_further actor.owner asked.op ≡ false
+    again = further_is actor.owner asked.op serial changes ∙ ap not has
 
 pub serials_at : SerialsAtLast
 serials_at S k command s actor asked is creates changed next =

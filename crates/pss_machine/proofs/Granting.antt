@@ -54,6 +54,7 @@ module _ (S : Schema) (limits : Limits) (k : Kept) (command : Command) where
         there = may.there;
         step = step;
         taken = subst (IsStepOf S k.catalog may.owner) (sym may.taken) is.0;
+        free = may.free;
         serial = subst (TakesNext k.next) (sym op) may.serial;
         after = λ i. record (moved k (Steps n s step asked)) { owners = only_locks k.owners n.0 step none i; copies = still.copies i };
       }

@@ -19,6 +19,7 @@ pub mod Granting
 pub mod Numbering
 pub mod Attaching
 pub mod Staying
+pub mod Recounting
 pub mod AtLimits
 pub mod Worked
 pub mod Views

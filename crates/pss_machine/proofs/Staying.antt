@@ -2,6 +2,7 @@
 use Rattle.std.proofs.Common.{arith, ◌≡◌, ℕ, ◌+◌, ◌==◌, not, ◌&&◌, cond, Bool, true, false, List, [], ◌∷◌, ◌++◌, map, Option, Some, None, refl, sym, ap, ◌∙◌, subst, inl, inr}
 use Rattle.std.specs.Prelude.{◌⊎◌, ◌||◌, find, is_some, unwrap_or, if◌then◌else◌}
 use Rattle.std.specs.Option.{option_map}
+use Rattle.std.proofs.lemmas.Bool.{eq-eqb}
 use Rattle.std.specs.FinMap.{get, insert, remove}
 use Rattle.pss_base.specs.declared.pid.Pid.{Pid}
 use Rattle.pss_base.specs.declared.owner.OwnerNo.{OwnerNo}
@@ -537,6 +538,13 @@ module _ (M : Catalog) (seen : Pid → View) where
       of_if (λ (d : Copies). attached_in d n ≡ true) (is_done answer) (with_found M seen asked.obtains answer (with_named M seen asked.entry c)) c
       (found_stays asked.obtains answer (with_named M seen asked.entry c) n (named_stays asked.entry c n is)) is
 
+not_equal : (a b : ℕ) → not (a == b) ≡ true → b ≡ a → ⊥
+not_equal a b apart same = true_false (eq-eqb a b (sym same)) (by (a == b) apart)
+  where
+    by : (t : Bool) → not t ≡ true → t ≡ false
+    by true e = absurd cc
+    by false e = refl
+
 module _ (k : Kept) (paired : PairedIn k) where
   -- a new session has no entries
   opened_stays : (t : SessionNo) (m : ℕ) → kept_by k.owners k.sessions (λ s session body. false) (copies_of k t) t.0 m ≡ true → seated_at (insert k.copies k.next_session no_copies) t.0 m ≡ true
@@ -573,7 +581,11 @@ module _ (k : Kept) (paired : PairedIn k) where
       by (inl same) = ap (λ t. seated_at (with_at left s.0 seat) t m) same ∙ ap (λ o. attached_in (unwrap_or o no_copies) m) (with_here left s.0 seat) ∙ here (get left s.0) (sym (ap (λ t. seated_at left t m) same) ∙ was)
       by (inr apart) = ap (λ o. attached_in (unwrap_or o no_copies) m) (with_apart left s.0 seat t.0 apart) ∙ was
 
-  others : (effect : Effect) (t : SessionNo) (m : ℕ) → is_keeping effect ≡ true → stays_at k effect t m ≡ true → is_attached_at (moved k effect) t m ≡ true
+  -- another session is closed
+  closed_stays : (s : ℕ) (t : SessionNo) (m : ℕ) → not (s == t.0) ≡ true → stays_at k Stays t m ≡ true → seated_at (remove k.copies s) t.0 m ≡ true
+  closed_stays s t m apart e = ap (λ o. attached_in (unwrap_or o no_copies) m) (remove_apart k.copies s t.0 (not_equal s t.0 apart)) ∙ sym (kept_none k.sessions (copies_of k t) t.0 m) ∙ e
+
+  others : (effect : Effect) (t : SessionNo) (m : ℕ) → is_keeping effect t ≡ true → stays_at k effect t m ≡ true → is_attached_at (moved k effect) t m ≡ true
   others (Steps n s step asked) t m keeps e = stepped_stays n s step asked t m e
   others Stays t m keeps e = sym (kept_none k.sessions (copies_of k t) t.0 m) ∙ e
   others (OpensBasic name access) t m keeps e = opened_stays t m e
@@ -584,9 +596,9 @@ module _ (k : Kept) (paired : PairedIn k) where
   others (Commits n) t m keeps e = committed_exact k n t.0 m ∙ e
   others (Flushes n) t m keeps e = settled_exact k n t.0 m ∙ e
   others (RollsBack n) t m keeps e = detached_exact k.owners k.sessions (λ s session body. is_in n session) k.copies t.0 m ∙ e
-  others (ClosesBasic s n) t m keeps e = absurd cc
-  others (ClosesTransactional s) t m keeps e = absurd cc
-  others (Holds s copies) t m keeps e = absurd cc
+  others (ClosesBasic s n) t m keeps e = closed_stays s.0 t m keeps e
+  others (ClosesTransactional s) t m keeps e = closed_stays s.0 t m keeps e
+  others (Holds s copies) t m keeps e = ap (λ o. attached_in (unwrap_or o no_copies) m) (insert_apart k.copies s.0 copies t.0 (not_equal s.0 t.0 keeps)) ∙ sym (kept_none k.sessions (copies_of k t) t.0 m) ∙ e
 
 pub others_stay : OthersStayAttached
 others_stay S limits M next lines effect s n keeps e = others (run S limits (first M next) lines).kept (run_paired S limits M next lines) effect s n keeps e

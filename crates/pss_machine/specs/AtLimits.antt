@@ -1,5 +1,5 @@
 -- What commands come to at the limits of the program, and one below them.
-use Rattle.std.specs.Prelude.{ℕ, ◌≡◌, List, length, Option, Some, None, Result, Ok, true, false}
+use Rattle.std.specs.Prelude.{ℕ, ◌≡◌, List, length, Option, Some, None, IsSome, Result, Ok, true, false}
 use Rattle.std.specs.FinMap.{get, len}
 use Rattle.pss_base.specs.declared.owner.OwnerNo.{OwnerNo}
 use Rattle.pss_base.specs.declared.session.SessionNo.{SessionNo}
@@ -12,7 +12,7 @@ use Rattle.pss_machine.specs.declared.command.Command.TheVariants as command
 use Rattle.pss_machine.specs.declared.reply.Reply.{Reply}
 use Rattle.pss_machine.specs.declared.reply.Reply.TheVariants as reply
 use Rattle.pss_machine.specs.Limits.{standard}
-use Rattle.pss_machine.specs.Operations.{FindPid, Count, ListOf, Ask}
+use Rattle.pss_machine.specs.Operations.{FindPid, Count, ListOf, PlainOp, Create, Set, Destroy, Ask}
 use Rattle.pss_machine.specs.Commands.{data_session}
 use Rattle.pss_machine.specs.Owners.{Owner, net}
 use Rattle.pss_machine.specs.Sessions.{Session, session_named, first_open}
@@ -63,6 +63,27 @@ ManyAt256 =
     (S : Schema) (k : Kept) (command : Command) (s : SessionNo) (actor : Actor) (asked : Asked) → IsAsked S k command s actor asked
     → changes_further actor.owner asked.op ≡ true → len actor.owner.changes ≡ 256
     → decision S standard k command ≡ says reply.Many
+
+-- the serial of the object that an operation would make, set or destroy
+abbrev pub serial_to_change : PlainOp → Option ℕ
+serial_to_change (Create serial object) = Some serial
+serial_to_change (Set p member value) = Some p.serial
+serial_to_change (Destroy p) = Some p.serial
+serial_to_change (Ask question) = None
+
+-- an owner that has changed 256 objects changes none that it has not changed, be that object there or gone
+abbrev pub NoFurtherAt256 : Type 0
+NoFurtherAt256 =
+    (S : Schema) (k : Kept) (command : Command) (s : SessionNo) (actor : Actor) (asked : Asked) → IsAsked S k command s actor asked
+    → (serial : ℕ) → serial_to_change asked.op ≡ Some serial → get actor.owner.changes serial ≡ None → len actor.owner.changes ≡ 256
+    → decision S standard k command ≡ says reply.Many
+
+-- one that it has changed before it may change again
+abbrev pub AgainAt256 : Type 0
+AgainAt256 =
+    (S : Schema) (k : Kept) (command : Command) (s : SessionNo) (actor : Actor) (asked : Asked) → IsAsked S k command s actor asked
+    → (serial : ℕ) → serial_to_change asked.op ≡ Some serial → IsSome (get actor.owner.changes serial) → k.next ≡ 18446744073709551614 → length (copies_of k s).entries ≡ 65534
+    → decision S standard k command ≡ decided S k s actor (Ok asked)
 
 -- the last serial of 64 bits is not given
 abbrev pub SerialsAtLast : Type 0

@@ -1,5 +1,5 @@
 -- Where entries are attached, and by what.
-use Rattle.std.specs.Prelude.{ℕ, ◌≡◌, ◌==◌, ◌&&◌, ◌||◌, not, List, Some, Bool, true, false, is_some, IsTrue}
+use Rattle.std.specs.Prelude.{ℕ, ◌≡◌, ◌==◌, ◌&&◌, ◌||◌, not, nat_le, List, Some, Bool, true, false, is_some, IsTrue}
 use Rattle.std.specs.FinMap.{get}
 use Rattle.pss_base.specs.declared.pid.Pid.{Pid}
 use Rattle.pss_base.specs.declared.owner.OwnerNo.{OwnerNo}
@@ -92,16 +92,31 @@ is_left k _ s session body = false
 abbrev pub stays_at : Kept → Effect → SessionNo → ℕ → Bool
 stays_at k effect s n = given (entry_numbered (copies_of k s) n) false (λ e. is_attached e && not (given (get k.sessions s.0) false (λ session. is_left k effect s session (body_in k.owners s session e.pid))))
 
--- the entries of a session are as they were but for where they stand, and for one that may have come
-abbrev pub is_keeping : Effect → Bool
-is_keeping (ClosesBasic t n) = false
-is_keeping (ClosesTransactional t) = false
-is_keeping (Holds t copies) = false
-is_keeping _ = true
+-- the entries of the session are as they were but for where they stand, and for one that may have come
+abbrev pub is_keeping : Effect → SessionNo → Bool
+is_keeping (ClosesBasic t n) s = not (t.0 == s.0)
+is_keeping (ClosesTransactional t) s = not (t.0 == s.0)
+is_keeping (Holds t copies) s = not (t.0 == s.0)
+is_keeping _ s = true
 
 -- in every run an entry stays attached unless its body is left
 abbrev pub OthersStayAttached : Type 0
-OthersStayAttached = InEveryRun (λ q. (effect : Effect) (s : SessionNo) (n : ℕ) → is_keeping effect ≡ true → IsTrue (stays_at q.kept effect s n) → IsTrue (is_attached_at (moved q.kept effect) s n))
+OthersStayAttached = InEveryRun (λ q. (effect : Effect) (s : SessionNo) (n : ℕ) → is_keeping effect s ≡ true → IsTrue (stays_at q.kept effect s n) → IsTrue (is_attached_at (moved q.kept effect) s n))
+
+-- the entry counts one at most, so that a `release` takes it away
+abbrev pub is_last_count : Kept → SessionNo → ℕ → Bool
+is_last_count k s n = given (entry_numbered (copies_of k s) n) false (λ e. nat_le e.count 1)
+
+-- `dup` detaches no entry
+abbrev pub DupDetachesNone : Type 0
+DupDetachesNone =
+    (S : Schema) (limits : Limits) (k : Kept) (name : List ℕ) (m : ℕ) (s : SessionNo) (n : ℕ) → is_attached_at (moved k (decision S limits k (command.Dup name m)).effect) s n ≡ is_attached_at k s n
+
+-- `release` detaches no entry but the one that it takes away
+abbrev pub ReleaseDetachesLast : Type 0
+ReleaseDetachesLast =
+    (S : Schema) (limits : Limits) (k : Kept) (name : List ℕ) (m : ℕ) (t : SessionNo) (session : Session) (s : SessionNo) (n : ℕ) → session_named k.sessions name ≡ Some (t.0, session)
+    → is_attached_at (moved k (decision S limits k (command.Release name m)).effect) s n ≡ (is_attached_at k s n && not (is_last_count k t m && (s.0 == t.0 && n == m)))
 
 -- a data command in the session used the entry, which stands in the view in which the session then sees the object
 pub record IsAttachedBy (k new : Kept) (command : Command) (told : Reply) (s : SessionNo) (n : ℕ) : Type 0 where

@@ -13,7 +13,7 @@ use Rattle.pss_machine.specs.declared.session.View.{View}
 use Rattle.pss_machine.specs.declared.session.View.TheVariants.{Committed, Own, Kept}
 use Rattle.pss_machine.specs.Maps.{each, distinct}
 use Rattle.pss_machine.specs.Same.{same_pid}
-use Rattle.pss_machine.specs.Owners.{Owners, view, has_changed}
+use Rattle.pss_machine.specs.Owners.{Owners, has_changed}
 use Rattle.pss_machine.specs.Sessions.{Session, Sessions, is_basic, owner_of}
 use Rattle.pss_machine.specs.Alone.{object_of}
 

@@ -1,5 +1,5 @@
 -- What comes of a command that the catalog does not grant.
-use Rattle.std.specs.Prelude.{ℕ, ◌≡◌, IsTrue, List, Some}
+use Rattle.std.specs.Prelude.{ℕ, ◌≡◌, IsTrue, List, Some, None}
 use Rattle.std.specs.FinMap.{get}
 use Rattle.std.specs.FinSet as set
 use Rattle.pss_base.specs.declared.owner.OwnerNo.{OwnerNo}
@@ -12,7 +12,7 @@ use Rattle.pss_machine.specs.declared.reply.Reply.TheVariants as reply
 use Rattle.pss_machine.specs.declared.lock.Need.{Need}
 use Rattle.pss_machine.specs.Maps.{with_at}
 use Rattle.pss_machine.specs.Commands.{data_session}
-use Rattle.pss_machine.specs.Owners.{Owner, Step}
+use Rattle.pss_machine.specs.Owners.{Owner, blocker, Step}
 use Rattle.pss_machine.specs.Sessions.{Session, session_named, acts_for}
 use Rattle.pss_machine.specs.Kept.{Kept}
 use Rattle.pss_machine.specs.Deciding.{decision}
@@ -45,6 +45,7 @@ pub record OnlyLocked (S : Schema) (k : Kept) (command : Command) (new : Kept) :
   pub there : get k.owners n.0 ≡ Some owner
   pub step : Step
   pub taken : IsStepOf S k.catalog owner step
+  pub free : blocker k.owners n step.needs ≡ None
   pub serial : TakesNext k.next step.op
   pub after : new ≡ with_nothing_but_locks k n step
 

@@ -1,7 +1,7 @@
 // Laws over the definitions, for those that prove something above them.
 ghost use Rattle.pss_machine.specs.Allowed.{EffectsAreAllowed, StepsAreOfOwners};
-ghost use Rattle.pss_machine.specs.AtLimits.{BelowAllLimits, ManyAt256, SerialsAtLast, EntriesAt65535, CommitsAt67108864, FullAt67108865, FlushesAt67108864, FlushFullAt67108865};
-ghost use Rattle.pss_machine.specs.Attaching.{OnlyOpenHaveAttached, OthersStayAttached, OnlyUsedAreAttached, UsedAreAttached, GivenAreOfObject, RefreshDetachesCopies};
+ghost use Rattle.pss_machine.specs.AtLimits.{BelowAllLimits, ManyAt256, NoFurtherAt256, AgainAt256, SerialsAtLast, EntriesAt65535, CommitsAt67108864, FullAt67108865, FlushesAt67108864, FlushFullAt67108865};
+ghost use Rattle.pss_machine.specs.Attaching.{OnlyOpenHaveAttached, OthersStayAttached, OnlyUsedAreAttached, UsedAreAttached, GivenAreOfObject, RefreshDetachesCopies, DupDetachesNone, ReleaseDetachesLast};
 ghost use Rattle.pss_machine.specs.Entries.{BodiesAreAlwaysRight, EntriesAreOrderly};
 ghost use Rattle.pss_machine.specs.Laws.{RunsGoOn, RefusalsChangeNothing, FruitlessChangesNoObject};
 ghost use Rattle.pss_machine.specs.Granted.{FruitlessKeepsLocks, MarkedIsRolledBack};
@@ -16,8 +16,8 @@ pub fn runs_go_on()
 
 /// A command that is refused before the catalog is asked changes nothing, nor does a commit without room. One that
 /// the catalog does not grant changes no object, no session and no entry, nor what any owner has changed: its owner
-/// keeps the locks that it needed and has done one more command, a create has used its serial, and all else is as
-/// before. A commit that is refused because its transaction was marked is a rollback.
+/// keeps the locks that it needed, none of which clashed with another owner's, and has done one more command, a create
+/// has used its serial, and all else is as before. A commit that is refused because its transaction was marked is a rollback.
 pub fn refusals_change_nothing()
     ensures refused { RefusalsChangeNothing }
     ensures fruitless { FruitlessChangesNoObject }
@@ -69,7 +69,8 @@ pub fn numbers_come_once()
 /// other entry comes to be attached, and an attached one stays so until its body is left: by `end`, `commit` and
 /// `rollback` each body of the session or of the transaction's sessions; by `commit` and `flush` the owner's own ones
 /// and the committed ones of what changed; by `set` the older ones of the object in the owner's sessions, and by
-/// `destroy` all of the object in these; by `refresh` the copies of the session.
+/// `destroy` all of the object in these; by `refresh` the copies of the session. `dup` detaches none, `release` none but
+/// the entry that it takes away, and what `close`, `freeall` and `refresh` do is in their session alone.
 pub fn entries_are_attached()
     ensures in_open { OnlyOpenHaveAttached }
     ensures others { OthersStayAttached }
@@ -77,6 +78,8 @@ pub fn entries_are_attached()
     ensures attached { UsedAreAttached }
     ensures given { GivenAreOfObject }
     ensures refreshed { RefreshDetachesCopies }
+    ensures dup { DupDetachesNone }
+    ensures released { ReleaseDetachesLast }
 {}
 
 /// What commands come to at each limit of the program and one below, whatever else is kept: 256 objects that one owner
@@ -84,13 +87,15 @@ pub fn entries_are_attached()
 ///
 /// | At the limit | Then | One below |
 /// |---|---|---|
-/// | 256 objects are changed, and a command would change a further one | `MANY` | the catalog is asked |
+/// | 256 objects are changed, and a command would change a further one, be it there or gone | `MANY` | the catalog is asked |
 /// | the next serial is 18,446,744,073,709,551,615, and an object is to be made | `SERIALS` | the catalog is asked |
 /// | a session has 65,535 entries, and an object is to be obtained | `ENTRIES` | the catalog is asked |
 /// | after a commit or flush the objects would take 67,108,865 octets | `FULL` | it is done |
 pub fn limits_are_exact()
     ensures below { BelowAllLimits }
     ensures many { ManyAt256 }
+    ensures no_further { NoFurtherAt256 }
+    ensures again { AgainAt256 }
     ensures serials { SerialsAtLast }
     ensures entries { EntriesAt65535 }
     ensures commits { CommitsAt67108864 }

@@ -1,5 +1,6 @@
 use Rattle.pss_machine.proofs.Attaching.{only_open}
 use Rattle.pss_machine.proofs.Staying.{others_stay, only_used, refresh_detaches}
+use Rattle.pss_machine.proofs.Recounting.{dup_detaches, release_detaches}
 use Rattle.pss_machine.proofs.Used as used
 use Rattle.pss_machine.proofs.laws.entries_are_attached.Goals as goal
 
@@ -20,3 +21,9 @@ returns-clause-attached c = used.used_attached
 
 pub returns-clause-given : goal.returns-clause-given
 returns-clause-given c = used.given_for
+
+pub returns-clause-dup : goal.returns-clause-dup
+returns-clause-dup c = dup_detaches
+
+pub returns-clause-released : goal.returns-clause-released
+returns-clause-released c = release_detaches

@@ -8,6 +8,12 @@ returns-clause-below c = limits.below_limits
 pub returns-clause-many : goal.returns-clause-many
 returns-clause-many c = limits.many_at
 
+pub returns-clause-no_further : goal.returns-clause-no_further
+returns-clause-no_further c = limits.no_further_at
+
+pub returns-clause-again : goal.returns-clause-again
+returns-clause-again c = limits.again_at
+
 pub returns-clause-serials : goal.returns-clause-serials
 returns-clause-serials c = limits.serials_at
 

@@ -14,7 +14,7 @@ LONGEST = 600
 PROGRAMS = {
     "pss_base": b"pss_base: 75 operations, 0 differences\n",
     "pss_disk": b"pss_disk: 38 operations, 0 differences\n",
-    "link_pool": b"link_pool: 19302 operations, 0 differences\n",
+    "link_pool": b"link_pool: 18050 operations, 0 differences\n",
     "key_index": b"key_index: 78942 operations, 0 differences\n",
     "lock_table": b"lock_table: 66353 operations, 0 differences\n",
     "incarnations": b"incarnations: 165861 operations, 0 differences\n",

@@ -1,6 +1,6 @@
 -- Entries of a session or of a body, one after the other.
 use Rattle.std.proofs.Common.{ℕ, ◌≡◌, ◌⊎◌, inl, inr, ⊎_elim, ◌<◌, ◌+◌, [], length, Bool, true, false, cond, Option, Some, None, IsSome, refl, sym, ap, ◌∙◌, subst, arith}
-use Rattle.std.specs.Prelude.{Contains, ◌&&◌}
+use Rattle.std.specs.Prelude.{Contains, is_some, ◌&&◌}
 use Rattle.std.specs.Option.{option_map, option_and_then}
 use Rattle.std.specs.FinMap.{get, insert, remove}
 use Rattle.std.proofs.lemmas.Bool.{eq-eqb}
@@ -22,7 +22,7 @@ use Rattle.incarnations.specs.declared.names.Entry.{Entry}
 use Rattle.incarnations.specs.declared.names.EntryRecord.{EntryRecord}
 use Rattle.incarnations.specs.declared.stock.Stock.{Stock}
 use Rattle.incarnations.specs.Maps.{count}
-use Rattle.incarnations.specs.Meaning.{stands_on, is_of, body, with_view, Leaves, loosened, freed, of_session, on_body, both}
+use Rattle.incarnations.specs.Meaning.{stands_on, is_of, is_attached, body, with_view, Leaves, loosened, freed, of_session, on_body, both}
 use Rattle.incarnations.specs.Stock.{Loose, On, place_of, spot_of, spot_at, row_at, col_at, meaning_of, IsSound, IsErased, IsSet, KeepsBodies, KeepsCols, KeepsRows, asks, turned_entry}
 use Rattle.incarnations.proofs.Maps.{no_value, one_value, same_or_apart, insert_here, insert_apart, remove_here, remove_apart, get_each, weight, count_gone, count_set, count_some, count_none}
 use Rattle.incarnations.proofs.Keys.{slot_key, session_told}
@@ -315,6 +315,9 @@ module _ (k : Stock) (sound : IsSound k) where
 
   pub nobody_of : (s : SessionNo) → get k.sessions s ≡ None → count (is_of s) (plain k.entries) ≡ 0
   nobody_of s none = count_none slot_key (is_of s) (plain k.entries) (stranger s none)
+
+  pub nobody_attached : (s : SessionNo) → get k.sessions s ≡ None → count (λ e. is_of s e && is_attached e) (plain k.entries) ≡ 0
+  nobody_attached s none = count_none slot_key (λ e. is_of s e && is_attached e) (plain k.entries) (λ x e at. ap (λ t. t && is_some e.view) (stranger s none x e at))
 
   pub freed_absent : (s : SessionNo) → get k.sessions s ≡ None → Leaves (freed (of_session s)) (meaning_of k) (meaning_of k)
   freed_absent s none = unchanged (freed (of_session s)) (λ x e at. ap (λ t. cond t None (Some e)) (stranger s none x e at))

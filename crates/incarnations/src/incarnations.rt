@@ -1,5 +1,5 @@
 // Entries and bodies, as callers see them.
-ghost use Rattle.std.specs.Prelude.{◌≡◌, ◌+◌, ◌-◌, ◌*◌, ◌^◌, ◌<◌, ◌≤◌, ℕ, Some, None, IsSome, IsNone, IsSomeAnd, IfSome, MatchOption, IfOk, OnOk, OnErr, is_some, option_copied};
+ghost use Rattle.std.specs.Prelude.{◌≡◌, ◌≢◌, ◌+◌, ◌-◌, ◌*◌, ◌^◌, ◌<◌, ◌≤◌, ℕ, Some, None, IsSome, IsNone, IsSomeAnd, IfSome, MatchOption, IfOk, OnOk, OnErr, is_some, option_copied};
 ghost use Rattle.std.specs.Option.{option_map, option_and_then};
 ghost use Rattle.std.specs.FinMap as map;
 ghost use Rattle.std.specs.FinMap.{get};
@@ -149,8 +149,8 @@ impl Incarnations {
         }
     }
 
-    /// An entry counts one less, and the answer is its count; at 0 the entry goes. None exactly where the session has no
-    /// such entry; then all is as before. It takes no memory, and at most two steps.
+    /// An entry counts one less, and the answer is its count; at 0 the entry goes, with one step. None exactly where the
+    /// session has no such entry; then all is as before. It takes no memory.
     pub fn release<L: Ledger>(
         &mut self,
         session: SessionNo,
@@ -159,6 +159,8 @@ impl Incarnations {
     ) -> Option<u32>
         ensures answer { result ≡ option_map (λ e. e.count - 1) (entry_at self.old session number) }
         ensures released { MatchOption (entry_at self.old session number) (self.new ≡ self.old) (IsReleased self.old self.new (slot session number)) }
+        ensures gone { result ≡ Some 0 → steps.new ≡ steps.old + 1 }
+        ensures stays { result ≢ Some 0 → steps.new ≡ steps.old }
         ensures steps { steps.new ≤ steps.old + 2 }
     {
         let slot = Slot { session, number };
@@ -178,20 +180,22 @@ impl Incarnations {
         }
     }
 
-    /// The entries of a session go. It takes no memory, and at most two steps for each of them, and one.
+    /// The entries of a session go. It takes no memory, two steps for each of them, and at most one more.
     pub fn free_all<L: Ledger>(&mut self, session: SessionNo, steps: &mut Steps<L>)
         ensures lasts { self.new.lasts ≡ self.old.lasts }
         ensures freed { Leaves (freed (of_session session)) self.old self.new }
-        ensures steps { steps.new ≤ steps.old + (2 * length_of self.old session + 1) }
+        ensures each { steps.old + 2 * length_of self.old session ≤ steps.new }
+        ensures at_most { steps.new ≤ steps.old + (2 * length_of self.old session + 1) }
     {
         free(&mut self.stock, session, steps);
     }
 
-    /// Removes a session with its entries. It takes no memory, and at most two steps for each of them, and one.
+    /// Removes a session with its entries. It takes no memory, two steps for each of them, and at most one more.
     pub fn remove_session<L: Ledger>(&mut self, session: SessionNo, steps: &mut Steps<L>)
         ensures lasts { self.new.lasts ≡ map.remove self.old.lasts session }
         ensures freed { Leaves (freed (of_session session)) self.old self.new }
-        ensures steps { steps.new ≤ steps.old + (2 * length_of self.old session + 1) }
+        ensures each { steps.old + 2 * length_of self.old session ≤ steps.new }
+        ensures at_most { steps.new ≤ steps.old + (2 * length_of self.old session + 1) }
     {
         free(&mut self.stock, session, steps);
         close(&mut self.stock, session);
@@ -318,37 +322,40 @@ impl Incarnations {
     }
 
     /// The entries on the body of the object in the view stand on none, and it goes; where there is no such body, all is as before.
-    /// It takes no memory, and at most two steps for each of them, and one.
+    /// It takes no memory, two steps for each of them, and at most one more.
     pub fn detach_body<L: Ledger>(&mut self, pid: Pid, view: View, steps: &mut Steps<L>)
         ensures lasts { self.new.lasts ≡ self.old.lasts }
         ensures left { Leaves (loosened (on_body (body pid view))) self.old self.new }
-        ensures steps { steps.new ≤ steps.old + (2 * entries_on self.old (body pid view) + 1) }
+        ensures each { steps.old + 2 * entries_on self.old (body pid view) ≤ steps.new }
+        ensures at_most { steps.new ≤ steps.old + (2 * entries_on self.old (body pid view) + 1) }
     {
         clear(&mut self.stock, BodyName { pid, view }, steps);
     }
 
-    /// The entries of a session stand on no body. It takes no memory, and at most two steps for each of them that stands on
-    /// a body, and one.
+    /// The entries of a session stand on no body. It takes no memory, two steps for each of them that stands on a body, and
+    /// at most one more.
     pub fn detach_session<L: Ledger>(&mut self, session: SessionNo, steps: &mut Steps<L>)
         ensures lasts { self.new.lasts ≡ self.old.lasts }
         ensures left { Leaves (loosened (of_session session)) self.old self.new }
-        ensures steps { steps.new ≤ steps.old + (2 * attached_of self.old session + 1) }
+        ensures each { steps.old + 2 * attached_of self.old session ≤ steps.new }
+        ensures at_most { steps.new ≤ steps.old + (2 * attached_of self.old session + 1) }
     {
         sweep(&mut self.stock, session, None, steps);
     }
 
-    /// The entries of a session on bodies of the view stand on none. It takes no memory, and at most two steps for each
-    /// entry of the session that stands on a body, and one.
+    /// The entries of a session on bodies of the view stand on none. It takes no memory, two steps for each entry of the
+    /// session that stands on a body, and at most one more.
     pub fn detach_view<L: Ledger>(&mut self, session: SessionNo, view: View, steps: &mut Steps<L>)
         ensures lasts { self.new.lasts ≡ self.old.lasts }
         ensures left { Leaves (loosened (both (of_session session) (in_view view))) self.old self.new }
-        ensures steps { steps.new ≤ steps.old + (2 * attached_of self.old session + 1) }
+        ensures each { steps.old + 2 * attached_of self.old session ≤ steps.new }
+        ensures at_most { steps.new ≤ steps.old + (2 * attached_of self.old session + 1) }
     {
         sweep(&mut self.stock, session, Some(view), steps);
     }
 
     /// The session's entry for the object stands on no body, where it stood on the one of the view; else all is as
-    /// before. It takes no memory, and at most two steps.
+    /// before. It takes no memory, and one step where the entry leaves its body.
     pub fn detach_entry<L: Ledger>(
         &mut self,
         session: SessionNo,
@@ -358,6 +365,7 @@ impl Incarnations {
     )
         ensures lasts { self.new.lasts ≡ self.old.lasts }
         ensures left { Leaves (loosened (both (of_session session) (on_body (body pid view)))) self.old self.new }
+        ensures each { self.new ≢ self.old → steps.new ≡ steps.old + 1 }
         ensures steps { steps.new ≤ steps.old + 2 }
     {
         let Some(number) = self.stock.objects.get(ObjectName { session, pid }) else {

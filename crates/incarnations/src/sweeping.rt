@@ -24,7 +24,8 @@ pub fn sweep<L: Ledger>(
     ensures sound { IsSound stock.new }
     ensures lasts { (meaning_of stock.new).lasts ≡ (meaning_of stock.old).lasts }
     ensures left { Leaves (loosened (both (of_session session) (chosen_by chosen))) (meaning_of stock.old) (meaning_of stock.new) }
-    ensures steps { steps.new ≤ steps.old + (2 * attached_of (meaning_of stock.old) session + 1) }
+    ensures each { steps.old + 2 * attached_of (meaning_of stock.old) session ≤ steps.new }
+    ensures at_most { steps.new ≤ steps.old + (2 * attached_of (meaning_of stock.old) session + 1) }
 {
     let Some(home) = stock.sessions.get(session) else {
         return;
@@ -48,7 +49,8 @@ pub fn free<L: Ledger>(stock: &mut Stock, session: SessionNo, steps: &mut Steps<
     ensures sound { IsSound stock.new }
     ensures lasts { (meaning_of stock.new).lasts ≡ (meaning_of stock.old).lasts }
     ensures left { Leaves (freed (of_session session)) (meaning_of stock.old) (meaning_of stock.new) }
-    ensures steps { steps.new ≤ steps.old + (2 * length_of (meaning_of stock.old) session + 1) }
+    ensures each { steps.old + 2 * length_of (meaning_of stock.old) session ≤ steps.new }
+    ensures at_most { steps.new ≤ steps.old + (2 * length_of (meaning_of stock.old) session + 1) }
 {
     let Some(home) = stock.sessions.get(session) else {
         return;
@@ -72,7 +74,8 @@ pub fn clear<L: Ledger>(stock: &mut Stock, name: BodyName, steps: &mut Steps<L>)
     ensures sound { IsSound stock.new }
     ensures lasts { (meaning_of stock.new).lasts ≡ (meaning_of stock.old).lasts }
     ensures left { Leaves (loosened (on_body name)) (meaning_of stock.old) (meaning_of stock.new) }
-    ensures steps { steps.new ≤ steps.old + (2 * entries_on (meaning_of stock.old) name + 1) }
+    ensures each { steps.old + 2 * entries_on (meaning_of stock.old) name ≤ steps.new }
+    ensures at_most { steps.new ≤ steps.old + (2 * entries_on (meaning_of stock.old) name + 1) }
 {
     let Some(place) = stock.bodies.place(name) else {
         return;

@@ -1,5 +1,5 @@
 // Sessions and their entries, as callers see them.
-ghost use Rattle.std.specs.Prelude.{◌≡◌, ◌+◌, ◌-◌, ◌*◌, ◌^◌, ◌<◌, ◌≤◌, ℕ, Bool, true, None, IsSome, IsSomeAnd, IfSome, MatchOption, IfOk, OnOk, OnErr, IsTrue, List, length, Option, Some, [], ◌∷◌};
+ghost use Rattle.std.specs.Prelude.{◌≡◌, ◌≢◌, ◌+◌, ◌-◌, ◌*◌, ◌^◌, ◌<◌, ◌≤◌, ℕ, Bool, true, None, IsSome, IsSomeAnd, IfSome, MatchOption, IfOk, OnOk, OnErr, IsTrue, List, length, Option, Some, [], ◌∷◌};
 ghost use Rattle.std.specs.FinMap.{get};
 ghost use Rattle.std.specs.Option.{option_map};
 ghost use Rattle.pss_catalog.specs.Catalog.{Object, Catalog};
@@ -136,12 +136,13 @@ impl Attended {
         added
     }
 
-    /// Closes a session, which goes with its entries. It takes no memory, and at most two steps for each entry of the session,
-    /// and one.
+    /// Closes a session, which goes with its entries. It takes no memory, two steps for each entry of the session, and at most
+    /// one more.
     pub fn close<L: Ledger>(&mut self, session: SessionNo, steps: &mut Steps<L>)
         requires there { IsSome (session_at self.old.sessions session) }
         ensures closed { (k : Kept) → Attends k self.old → Attends (without_session k session) self.new }
-        ensures steps { steps.new ≤ steps.old + (2 * length_of self.old.copies session + 1) }
+        ensures each { steps.old + 2 * length_of self.old.copies session ≤ steps.new }
+        ensures at_most { steps.new ≤ steps.old + (2 * length_of self.old.copies session + 1) }
     {
         let parts = &mut self.parts;
         parts.sessions.remove(&mut parts.copies, session, steps);
@@ -164,11 +165,12 @@ impl Attended {
     }
 
     /// A session that is active or suspended is ending with its transaction, and its entries stand on no body. It takes no
-    /// memory, and at most two steps for each entry of the session that stands on a body, and one.
+    /// memory, two steps for each entry of the session that stands on a body, and at most one more.
     pub fn end<L: Ledger>(&mut self, session: SessionNo, steps: &mut Steps<L>)
         requires { IsSomeAnd (session_at self.old.sessions session) (λ x. IsSome (open_in x.association)) }
         ensures ended { IsSomeAnd (session_at self.old.sessions session) (λ x. IsSomeAnd (open_in x.association) (λ n. (k : Kept) (failed : Bool) → Attends k self.old → Attends (ended k session n failed) self.new)) }
-        ensures steps { steps.new ≤ steps.old + (2 * attached_of self.old.copies session + 1) }
+        ensures each { steps.old + 2 * attached_of self.old.copies session ≤ steps.new }
+        ensures at_most { steps.new ≤ steps.old + (2 * attached_of self.old.copies session + 1) }
     {
         let parts = &mut self.parts;
         parts.copies.copies_hold();
@@ -198,8 +200,8 @@ impl Attended {
         copies.dup(session, number)
     }
 
-    /// An entry counts one less, and the answer is its count; at 0 the entry goes. None exactly where the session has no such
-    /// entry; then all is as before. It takes no memory, and at most two steps.
+    /// An entry counts one less, and the answer is its count; at 0 the entry goes, with one step. None exactly where the
+    /// session has no such entry; then all is as before. It takes no memory.
     pub fn release<L: Ledger>(
         &mut self,
         session: SessionNo,
@@ -208,6 +210,8 @@ impl Attended {
     ) -> Option<u32>
         ensures answer { (k : Kept) → Attends k self.old → result ≡ option_map (λ e. e.count - 1) (entry_numbered (copies_of k session) number) }
         ensures released { (k : Kept) → Attends k self.old → MatchOption (entry_numbered (copies_of k session) number) (self.new ≡ self.old) (λ e. Attends (moved k (Holds session (counting number (e.count - 1) (copies_of k session)))) self.new) }
+        ensures gone { result ≡ Some 0 → steps.new ≡ steps.old + 1 }
+        ensures stays { result ≢ Some 0 → steps.new ≡ steps.old }
         ensures steps { steps.new ≤ steps.old + 2 }
     {
         let copies = &mut self.parts.copies;
@@ -215,20 +219,22 @@ impl Attended {
         copies.release(session, number, steps)
     }
 
-    /// The entries of a session go. It takes no memory, and at most two steps for each of them, and one.
+    /// The entries of a session go. It takes no memory, two steps for each of them, and at most one more.
     pub fn free_all<L: Ledger>(&mut self, session: SessionNo, steps: &mut Steps<L>)
         ensures freed { (k : Kept) → IsSome (get k.copies session.0) → Attends k self.old → Attends (moved k (Holds session (record { last = (copies_of k session).last; entries = [] }))) self.new }
-        ensures steps { steps.new ≤ steps.old + (2 * length_of self.old.copies session + 1) }
+        ensures each { steps.old + 2 * length_of self.old.copies session ≤ steps.new }
+        ensures at_most { steps.new ≤ steps.old + (2 * length_of self.old.copies session + 1) }
     {
         self.parts.copies.free_all(session, steps);
     }
 
-    /// The entries of a basic session that stand on its own copies stand on no body. It takes no memory, and at most two
-    /// steps for each entry of the session that stands on a body, and one.
+    /// The entries of a basic session that stand on its own copies stand on no body. It takes no memory, two steps for each
+    /// entry of the session that stands on a body, and at most one more.
     pub fn refresh<L: Ledger>(&mut self, session: SessionNo, steps: &mut Steps<L>)
         requires { IsSomeAnd (session_at self.old.sessions session) (λ x. IsTrue (is_basic x)) }
         ensures refreshed { (k : Kept) (x : Session) → get k.sessions session.0 ≡ Some x → IsSome (get k.copies session.0) → Attends k self.old → Attends (moved k (Holds session (refreshed k session x))) self.new }
-        ensures steps { steps.new ≤ steps.old + (2 * attached_of self.old.copies session + 1) }
+        ensures each { steps.old + 2 * attached_of self.old.copies session ≤ steps.new }
+        ensures at_most { steps.new ≤ steps.old + (2 * attached_of self.old.copies session + 1) }
     {
         let parts = &mut self.parts;
         parts.copies.copies_hold();

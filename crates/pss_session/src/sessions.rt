@@ -144,8 +144,8 @@ impl Sessions {
         }
     }
 
-    /// Removes a session with its entries, and its name is free. Takes no memory, and at most two steps for each entry of
-    /// the session, and one.
+    /// Removes a session with its entries, and its name is free. It takes no memory, two steps for each entry of the
+    /// session, and at most one more.
     pub fn remove<L: Ledger>(
         &mut self,
         copies: &mut Incarnations,
@@ -158,7 +158,8 @@ impl Sessions {
         ensures lasts { copies.new.lasts ≡ map.remove copies.old.lasts session }
         ensures freed { Leaves (freed (of_session session)) copies.old copies.new }
         ensures have { HaveSessions self.new copies.new }
-        ensures steps { steps.new ≤ steps.old + (2 * length_of copies.old session + 1) }
+        ensures each { steps.old + 2 * length_of copies.old session ≤ steps.new }
+        ensures at_most { steps.new ≤ steps.old + (2 * length_of copies.old session + 1) }
     {
         copies.remove_session(session, steps);
         close(&mut self.register, session);
@@ -259,7 +260,7 @@ impl Sessions {
     }
 
     /// A session that is active or suspended is ending with its transaction, and its entries stand on no body. It takes no
-    /// memory, and at most two steps for each entry of the session that stands on a body, and one.
+    /// memory, two steps for each entry of the session that stands on a body, and at most one more.
     pub fn end<L: Ledger>(
         &mut self,
         copies: &mut Incarnations,
@@ -272,7 +273,8 @@ impl Sessions {
         ensures lasts { copies.new.lasts ≡ copies.old.lasts }
         ensures left { Leaves (loosened (of_session session)) copies.old copies.new }
         ensures have { HaveSessions self.new copies.new }
-        ensures steps { steps.new ≤ steps.old + (2 * attached_of copies.old session + 1) }
+        ensures each { steps.old + 2 * attached_of copies.old session ≤ steps.new }
+        ensures at_most { steps.new ≤ steps.old + (2 * attached_of copies.old session + 1) }
     {
         let Some(owner) = self.record(session).association.open() else {
             unreachable!()
@@ -299,8 +301,8 @@ impl Sessions {
         rows::leave(&mut self.register.rows, owner);
     }
 
-    /// The entries of a basic session that stand on its own copies stand on no body. It takes no memory, and at most two
-    /// steps for each entry of the session that stands on a body, and one.
+    /// The entries of a basic session that stand on its own copies stand on no body. It takes no memory, two steps for each
+    /// entry of the session that stands on a body, and at most one more.
     pub fn refresh<L: Ledger>(
         &self,
         copies: &mut Incarnations,
@@ -312,7 +314,8 @@ impl Sessions {
         ensures lasts { copies.new.lasts ≡ copies.old.lasts }
         ensures left { Leaves (loosened (both (of_session session) (in_view (Kept session)))) copies.old copies.new }
         ensures have { HaveSessions self.now copies.new }
-        ensures steps { steps.new ≤ steps.old + (2 * attached_of copies.old session + 1) }
+        ensures each { steps.old + 2 * attached_of copies.old session ≤ steps.new }
+        ensures at_most { steps.new ≤ steps.old + (2 * attached_of copies.old session + 1) }
     {
         copies.detach_view(session, View::Kept(session), steps);
     }

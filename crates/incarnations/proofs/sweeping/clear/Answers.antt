@@ -3,7 +3,7 @@ use Rattle.std.specs.FinMap.{get}
 use Rattle.incarnations.specs.Maps.{count}
 use Rattle.incarnations.specs.Meaning.{stands_on}
 use Rattle.incarnations.proofs.Maps.{no_value}
-use Rattle.incarnations.proofs.Sets.{some, plain}
+use Rattle.incarnations.proofs.Sets.{some, plain, nobody_on}
 use Rattle.incarnations.proofs.Freed.{entry_found, row_there, row_some, first_in_row, first_stood, cleared_none, cleared_more, cleared_all, cleared_absent, still, place_row, place_load, place_none}
 use Rattle.incarnations.proofs.sweeping.clear.Goals as goal
 
@@ -37,5 +37,11 @@ pub returns-clause-left : goal.returns-clause-left
 returns-clause-left g c =
     cleared_all c.args.stock.now c.args.name c.loop.stock c.in-Some.place.row c.loop.counter c.loop.invariant.cleared (let all : count (stands_on c.args.name) (plain c.args.stock.now.entries) ≡ c.loop.counter = omega (arith, c.loop-test.false, c.loop.auto.counter-end, place_load c.args.stock.now c.requires c.args.name c.in-Some.place c.in-Some.ensures) in all)
 
-pub returns-clause-steps : goal.returns-clause-steps
-returns-clause-steps g c = omega (arith, c.loop-test.false, c.loop.auto.counter-end, c.loop.invariant.steps, place_load c.args.stock.now c.requires c.args.name c.in-Some.place c.in-Some.ensures)
+pub returns-in_default-clause-each : goal.returns-in_default-clause-each
+returns-in_default-clause-each g c = omega (arith, nobody_on c.args.stock.now c.requires c.args.name (place_none c.args.stock.now c.requires c.args.name c.in_default.ensures))
+
+pub returns-clause-each : goal.returns-clause-each
+returns-clause-each g c = omega (arith, c.loop-test.false, c.loop.auto.counter-end, c.loop.invariant.steps, place_load c.args.stock.now c.requires c.args.name c.in-Some.place c.in-Some.ensures)
+
+pub returns-clause-at_most : goal.returns-clause-at_most
+returns-clause-at_most g c = omega (arith, c.loop-test.false, c.loop.auto.counter-end, c.loop.invariant.steps, place_load c.args.stock.now c.requires c.args.name c.in-Some.place c.in-Some.ensures)

@@ -5,7 +5,7 @@ use Rattle.incarnations.specs.Maps.{count}
 use Rattle.incarnations.specs.Meaning.{is_of}
 use Rattle.incarnations.proofs.Maps.{no_value}
 use Rattle.incarnations.proofs.Sets.{some, plain}
-use Rattle.incarnations.proofs.Freed.{entry_found, col_there, column_some, first_at, first_entry, freed_none, freed_more, freed_all, freed_absent}
+use Rattle.incarnations.proofs.Freed.{entry_found, col_there, column_some, first_at, first_entry, freed_none, freed_more, freed_all, nobody_of, freed_absent}
 use Rattle.incarnations.proofs.sweeping.free.Goals as goal
 
 pub loop-init : goal.loop-init
@@ -40,5 +40,11 @@ pub returns-clause-left : goal.returns-clause-left
 returns-clause-left g c =
     freed_all c.args.stock.now c.args.session c.loop.stock c.in-Some.home.col c.loop.counter c.loop.invariant.freed (let all : count (is_of c.args.session) (plain c.args.stock.now.entries) ≡ c.loop.counter = omega (arith, c.loop-test.false, c.loop.auto.counter-end, c.requires.counts.sessions c.args.session c.in-Some.home.entries (ap (option_map (λ r. r.entries)) (sym c.in-Some.ensures))) in all)
 
-pub returns-clause-steps : goal.returns-clause-steps
-returns-clause-steps g c = omega (arith, c.loop-test.false, c.loop.auto.counter-end, c.loop.invariant.steps, c.requires.counts.sessions c.args.session c.in-Some.home.entries (ap (option_map (λ r. r.entries)) (sym c.in-Some.ensures)))
+pub returns-in_default-clause-each : goal.returns-in_default-clause-each
+returns-in_default-clause-each g c = omega (arith, nobody_of c.args.stock.now c.requires c.args.session (sym c.in_default.ensures))
+
+pub returns-clause-each : goal.returns-clause-each
+returns-clause-each g c = omega (arith, c.loop-test.false, c.loop.auto.counter-end, c.loop.invariant.steps, c.requires.counts.sessions c.args.session c.in-Some.home.entries (ap (option_map (λ r. r.entries)) (sym c.in-Some.ensures)))
+
+pub returns-clause-at_most : goal.returns-clause-at_most
+returns-clause-at_most g c = omega (arith, c.loop-test.false, c.loop.auto.counter-end, c.loop.invariant.steps, c.requires.counts.sessions c.args.session c.in-Some.home.entries (ap (option_map (λ r. r.entries)) (sym c.in-Some.ensures)))

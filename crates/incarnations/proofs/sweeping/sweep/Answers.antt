@@ -3,7 +3,7 @@ use Rattle.std.specs.FinMap.{get}
 use Rattle.incarnations.specs.Stock.{chosen_by, IsPassed}
 use Rattle.incarnations.proofs.Maps.{no_value}
 use Rattle.incarnations.proofs.Sets.{some}
-use Rattle.incarnations.proofs.Freed.{entry_found, spot_found, loosened_absent}
+use Rattle.incarnations.proofs.Freed.{entry_found, spot_found, nobody_attached, loosened_absent}
 use Rattle.incarnations.proofs.Swept.{home_col, swept_none, some_next, next_there, swept_more, swept_all}
 use Rattle.incarnations.proofs.sweeping.sweep.Goals as goal
 
@@ -48,5 +48,11 @@ returns-clause-lasts g c = c.loop.invariant.swept.lasts
 pub returns-clause-left : goal.returns-clause-left
 returns-clause-left g c = swept_all c.args.stock.now c.args.session c.args.chosen c.in-Some.home.attached c.loop.stock c.loop.next c.loop.counter c.loop.invariant.swept (omega (arith, c.loop-test.false, c.loop.auto.counter-end))
 
-pub returns-clause-steps : goal.returns-clause-steps
-returns-clause-steps g c = omega (arith, c.loop-test.false, c.loop.auto.counter-end, c.loop.invariant.steps, (c.requires.fronts c.args.session c.in-Some.home (sym c.in-Some.ensures)).counted)
+pub returns-in_default-clause-each : goal.returns-in_default-clause-each
+returns-in_default-clause-each g c = omega (arith, nobody_attached c.args.stock.now c.requires c.args.session (sym c.in_default.ensures))
+
+pub returns-clause-each : goal.returns-clause-each
+returns-clause-each g c = omega (arith, c.loop-test.false, c.loop.auto.counter-end, c.loop.invariant.steps, (c.requires.fronts c.args.session c.in-Some.home (sym c.in-Some.ensures)).counted)
+
+pub returns-clause-at_most : goal.returns-clause-at_most
+returns-clause-at_most g c = omega (arith, c.loop-test.false, c.loop.auto.counter-end, c.loop.invariant.steps, (c.requires.fronts c.args.session c.in-Some.home (sym c.in-Some.ensures)).counted)

@@ -2,6 +2,7 @@
 ghost use Rattle.std.specs.Prelude.{◌≡◌, ◌+◌, ◌-◌, ◌≤◌, [], Some, None, IsSome, MatchOption, true, false, if◌then◌else◌};
 ghost use Rattle.std.specs.FinMap as map;
 ghost use Rattle.std.specs.FinSet as set;
+ghost use Rattle.pss_base.specs.declared.owner.OwnerNo.{OwnerNo as Owner};
 ghost use Rattle.lock_table.specs.Locks.{held_by, released};
 ghost use Rattle.lock_table.specs.inner.Nodes.{held_in};
 ghost use Rattle.lock_table.specs.inner.Links.{IsLinked, IsWhole, IsReleasing, IsFound, Recounts, Unlinks, place_at};
@@ -56,17 +57,13 @@ fn unlink_first<L: Ledger>(
     Some((lock, left))
 }
 
-// Takes the first lock of an owner out of its rings. False where there is none left. One step.
-fn release_first<L: Ledger>(
-    links: &mut Links,
-    owner: OwnerNo,
-    col: Col,
-    steps: &mut Steps<L>,
-) -> bool
-    requires { IsReleasing links.old owner col }
-    ensures still { IsReleasing links.new owner col }
-    ensures others { released (held_in links.new.pool) owner ≡ released (held_in links.old.pool) owner }
-    ensures fewer { set.len (held_by (held_in links.new.pool) owner) + (if result then 1 else 0) ≡ set.len (held_by (held_in links.old.pool) owner) }
+// Takes the first lock of a column out of its rings. False where there is none left. One step.
+fn release_first<L: Ledger>(links: &mut Links, col: Col, steps: &mut Steps<L>) -> bool
+    requires linked { IsLinked links.old }
+    requires col { IsSome (map.get links.old.pool.cols col) }
+    ensures still { (owner : Owner) → IsReleasing links.old owner col → IsReleasing links.new owner col }
+    ensures others { (owner : Owner) → IsReleasing links.old owner col → released (held_in links.new.pool) owner ≡ released (held_in links.old.pool) owner }
+    ensures fewer { (owner : Owner) → IsReleasing links.old owner col → set.len (held_by (held_in links.new.pool) owner) + (if result then 1 else 0) ≡ set.len (held_by (held_in links.old.pool) owner) }
     ensures end { result ≡ false → map.get links.new.pool.cols col ≡ Some [] }
     ensures steps { steps.new ≡ steps.old + 1 }
 {
@@ -89,7 +86,7 @@ pub fn release<L: Ledger>(links: &mut Links, owner: OwnerNo, steps: &mut Steps<L
     ensures at_most { steps.new ≤ steps.old + set.len (held_by (held_in links.old.pool) owner) + 1 }
 {
     if let Some(col) = tables::find(&links.columns, &owner) {
-        while release_first(links, owner, col, steps) {}
+        while release_first(links, col, steps) {}
         remove_column(links, owner, col);
     }
 }

@@ -8,21 +8,21 @@ loop-init g c = record { still = whole_releasing c.args.links.now c.requires c.a
 
 pub loop-preserved : goal.loop-preserved
 loop-preserved g c = record {
-  still = c.release_first.ensures.still;
-  others = c.release_first.ensures.others ∙ c.loop.invariant.others;
-  steps_are = omega (arith, c.loop-test.ensures.fewer, c.release_first.ensures.steps, c.loop.invariant.steps_are);
+  still = c.release_first.ensures.still c.args.owner c.loop.invariant.still;
+  others = c.release_first.ensures.others c.args.owner c.loop.invariant.still ∙ c.loop.invariant.others;
+  steps_are = omega (arith, c.loop-test.ensures.fewer c.args.owner c.loop.invariant.still, c.release_first.ensures.steps, c.loop.invariant.steps_are);
 }
 
 pub returns-after-loop-clause-whole : goal.returns-after-loop-clause-whole
 returns-after-loop-clause-whole g c = record {
   linked = c.remove_column.ensures.linked;
-  rows = c.remove_column.ensures.rows [] c.release_first.ensures.still.rows;
-  cols = c.remove_column.ensures.cols [] c.release_first.ensures.still.cols;
+  rows = c.remove_column.ensures.rows [] (c.release_first.ensures.still c.args.owner c.loop.invariant.still).rows;
+  cols = c.remove_column.ensures.cols [] (c.release_first.ensures.still c.args.owner c.loop.invariant.still).cols;
 }
 
 pub returns-after-loop-clause-held : goal.returns-after-loop-clause-held
 returns-after-loop-clause-held g c =
-    all_released c.args.links.now c.loop.links c.release_first.new.links c.remove_column.new.links c.args.owner c.in-Some.col c.args.steps.now c.loop.steps c.loop.invariant c.release_first.ensures.still c.release_first.ensures.others c.loop-test.ensures.fewer (c.release_first.ensures.end c.loop-test.false)
+    all_released c.args.links.now c.loop.links c.release_first.new.links c.remove_column.new.links c.args.owner c.in-Some.col c.args.steps.now c.loop.steps c.loop.invariant (c.release_first.ensures.still c.args.owner c.loop.invariant.still) (c.release_first.ensures.others c.args.owner c.loop.invariant.still) (c.loop-test.ensures.fewer c.args.owner c.loop.invariant.still) (c.release_first.ensures.end c.loop-test.false)
     c.remove_column.ensures.nodes
 
 pub returns-after-loop-clause-each : goal.returns-after-loop-clause-each
@@ -30,7 +30,7 @@ returns-after-loop-clause-each g c =
     omega (
       arith,
       c.release_first.ensures.steps,
-      all_counted c.args.links.now c.loop.links c.release_first.new.links c.remove_column.new.links c.args.owner c.in-Some.col c.args.steps.now c.loop.steps c.loop.invariant c.release_first.ensures.still c.release_first.ensures.others c.loop-test.ensures.fewer (c.release_first.ensures.end c.loop-test.false)
+      all_counted c.args.links.now c.loop.links c.release_first.new.links c.remove_column.new.links c.args.owner c.in-Some.col c.args.steps.now c.loop.steps c.loop.invariant (c.release_first.ensures.still c.args.owner c.loop.invariant.still) (c.release_first.ensures.others c.args.owner c.loop.invariant.still) (c.loop-test.ensures.fewer c.args.owner c.loop.invariant.still) (c.release_first.ensures.end c.loop-test.false)
           c.remove_column.ensures.nodes,
     )
 
@@ -39,7 +39,7 @@ returns-after-loop-clause-at_most g c =
     omega (
       arith,
       c.release_first.ensures.steps,
-      all_counted c.args.links.now c.loop.links c.release_first.new.links c.remove_column.new.links c.args.owner c.in-Some.col c.args.steps.now c.loop.steps c.loop.invariant c.release_first.ensures.still c.release_first.ensures.others c.loop-test.ensures.fewer (c.release_first.ensures.end c.loop-test.false)
+      all_counted c.args.links.now c.loop.links c.release_first.new.links c.remove_column.new.links c.args.owner c.in-Some.col c.args.steps.now c.loop.steps c.loop.invariant (c.release_first.ensures.still c.args.owner c.loop.invariant.still) (c.release_first.ensures.others c.args.owner c.loop.invariant.still) (c.loop-test.ensures.fewer c.args.owner c.loop.invariant.still) (c.release_first.ensures.end c.loop-test.false)
           c.remove_column.ensures.nodes,
     )
 

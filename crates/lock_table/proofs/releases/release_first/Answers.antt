@@ -6,13 +6,13 @@ pub drop_empty_row-requires-clause-there : goal.drop_empty_row-requires-clause-t
 drop_empty_row-requires-clause-there g c = record { resource = c.in-Some.lock.resource; is = c.in-Some.ensures.unlinks.found }
 
 pub returns-in-Some-clause-still : goal.returns-in-Some-clause-still
-returns-in-Some-clause-still g c =
+returns-in-Some-clause-still g c owner is =
     let drops = c.drop_empty_row.ensures.drops c.in-Some.lock.resource c.in-Some.ensures.unlinks.found in
-    still_releasing c.args.links.now c.unlink_first.new.links c.args.owner c.args.col c.in-Some.lock c.in-Some.left c.requires c.unlink_first.ensures.linked c.in-Some.ensures.unlinks c.drop_empty_row.new.links c.drop_empty_row.ensures.nodes drops.linked
-    (drops.rows [] (one_empty c.args.links.now c.unlink_first.new.links c.args.owner c.args.col c.in-Some.lock c.in-Some.left c.requires c.unlink_first.ensures.linked c.in-Some.ensures.unlinks)) drops.cols c.drop_empty_row.ensures.columns
+    still_releasing c.args.links.now c.unlink_first.new.links owner c.args.col c.in-Some.lock c.in-Some.left is c.unlink_first.ensures.linked c.in-Some.ensures.unlinks c.drop_empty_row.new.links c.drop_empty_row.ensures.nodes drops.linked
+    (drops.rows [] (one_empty c.args.links.now c.unlink_first.new.links owner c.args.col c.in-Some.lock c.in-Some.left is c.unlink_first.ensures.linked c.in-Some.ensures.unlinks)) drops.cols c.drop_empty_row.ensures.columns
 
 pub returns-in-Some-clause-others : goal.returns-in-Some-clause-others
-returns-in-Some-clause-others g c = others_released c.args.links.now c.unlink_first.new.links c.args.owner c.args.col c.in-Some.lock c.in-Some.left c.requires c.unlink_first.ensures.linked c.in-Some.ensures.unlinks c.drop_empty_row.new.links c.drop_empty_row.ensures.nodes
+returns-in-Some-clause-others g c owner is = others_released c.args.links.now c.unlink_first.new.links owner c.args.col c.in-Some.lock c.in-Some.left is c.unlink_first.ensures.linked c.in-Some.ensures.unlinks c.drop_empty_row.new.links c.drop_empty_row.ensures.nodes
 
 pub returns-in-Some-clause-fewer : goal.returns-in-Some-clause-fewer
-returns-in-Some-clause-fewer g c = one_fewer c.args.links.now c.unlink_first.new.links c.args.owner c.args.col c.in-Some.lock c.in-Some.left c.requires c.unlink_first.ensures.linked c.in-Some.ensures.unlinks c.drop_empty_row.new.links c.drop_empty_row.ensures.nodes
+returns-in-Some-clause-fewer g c owner is = one_fewer c.args.links.now c.unlink_first.new.links owner c.args.col c.in-Some.lock c.in-Some.left is c.unlink_first.ensures.linked c.in-Some.ensures.unlinks c.drop_empty_row.new.links c.drop_empty_row.ensures.nodes

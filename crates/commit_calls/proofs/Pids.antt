@@ -41,4 +41,4 @@ pids_of_net S limits k reached n owner there cs are =
 
 -- each object to which changes give a value is among those that have one
 pub valued_among : (owner : Owner) (pids : List Pid) → AreValued owner.changes pids → HasAmong owner pids
-valued_among owner pids all pid x gave of = all pid ∙ ap (λ state. given state false (λ s. given s false (λ (y : Object). y.home.0 == pid.home))) gave ∙ eq-eqb x.home.0 pid.home of
+valued_among owner pids are pid x gave of = are.all pid ∙ ap (λ state. given state false (λ s. given s false (λ (y : Object). y.home.0 == pid.home))) gave ∙ eq-eqb x.home.0 pid.home of

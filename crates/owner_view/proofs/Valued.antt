@@ -1,5 +1,5 @@
 -- The objects that have a value, from the slots in which they stand.
-use Rattle.std.proofs.Common.{ℕ, ◌≡◌, ◌==◌, Bool, true, false, cond, List, [], ◌∷◌, ◌++◌, Option, Some, None, refl, sym, ap, ◌∙◌, arith}
+use Rattle.std.proofs.Common.{ℕ, ◌≡◌, ◌==◌, Bool, true, false, not, cond, List, [], ◌∷◌, ◌++◌, Option, Some, None, refl, sym, ap, ◌∙◌, arith}
 use Rattle.std.specs.Prelude.{nat_eq, ◌||◌, ◌&&◌}
 use Rattle.std.specs.List.{list_any, IsDistinct, AllByRecursion}
 use Rattle.std.specs.Map.{keys_of}
@@ -8,6 +8,7 @@ use Rattle.std.proofs.lemmas.Bool.Decides.{nat_tests}
 use Rattle.std.proofs.lemmas.Map.Keys.{IsDistinct-head, IsDistinct-tail}
 use Rattle.pss_base.specs.declared.pid.Pid.{Pid}
 use Rattle.type_layout.specs.Schemas.{given}
+use Rattle.type_layout.specs.Sound.{are_distinct}
 use Rattle.pss_catalog.specs.Catalog.{Object}
 use Rattle.pss_machine.specs.Same.{same_pid}
 use Rattle.owner_view.specs.declared.states.Slot.{Slot}
@@ -79,5 +80,31 @@ listed pid (e ∷ es) distinct = by (pid.serial == e.0) refl (listed pid es (IsD
     by true same rest = here pid e es same (none same) rest
     by false other rest = apart pid e es other ∙ rest
 
+-- ---- each once
+
+-- none that stands behind has the serial of this one
+fresh : (p : Pid) (es : List (ℕ × Slot)) → AllByRecursion (λ t. nat_eq p.serial t ≡ false) (keys_of es) → list_any (same_pid p) (pids_in es) ≡ false
+fresh p [] others = refl
+fresh p (e ∷ es) others = by e.1 (fresh p es others.1)
+  where
+    by : (at : Slot) → list_any (same_pid p) (pids_in es) ≡ false → list_any (same_pid p) (option_to_list (slot_pid e.0 at) ++ pids_in es) ≡ false
+    by slot.Reserved rest = rest
+    by slot.Gone rest = rest
+    by (slot.There object) rest =
+        ap (λ (c : Bool). ((p.home == object.home.0) && c) || list_any (same_pid p) (pids_in es)) others.0 ∙ ap (λ (c : Bool). c || list_any (same_pid p) (pids_in es)) (and_false (p.home == object.home.0)) ∙ rest
+
+once : (es : List (ℕ × Slot)) → IsDistinct nat_eq (keys_of es) → are_distinct same_pid (pids_in es) ≡ true
+once [] distinct = refl
+once (e ∷ es) distinct = by e.1 (once es (IsDistinct-tail nat_eq e.0 (keys_of es) distinct))
+  where
+    by : (at : Slot) → are_distinct same_pid (pids_in es) ≡ true → are_distinct same_pid (option_to_list (slot_pid e.0 at) ++ pids_in es) ≡ true
+    by slot.Reserved rest = rest
+    by slot.Gone rest = rest
+    by (slot.There object) rest =
+        ap (λ (c : Bool). not c && are_distinct same_pid (pids_in es)) (fresh (record { home = object.home.0; serial = e.0 }) es (IsDistinct-head nat_eq e.0 (keys_of es) distinct)) ∙ rest
+
 pub valued : (es : List (ℕ × Slot)) (pids : List Pid) → pids ≡ pids_in es → IsDistinct nat_eq (keys_of es) → AreValued (changes_of es) pids
-valued es pids are distinct pid = ap (is_listed pid) are ∙ listed pid es distinct ∙ ap (is_value pid.home) (sym (get-changes_of es pid.serial))
+valued es pids are distinct = record {
+  all = λ pid. ap (is_listed pid) are ∙ listed pid es distinct ∙ ap (is_value pid.home) (sym (get-changes_of es pid.serial));
+  once = ap (are_distinct same_pid) are ∙ once es distinct;
+}

@@ -1,11 +1,12 @@
 -- The states of objects by what stands at their serials.
-use Rattle.std.specs.Prelude.{ℕ, ◌≡◌, ◌≤◌, ◌+◌, ◌++◌, List, [], ◌∷◌, Option, Some, None, is_some, Bool, false, cond, ◌==◌}
+use Rattle.std.specs.Prelude.{ℕ, ◌≡◌, ◌≤◌, ◌+◌, ◌++◌, List, [], ◌∷◌, Option, Some, None, is_some, IsTrue, Bool, false, cond, ◌==◌}
 use Rattle.std.specs.List.{list_any, slice_get}
 use Rattle.std.specs.Map.{lookup}
 use Rattle.std.specs.Option.{option_to_list}
 use Rattle.std.specs.FinMap.{get, insert, remove, empty}
 use Rattle.pss_base.specs.declared.pid.Pid.{Pid}
 use Rattle.type_layout.specs.Schemas.{given}
+use Rattle.type_layout.specs.Sound.{are_distinct}
 use Rattle.pss_catalog.specs.Catalog.{Object, pid_of}
 use Rattle.pss_machine.specs.Changes.{Changes}
 use Rattle.pss_machine.specs.Same.{same_pid}
@@ -72,9 +73,10 @@ pub record AreInOrder (es : List (ℕ × Slot)) (ss : List ℕ) : Type 0 where
 abbrev pub has_value : Changes → Pid → Bool
 has_value changes pid = given (get changes pid.serial) false (λ state. given state false (λ x. x.home.0 == pid.home))
 
--- these are the pids of the objects to which the changes give a value
-abbrev pub AreValued : Changes → List Pid → Type 0
-AreValued changes pids = (pid : Pid) → list_any (λ p. same_pid p pid) pids ≡ has_value changes pid
+-- these are the pids of the objects to which the changes give a value, each once
+pub record AreValued (changes : Changes) (pids : List Pid) : Type 0 where
+  pub all : (pid : Pid) → list_any (λ p. same_pid p pid) pids ≡ has_value changes pid
+  pub once : IsTrue (are_distinct same_pid pids)
 
 -- the pid of the object that stands in the slot of a serial
 abbrev pub slot_pid : ℕ → Slot → Option Pid

@@ -11,6 +11,7 @@ use storage_home::{keys_of_octets, keys_of_record};
 use type_layout::{KeyNo, Schema};
 
 /// All keys of an object.
+#[inline(always)]
 pub fn keyed_of(
     alloc: Global,
     schema: &Schema,

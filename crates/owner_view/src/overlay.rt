@@ -59,7 +59,7 @@ impl Overlay {
         states::in_order(self.alloc, &self.states)
     }
 
-    /// The pids of the objects that have a value, in no stated order.
+    /// The pids of the objects that have a value, each once, in no stated order.
     pub fn pids(&self) -> Result<Vec<Pid>, NoMemory>
         ensures { IfOk result (λ pids. AreValued (changes_in self.now) pids.items) }
     {

@@ -73,8 +73,8 @@ impl Owned {
         self.changed
     }
 
-    /// The pids of the objects that have a value from the owner, also where it is the one that was committed. They stand in no
-    /// stated order.
+    /// The pids of the objects that have a value from the owner, also where it is the one that was committed: each
+    /// once, in no stated order.
     ///
     /// `NoMemory`: there was no room for the list.
     pub fn valued_pids(&self) -> Result<Vec<Pid>, NoMemory>

@@ -27,6 +27,9 @@ use Rattle.pss_machine.specs.declared.reply.Reply.TheVariants as reply
 use Rattle.pss_machine.specs.Effects.{Effect, Stays, OpensBasic, OpensTransactional, ClosesBasic, ClosesTransactional, Begins, Associates, Ends, Holds, Steps, Commits, Flushes, RollsBack, Decision, says}
 use Rattle.pss_machine.specs.Moving.{moved, with_commit, title_of}
 use Rattle.pss_machine.proofs.Logic.{same_some, true_false}
+use Rattle.commit_calls.specs.declared.settling.Way.{Way}
+use Rattle.commit_calls.specs.declared.settling.Way.TheVariants.{Commit, Flush}
+use Rattle.commit_calls.specs.Ways.{effect_of}
 use Rattle.pss_laws.specs.Storable.{NothingOrStorable}
 use Rattle.owner_view.specs.Net.{AreNet}
 use Rattle.pss_laws.proofs.Storing.{owners_storable}
@@ -58,11 +61,15 @@ module _ (k : Kept) (n : OwnerNo) (owner : Owner) (there : get k.owners n.0 ≡ 
   pub flushes_catalog : (moved k (Flushes n)).catalog ≡ over k.catalog (net k.catalog owner)
   flushes_catalog = settled_catalog
 
-pub commits_net : (k : Kept) (n : OwnerNo) (owner : Owner) → get k.owners n.0 ≡ Some owner → StoresNet k owner (Commits n)
+commits_net : (k : Kept) (n : OwnerNo) (owner : Owner) → get k.owners n.0 ≡ Some owner → StoresNet k owner (Commits n)
 commits_net k n owner there = record { catalog = commits_catalog k n owner there; saved = λ saved. ap (saved_next saved k.next) (changed_is k n owner there) }
 
-pub flushes_net : (k : Kept) (n : OwnerNo) (owner : Owner) → get k.owners n.0 ≡ Some owner → StoresNet k owner (Flushes n)
+flushes_net : (k : Kept) (n : OwnerNo) (owner : Owner) → get k.owners n.0 ≡ Some owner → StoresNet k owner (Flushes n)
 flushes_net k n owner there = record { catalog = flushes_catalog k n owner there; saved = λ saved. ap (saved_next saved k.next) (changed_is k n owner there) }
+
+pub way_net : (w : Way) (k : Kept) (n : OwnerNo) (owner : Owner) → get k.owners n.0 ≡ Some owner → StoresNet k owner (effect_of w n)
+way_net Commit k n owner there = commits_net k n owner there
+way_net Flush k n owner there = flushes_net k n owner there
 
 -- as many changes, so the same is stored
 same_saved : (S : Schema) (M : Catalog) (saved next : ℕ) (cs : List Change) (ds : List Step) → AreChanges S M cs ds → saved_next saved next cs ≡ saved_next saved next ds

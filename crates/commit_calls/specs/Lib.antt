@@ -1,3 +1,4 @@
 pub mod Storing
 pub mod Ready
 pub mod Commits
+pub mod Ways

@@ -7,17 +7,13 @@ ghost use Rattle.page_format.specs.Faults.{is_disk_stop};
 ghost use Rattle.pss_machine.specs.declared.command.Command.TheVariants as command;
 ghost use Rattle.pss_machine.specs.declared.reply.Reply.TheVariants as reply;
 ghost use Rattle.pss_machine.specs.Kept.{Kept};
-ghost use Rattle.pss_machine.specs.Deciding.{decision, is_marked, unless_full};
-ghost use Rattle.pss_machine.specs.Effects.{Commits};
-ghost use Rattle.pss_machine.specs.Moving.{moved};
+ghost use Rattle.pss_machine.specs.Deciding.{decision, is_marked};
 ghost use Rattle.pss_recovery.specs.Silence.{IsSilent};
-ghost use Rattle.connector_parts.specs.Stands.{Stands, AnyAt, IsAt, StayAs, Comes};
-ghost use Rattle.commit_calls.specs.Ready.{MayMakeReady, IsReady};
-ghost use Rattle.commit_calls.specs.Commits.{MayCommit, MayApply, IsBehind, IsCalled, Follows};
+ghost use Rattle.connector_parts.specs.Stands.{Stands, AnyAt, IsAt, Comes};
+ghost use Rattle.commit_calls.specs.Commits.{IsBehind, IsCalled};
 ghost use Rattle.commit_saving.specs.Saving.{BecomesSaved, IsSavedThroughout, StaysSaved, StoresNothing, saved_by};
 
-use crate::ready::Ready;
-use crate::storing::store_changes;
+use crate::settling::{Way, settle};
 use connector_parts::Parts;
 use pss_base::{Bytes, NoMemory, OwnerNo, SessionNo, Steps, StoreStop};
 use pss_disk::Station;
@@ -42,49 +38,6 @@ fn still_open(parts: &Parts, session: SessionNo) -> Result<Reply, NoMemory>
 {
     let name = Bytes::from_slice(parts.alloc, parts.attended.sessions().name(session))?;
     Ok(Reply::StillOpen(name))
-}
-
-// What was made ready is committed, and the transaction goes. It takes no memory.
-fn apply<L: Ledger>(parts: &mut Parts, owner: OwnerNo, ready: Ready, steps: &mut Steps<L>)
-    requires { MayApply parts.old owner ready }
-    ensures committed { (k : Kept) → Stands parts.old k → IsReady parts.old k owner ready → MayCommit k owner → Stands parts.new (moved k (Commits owner)) }
-    ensures rest { StayAs parts.old parts.new }
-{
-    let Ready { commit, pids } = ready;
-    parts.accounts.commit(commit);
-    parts.attended.commit(owner, pids.as_slice(), steps);
-    parts.accounts.leave(owner, steps);
-}
-
-// A transaction that no session is active or suspended with commits what it changed: memory is made ready first, then the
-// changes are stored, and what follows takes no memory.
-fn commit_changes<L: Ledger, W: Station>(
-    parts: &mut Parts,
-    store: &mut Store,
-    station: &mut W,
-    owner: OwnerNo,
-    steps: &mut Steps<L>,
-) -> Result<Reply, StoreStop>
-    requires ready { MayMakeReady parts.old owner }
-    requires behind { IsBehind parts.old store.old }
-    requires settled { IsSettled (W.content station.old) (W.now station.old) }
-    ensures follows { IfOk result (λ reply. (m : MayMakeReady parts.old owner) → MayCommit m.kept owner → Follows parts.old m.kept (unless_full parts.old.schema parts.old.limits m.kept owner (Commits owner)) reply parts.new) }
-    ensures saved { OnOk result ((m : MayMakeReady parts.old owner) → BecomesSaved W.content parts.old.schema m.kept (unless_full parts.old.schema parts.old.limits m.kept owner (Commits owner)).effect store.old store.new station.old station.new) }
-    ensures images { (m : MayMakeReady parts.old owner) → IsSavedThroughout W.content W.history parts.old.schema m.kept (unless_full parts.old.schema parts.old.limits m.kept owner (Commits owner)).effect store.old station.old station.new }
-    ensures memory { IfErr result (λ why. why ≡ stop.NoMemory → (m : MayMakeReady parts.old owner) → StaysSaved W.content W.history parts.old.schema m.kept store.old station.old station.new) }
-    ensures next { OnOk result ((m : MayMakeReady parts.old owner) → store.new.next ≡ saved_by m.kept store.old.next (unless_full parts.old.schema parts.old.limits m.kept owner (Commits owner)).effect) }
-    ensures still { (m : MayMakeReady parts.old owner) → StoresNothing m.kept (unless_full parts.old.schema parts.old.limits m.kept owner (Commits owner)).effect → station.new ≡ station.old }
-    ensures settled { OnOk result (IsSettled (W.content station.new) (W.now station.new)) }
-    ensures silent { IsSilent W.now W.history W.speak_faults station.old station.new }
-    ensures cause { HasCauseIf (W.disk_faults station.old) (W.disk_faults station.new) (is_disk_stop result) }
-{
-    match store_changes(parts, store, station, owner)? {
-        Some(ready) => {
-            apply(parts, owner, ready, steps);
-            Ok(Reply::Done)
-        }
-        None => Ok(Reply::Full),
-    }
 }
 
 /// `commit T`: `OK`, `NOTRANSACTION`, `OPEN`, `ROLLEDBACK` or `FULL`. Where it changed an object, `OK` comes when the store
@@ -123,5 +76,5 @@ pub fn commit<L: Ledger, W: Station>(
         parts.finish(owner, steps);
         return Ok(Reply::RolledBack);
     }
-    commit_changes(parts, store, station, owner, steps)
+    settle(parts, store, station, owner, Way::Commit, steps)
 }

@@ -10,6 +10,7 @@ mod committing;
 mod flushing;
 mod objects;
 mod ready;
+mod settling;
 mod storing;
 
 pub use committing::commit;

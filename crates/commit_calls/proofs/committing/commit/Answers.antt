@@ -76,8 +76,8 @@ returns-then-is_marked g c =
       cause = no_cause (g.W.Station.disk_faults c.args.station.now);
     }
 
-pub commit_changes-requires-clause-ready : goal.commit_changes-requires-clause-ready
-commit_changes-requires-clause-ready g c =
+pub settle-requires-clause-ready : goal.settle-requires-clause-ready
+settle-requires-clause-ready g c =
     let k = c.requires.any.kept in
     commit_ready c.args.parts.now k c.requires.any.at c.in-Some.owner (named_transaction k c.args.transaction.now c.in-Some.owner (sym (c.in-Some.ensures.machine k (c.titles.ensures c.args.parts.now.schema k c.requires.any.at.stands.accounts) ∙ ap (transaction_named k) c.as_slice.ensures)))
 
@@ -88,8 +88,8 @@ returns g c =
     let parts = c.args.parts.now in
     let name = c.args.transaction.now in
     let n = c.in-Some.owner in
-    let new = c.commit_changes.new in
-    let result = c.commit_changes.result in
+    let new = c.settle.new in
+    let result = c.settle.result in
     let named : (k : Kept) → IsAt parts k → Some n ≡ transaction_named k name = λ k at. c.in-Some.ensures.machine k (c.titles.ensures parts.schema k at.stands.accounts) ∙ ap (transaction_named k) c.as_slice.ensures in
     let tx : (k : Kept) → IsAt parts k → is_transaction k.owners n.0 ≡ true = λ k at. named_transaction k name n (sym (named k at)) in
     let ready : (k : Kept) → (at : IsAt parts k) → MayMakeReady parts n = λ k at. commit_ready parts k at n (tx k at) in
@@ -101,16 +101,16 @@ returns g c =
           (λ (told : Reply). (m : MayMakeReady parts n) → MayCommit m.kept n → Follows parts m.kept (unless_full parts.schema parts.limits m.kept n (Commits n)) told new.parts)
           (λ (told : Reply). (k : Kept) → IsAt parts k → Comes parts k (command.Commit name) told new.parts) result
           (λ told h k at. follows_comes parts new.parts k (command.Commit name) (unless_full parts.schema parts.limits k n (Commits n)) told (decided k at) (h (ready k at) (record { own = own_at parts k at; transaction = tx k at; closed = closed k at })))
-          c.commit_changes.ensures.follows;
-      saved = on_ok result (λ made k at. subst (λ (d : Decision). BecomesSaved content parts.schema k d.effect c.args.store.now new.store c.args.station.now new.station) (sym (decided k at)) (made (ready k at))) c.commit_changes.ensures.saved;
-      images = λ k at. subst (λ (d : Decision). IsSavedThroughout content history parts.schema k d.effect c.args.store.now c.args.station.now new.station) (sym (decided k at)) (c.commit_changes.ensures.images (ready k at));
+          c.settle.ensures.follows;
+      saved = on_ok result (λ made k at. subst (λ (d : Decision). BecomesSaved content parts.schema k d.effect c.args.store.now new.store c.args.station.now new.station) (sym (decided k at)) (made (ready k at))) c.settle.ensures.saved;
+      images = λ k at. subst (λ (d : Decision). IsSavedThroughout content history parts.schema k d.effect c.args.store.now c.args.station.now new.station) (sym (decided k at)) (c.settle.ensures.images (ready k at));
       memory = if_err
           (λ (why : StoreStop). why ≡ stop.NoMemory → (m : MayMakeReady parts n) → StaysSaved content history parts.schema m.kept c.args.store.now c.args.station.now new.station)
           (λ (why : StoreStop). why ≡ stop.NoMemory → (k : Kept) → IsAt parts k → StaysSaved content history parts.schema k c.args.store.now c.args.station.now new.station) result
-          (λ why stays is k at. stays is (ready k at)) c.commit_changes.ensures.memory;
-      next = on_ok result (λ is k at. subst (λ (d : Decision). new.store.next ≡ saved_by k c.args.store.now.next d.effect) (sym (decided k at)) (is (ready k at))) c.commit_changes.ensures.next;
-      still = λ k at none. c.commit_changes.ensures.still (ready k at) (subst (λ (d : Decision). StoresNothing k d.effect) (decided k at) none);
-      settled = c.commit_changes.ensures.settled;
-      silent = c.commit_changes.ensures.silent;
-      cause = c.commit_changes.ensures.cause;
+          (λ why stays is k at. stays is (ready k at)) c.settle.ensures.memory;
+      next = on_ok result (λ is k at. subst (λ (d : Decision). new.store.next ≡ saved_by k c.args.store.now.next d.effect) (sym (decided k at)) (is (ready k at))) c.settle.ensures.next;
+      still = λ k at none. c.settle.ensures.still (ready k at) (subst (λ (d : Decision). StoresNothing k d.effect) (decided k at) none);
+      settled = c.settle.ensures.settled;
+      silent = c.settle.ensures.silent;
+      cause = c.settle.ensures.cause;
     }

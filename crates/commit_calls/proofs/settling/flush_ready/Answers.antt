@@ -4,7 +4,7 @@ use Rattle.pss_copies.specs.Settling.{MayFlush}
 use Rattle.pss_machine.specs.Moving.{settled}
 use Rattle.commit_calls.specs.Ready.{pids_in}
 use Rattle.commit_calls.proofs.Settlements.{flush_settles, still_there}
-use Rattle.commit_calls.proofs.flushing.apply.Goals as goal
+use Rattle.commit_calls.proofs.settling.flush_ready.Goals as goal
 
 pub commit-requires : goal.commit-requires
 commit-requires g c = record { schema = c.args.parts.now.schema; kept = c.requires.kept; owner = c.args.owner; are = c.requires.stands.accounts; is = c.requires.is.commit; commits = c.requires.commits }

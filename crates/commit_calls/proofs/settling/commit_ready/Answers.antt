@@ -3,7 +3,7 @@ use Rattle.pss_base.specs.declared.pid.Pid.{Pid}
 use Rattle.pss_copies.specs.Settling.{MayCommit}
 use Rattle.pss_machine.specs.Moving.{settled}
 use Rattle.commit_calls.proofs.Settlements.{commit_settles, gone_alike}
-use Rattle.commit_calls.proofs.committing.apply.Goals as goal
+use Rattle.commit_calls.proofs.settling.commit_ready.Goals as goal
 
 pub commit-requires : goal.commit-requires
 commit-requires g c = record { schema = c.args.parts.now.schema; kept = c.requires.kept; owner = c.args.owner; are = c.requires.stands.accounts; is = c.requires.is.commit; commits = c.requires.commits }

@@ -1,7 +1,7 @@
 """Scripts up to the greatest numbers that are served. A case is its name, the schema's text, the lines of the script and the replies, and those of a
 second run over the store, or none."""
 
-from schemas import CELLS, KEYED, NOTES, pid
+from schemas import CELLS, KEYED, NOTES, NUMBERED, pid
 
 OPENED = ("open s1 basic rw", "OK")
 FLUSHED = ("flush s1", "OK")
@@ -15,6 +15,8 @@ LONGEST_LINE = 65536
 MOST_OCTETS = 67108864
 # A record of 8,000 octets: one in front, three to the next place of four, a length of four, the letters and a zero octet.
 LONGEST_NOTE = 7991
+# The same with a number of four octets in front of the length.
+LONGEST_NUMBERED = LONGEST_NOTE - 4
 
 
 def created(home, number, value):
@@ -115,6 +117,35 @@ def keys_again():
     yield "create s1 Cells 1", "DUPLICATE v"
 
 
+def records():
+    """A record of 8,000 octets, and none of one more: by a factory, by `create` and by `set`. A key that is taken stands before it. What is
+    refused leaves no key behind, but a serial is used."""
+    longest, longer = ('"' + "a" * n + '"' for n in (LONGEST_NUMBERED, LONGEST_NUMBERED + 1))
+    yield OPENED
+    yield f"make s1 Notes make 1 {longest}", f"OK i1 {pid(1)}"
+    yield f"make s1 Notes make 2 {longer}", "TOOLARGE"
+    yield f"make s1 Notes make 1 {longer}", "DUPLICATE k"
+    yield f"create s1 Notes 2 {longer}", "TOOLARGE"
+    yield f"set s1 i1 t {longer}", "TOOLARGE"
+    yield "get s1 i1 t", f"OK {longest}"
+    yield 'set s1 i1 t ""', "OK"
+    yield f"set s1 i1 t {longest}", "OK"
+    yield 'make s1 Notes make 2 ""', f"OK i2 {pid(5)}"
+    yield f"set s1 i2 t {longer}", "TOOLARGE"
+    yield "set s1 i2 k 1", "DUPLICATE k"
+    yield FLUSHED
+    yield "checkpoint", "OK"
+    yield "count s1 Notes", "OK 2"
+
+
+def records_again():
+    yield OPENED
+    yield "find s1 Notes k 1", f"OK i1 {pid(1)}"
+    yield "get s1 i1 t", f'OK "{"a" * LONGEST_NUMBERED}"'
+    yield "find s1 Notes k 2", f"OK i2 {pid(5)}"
+    yield "get s1 i2 t", 'OK ""'
+
+
 def octets():
     """As many octets as may be committed, and not one more."""
     yield OPENED
@@ -162,6 +193,7 @@ CASES = [
     ("65,535 entries", CELLS, entries, None),
     ("lines of 65,536 bytes", CELLS, lines, None),
     ("204,800 keys", KEYED, keys, keys_again),
+    ("records of 8,000 octets", NUMBERED, records, records_again),
     ("67,108,864 octets", NOTES, octets, octets_again),
 ]
 

@@ -9,6 +9,8 @@ FIRST_REPLIES = b"OK\nOK i1 000000010000000000000001\nOK\n"
 # What the first flush appends to the journal: a gate, the epoch, the length and the body, and the gate that is closed behind it.
 APPENDED = bytes.fromhex("A5 0000000000000001 00000024 0000000000000002 00000001 00000001 0000000000000001 00000008 00000000 00000007 00")
 JOURNAL = 262144
+# The last serial that is given, in the only home of a schema.
+LAST = f"{1:08x}{2**64 - 2:016x}".encode()
 SLOTS = 4456448
 
 
@@ -159,12 +161,24 @@ def expect_uncounted(store, octets):
 
 
 def expect_last_serial(folder, empty):
-    """A store whose next serial is the last but one: that one is given, and no other, also by the next run."""
-    store, last = os.path.join(folder, "last"), f"{1:08x}{2**64 - 2:016x}".encode()
-    put(store, empty[:16] + (2**64 - 2).to_bytes(8, "big") + empty[24:])
+    """A store whose next serial is the last but one: that one is given, and no other, also by the next run. A factory makes no more than `create`."""
+    store = os.path.join(folder, "last")
     script = b"open s1 basic rw\ncreate s1 Cells 7\ncreate s1 Cells 8\nflush s1\ncount s1 Cells\n"
-    expect_run("the last serial", ["run", cells, store], script, 0, b"OK\nOK i1 " + last + b"\nSERIALS\nOK\nOK 1\n")
+    put(store, before_last(empty))
+    expect_run("the last serial", ["run", cells, store], script, 0, b"OK\nOK i1 " + LAST + b"\nSERIALS\nOK\nOK 1\n")
     expect_run("behind the last serial", ["run", cells, store], script, 0, b"OK\nSERIALS\nSERIALS\nOK\nOK 1\n")
+    made = os.path.join(folder, "made.psdl")
+    put(made, b"storagetype Cell{state long v;};storagehome Cells of Cell{factory make(v);};")
+    fresh(["run", made, store])
+    put(store, before_last(contents(store)))
+    script = script.replace(b"create s1 Cells", b"make s1 Cells make")
+    expect_run("the last serial by a factory", ["run", made, store], script, 0, b"OK\nOK i1 " + LAST + b"\nSERIALS\nOK\nOK 1\n")
+    expect_run("behind the last serial by a factory", ["run", made, store], script, 0, b"OK\nSERIALS\nSERIALS\nOK\nOK 1\n")
+
+
+def before_last(octets):
+    """The octets of a store whose next serial is the last one that is given."""
+    return octets[:16] + (2**64 - 2).to_bytes(8, "big") + octets[24:]
 
 
 def made_empty(folder):

@@ -17,13 +17,13 @@ ghost use Rattle.owner_accounts.specs.Commits.{MayPrepare, IsPrepared, AnyPrepar
 
 use crate::accounts::Accounts;
 use owner_titles::{Called, Told, told_of};
-use pss_base::{NoMemory, OwnerNo};
+use pss_base::{LONGEST_RECORD, NoMemory, OBJECT_WEIGHT, OwnerNo};
 use pss_machine::Level;
 use storage_home::Changes;
 use type_layout::Schema;
 
-// The most that an object weighs: 16 and the 8,000 octets that its record has at most.
-const MOST_WEIGHT: u128 = 8016;
+// The most that an object weighs.
+const MOST_WEIGHT: u128 = OBJECT_WEIGHT as u128 + LONGEST_RECORD as u128;
 
 /// A commit that cannot fail any more: what it makes of the objects, and what the history will tell of it, where it will.
 #[derive(Drop)]

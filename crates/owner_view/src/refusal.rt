@@ -15,12 +15,9 @@ ghost use Rattle.owner_view.specs.Refusal.{unless_refused};
 use crate::committed::Committed;
 use crate::object::Changed;
 use crate::view::{View, first_gone, first_taken};
-use pss_base::{Bytes, Pid};
+use pss_base::{Bytes, LONGEST_RECORD, Pid};
 use pss_machine::Answer;
 use type_layout::KeyNo;
-
-/// The most octets that a record has.
-const MOST_OCTETS: u64 = 8000;
 
 /// Why an object may not come to be.
 #[derive(Clone, Copy, Drop)]
@@ -74,7 +71,7 @@ fn key_or_size<C: Committed>(
 fn size(object: &Changed) -> Option<Refusal>
     ensures { (S : Schema) → IsSized S object.now → result ≡ (if nat_lt 8000 (length (object_spelling S (plain_object object.now))) then Some Refusal.TooLarge else None) }
 {
-    if object.len > MOST_OCTETS {
+    if object.len > LONGEST_RECORD as u64 {
         Some(Refusal::TooLarge)
     } else {
         None

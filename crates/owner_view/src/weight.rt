@@ -16,6 +16,7 @@ use crate::committed::Committed;
 use crate::object::Changed;
 use crate::states::Told;
 use crate::view::View;
+use pss_base::OBJECT_WEIGHT;
 
 // A sum from here on is not told: no greater length than 2^64 - 1 is told of a record.
 const LIMIT: u128 = 1 << 64;
@@ -67,7 +68,7 @@ fn old_weight<C: Committed>(view: &View<'_, C>, serial: u64) -> u128
     ensures { (v : Shows C.shows view.now) → result ≡ weight_at (reckoned view.now.schema.now) v.catalog serial }
 {
     match view.committed.object(serial) {
-        Some((_, octets)) => 16 + octets.len() as u128,
+        Some((_, octets)) => OBJECT_WEIGHT as u128 + octets.len() as u128,
         None => 0,
     }
 }
@@ -77,5 +78,5 @@ fn new_weight(object: &Changed) -> u128
     ensures is { (S : Schema) → IsSized S object.now → result ≡ reckoned S (plain_object object.now) }
     ensures small { result < 2 ^ 64 + 16 }
 {
-    16 + object.len as u128
+    OBJECT_WEIGHT as u128 + object.len as u128
 }

@@ -42,9 +42,6 @@ pub const SHAPE: usize = 32;
 /// Where the list of slots begins in a root area.
 pub const SLOT_LIST: u64 = 65568;
 
-/// The greatest length of a shape.
-pub const LONGEST_SHAPE: u32 = 65536;
-
 /// The greatest number of pages of a root.
 pub const MOST_PAGES: u32 = 8058;
 
@@ -110,6 +107,3 @@ pub const SERIAL: usize = 8;
 
 /// Where the record begins in an entry, behind its head.
 pub const RECORD: usize = 16;
-
-/// The greatest length of a record.
-pub const LONGEST_RECORD: u32 = 8000;

@@ -4,9 +4,10 @@ ghost use Rattle.pss_disk.specs.Parts.{Stands, number4, number8};
 ghost use Rattle.page_format.specs.Pages.{Fits, IsPageHead, entry_count, octets_in_use, page_magic, page_zeros, record_length};
 
 use crate::layout::{
-    ENTRIES, ENTRY_COUNT, LONGEST_RECORD, MOST_USED, PAGE_MAGIC, PAGE_SLOT, PAGE_ZEROS, RECORD,
-    RECORD_LENGTH, SERIAL, USED, ZEROS,
+    ENTRIES, ENTRY_COUNT, MOST_USED, PAGE_MAGIC, PAGE_SLOT, PAGE_ZEROS, RECORD, RECORD_LENGTH,
+    SERIAL, USED, ZEROS,
 };
+use pss_base::LONGEST_RECORD;
 use pss_disk::{read_number4, read_number8};
 
 /// What stands in a page in front of its entries.

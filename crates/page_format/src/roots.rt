@@ -14,13 +14,13 @@ use crate::current::{Current, read_current};
 use crate::fault::RootFault;
 use crate::head::Head;
 use crate::layout::{
-    AREA, FIRST_SLOT, LONGEST_SHAPE, MOST_PAGES, NEXT, PAGE_COUNT, SHAPE, SHAPE_LENGTH, SLOT_LIST,
+    AREA, FIRST_SLOT, MOST_PAGES, NEXT, PAGE_COUNT, SHAPE, SHAPE_LENGTH, SLOT_LIST,
 };
 use crate::reading::read_octets;
 use crate::root::Root;
 use crate::slot_list::{first_wrong, read_slots};
 use crate::slots::Slots;
-use pss_base::{Bytes, DamageKind, StoreStop};
+use pss_base::{Bytes, DamageKind, LONGEST_SHAPE, StoreStop};
 use pss_disk::Station;
 use std::alloc::Global;
 

@@ -2,11 +2,13 @@
 ghost use Rattle.std.specs.Prelude.{◌≡◌, nat_lt};
 ghost use Rattle.psdl_standings.specs.Extents.{extent_view, followed, repeated};
 
-// The greatest number of octets that a default record may have.
-const MOST_OCTETS: u16 = 8000;
+use pss_base::LONGEST_RECORD;
 
-/// The octets that are taken from each of the eight places up to the greatest alignment, and `MOST_OCTETS + 1` for all
-/// that is over the limit.
+// It stands for all extents that are over the limit.
+const TOO_LONG: u16 = LONGEST_RECORD as u16 + 1;
+
+/// The octets that are taken from each of the eight places up to the greatest alignment, and one over `LONGEST_RECORD`
+/// for all that is over it.
 #[derive(Clone, Copy)]
 pub struct Extent([u16; 8]);
 
@@ -34,7 +36,7 @@ impl Extent {
         for place in 0..8 {
             let first = self.0[place];
             let second = others.0[(place + usize::from(first)) % 8];
-            both[place] = first.saturating_add(second).min(MOST_OCTETS + 1);
+            both[place] = first.saturating_add(second).min(TOO_LONG);
         }
         Extent(both)
     }
@@ -59,6 +61,6 @@ impl Extent {
     pub fn is_over(self) -> bool
         ensures { result ≡ nat_lt 8000 (extent_view self 0) }
     {
-        self.0[0] > MOST_OCTETS
+        self.0[0] >= TOO_LONG
     }
 }

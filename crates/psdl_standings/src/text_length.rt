@@ -3,8 +3,10 @@ ghost use Rattle.std.specs.Prelude.{◌≡◌, ◌+◌, nat_lt, length};
 ghost use Rattle.std.specs.Fmt.{decimal};
 ghost use Rattle.psdl_standings.specs.TextLengths.{cut, length_of_string, length_of_sequence, length_of_array, with_name, with_number, with_field};
 
-// The greatest number of octets that a shape may have.
-const MOST_OCTETS: u32 = 65_536;
+use pss_base::LONGEST_SHAPE;
+
+// It stands for all lengths that are over the limit.
+const TOO_LONG: u32 = LONGEST_SHAPE + 1;
 
 // How many digits a number has.
 fn digits(number: u128) -> u32
@@ -17,7 +19,7 @@ fn digits(number: u128) -> u32
     }
 }
 
-/// So many octets, and `MOST_OCTETS + 1` for all that is over the limit.
+/// So many octets, and one over `LONGEST_SHAPE` for all that is over it.
 #[derive(Clone, Copy)]
 pub struct TextLength(u32);
 
@@ -34,8 +36,8 @@ impl TextLength {
         ensures { result.0 ≡ cut (self.0 + octets) }
     {
         match u32::try_from(octets) {
-            Ok(octets) => TextLength(self.0.saturating_add(octets).min(MOST_OCTETS + 1)),
-            Err(_) => TextLength(MOST_OCTETS + 1),
+            Ok(octets) => TextLength(self.0.saturating_add(octets).min(TOO_LONG)),
+            Err(_) => TextLength(TOO_LONG),
         }
     }
 
@@ -50,7 +52,7 @@ impl TextLength {
     pub fn is_over(self) -> bool
         ensures { result ≡ nat_lt 65536 self.0 }
     {
-        self.0 > MOST_OCTETS
+        self.0 >= TOO_LONG
     }
 
     /// The length of a string type's text. The bound is 0 where the type has none.

@@ -2,6 +2,8 @@
 ghost use Rattle.std.specs.Prelude.{◌≡◌};
 ghost use Rattle.pss_machine.specs.Limits.{standard};
 
+use pss_base::{GREATEST_TOTAL, MOST_CHANGES};
+
 /// How much there may be at once.
 #[derive(Clone, Copy, Debug, PartialEq, Eq, Drop)]
 pub struct Limits {
@@ -23,10 +25,10 @@ impl Limits {
         ensures { result ≡ standard }
     {
         Limits {
-            total: 67_108_864,
+            total: GREATEST_TOTAL,
             sessions: 64,
             transactions: 64,
-            changes: 256,
+            changes: MOST_CHANGES,
             entries: 65_535,
         }
     }

@@ -10,8 +10,7 @@ ghost use Rattle.storage_home.specs.Applied.{AreKeysOf};
 ghost use Rattle.pss_recovery.specs.inner.Altering.{HasNewKeys, HasState, IsKeptSound, MayAlter};
 
 use crate::checking::{RowStop, check_row};
-use page_format::layout::LONGEST_RECORD;
-use pss_base::{NoMemory, Put};
+use pss_base::{LONGEST_RECORD, NoMemory, Put};
 use std::alloc::Global;
 use storage_home::{Homes, KeyValues, keys_of_octets};
 use type_layout::{HomeNo, Schema};

@@ -7,9 +7,9 @@ ghost use Rattle.pss_base.specs.declared.put.Put.{Put as Change};
 
 use crate::body::Body;
 use crate::head::{ChangeHead, read_head};
-use crate::layout::{CHANGES, COUNT, MOST_CHANGES, RECORD};
+use crate::layout::{CHANGES, COUNT, RECORD};
 use crate::octets::behind;
-use pss_base::{Bytes, NoMemory, Put, Puts};
+use pss_base::{Bytes, MOST_CHANGES, NoMemory, Put, Puts};
 use pss_disk::{read_number4, read_number8};
 use std::alloc::Global;
 

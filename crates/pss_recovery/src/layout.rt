@@ -19,9 +19,6 @@ pub const COUNT: usize = 8;
 /// Where the changes begin in a body.
 pub const CHANGES: usize = 12;
 
-/// The greatest number of changes of a body.
-pub const MOST_CHANGES: u32 = 256;
-
 /// Where the serial stands in a change.
 pub const SERIAL: usize = 4;
 
@@ -45,6 +42,3 @@ pub const PIECE: usize = 131072;
 
 /// How many such pieces stand in front of the slots.
 pub const PIECES: u32 = 34;
-
-/// The greatest sum over the objects of 16 and the length of the record.
-pub const MOST_OCTETS: u64 = 67108864;

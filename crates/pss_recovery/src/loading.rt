@@ -17,8 +17,7 @@ ghost use Rattle.pss_catalog.specs.Changes.{over};
 
 use crate::checking::{RowStop, check_row};
 use crate::keys::are_free;
-use crate::layout::MOST_OCTETS;
-use pss_base::{DamageKind, NoMemory, Put, Puts};
+use pss_base::{DamageKind, GREATEST_TOTAL, NoMemory, Put, Puts};
 use std::alloc::Global;
 use storage_home::{Change, Changes, Homes, KeyValues};
 use type_layout::Schema;
@@ -173,7 +172,7 @@ fn within(homes: Homes) -> Result<Homes, LoadStop>
     ensures over { result ≡ Err TotalIsOver → Keeping homes (λ S M. most_octets < total S M) }
     ensures only { (index : ℕ) (k : Kind) → result ≡ Err (WrongRow index k) → ⊥ }
 {
-    if homes.total_bytes() > MOST_OCTETS {
+    if homes.total_bytes() > GREATEST_TOTAL {
         return Err(LoadStop::Total);
     }
     Ok(homes)

@@ -11,11 +11,10 @@ ghost use Rattle.pss_recovery.specs.inner.Remaking.{AnyChanges, AreApplied, IsMa
 use crate::apart::stay_apart;
 use crate::body::Body;
 use crate::changing::changes_of_puts;
-use crate::layout::MOST_CHANGES;
 use crate::loading::make_changes;
 use crate::rising::rises;
 use crate::summing::stays_bounded;
-use pss_base::NoMemory;
+use pss_base::{MOST_CHANGES, NoMemory};
 use std::alloc::Global;
 use storage_home::{Changes, Homes};
 use type_layout::Schema;

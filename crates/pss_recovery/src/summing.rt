@@ -8,8 +8,7 @@ ghost use Rattle.storage_home.specs.Kept.{AnyKept, Keeping};
 ghost use Rattle.pss_recovery.specs.Loading.{most_octets};
 ghost use Rattle.pss_recovery.specs.inner.Sums.{new_weights, old_weights, put_weight};
 
-use crate::layout::MOST_OCTETS;
-use pss_base::Put;
+use pss_base::{GREATEST_TOTAL, OBJECT_WEIGHT, Put};
 use storage_home::{Change, Changes, Homes};
 
 // What the object with a serial adds to the sum, nothing where there is none.
@@ -17,7 +16,7 @@ fn weight_at(homes: &Homes, serial: u64) -> u64
     ensures { Keeping homes.now (λ S M. result ≡ weight_at S M serial) }
 {
     match homes.get(serial) {
-        Some((_, bytes)) => 16 + bytes.len() as u64,
+        Some((_, bytes)) => OBJECT_WEIGHT + bytes.len() as u64,
         None => 0,
     }
 }
@@ -28,7 +27,7 @@ fn put_weight(put: &Put) -> u64
     ensures few { result ≤ 2 ^ 63 + 16 }
 {
     match &put.bytes {
-        Some(bytes) => 16 + bytes.as_slice().len() as u64,
+        Some(bytes) => OBJECT_WEIGHT + bytes.as_slice().len() as u64,
         None => 0,
     }
 }
@@ -52,12 +51,12 @@ fn fits_with(left: u64, changes: &[Change]) -> bool
 {
     let mut sum = left;
     for change in changes {
-        if sum > MOST_OCTETS {
+        if sum > GREATEST_TOTAL {
             return false;
         }
         sum += put_weight(&change.put);
     }
-    sum <= MOST_OCTETS
+    sum <= GREATEST_TOTAL
 }
 
 /// Whether the sum over the objects of 16 and the length of the record is within its limit once these changes are made.

@@ -17,7 +17,7 @@ use crate::homes::Homes;
 use crate::indexes::{put_all, take_all};
 use crate::parts::Parts;
 use crate::rows::{Stored, is_reserved, object_of, put, take};
-use pss_base::{Bytes, Put};
+use pss_base::{Bytes, OBJECT_WEIGHT, Put};
 use type_layout::{HomeNo, KeyNo};
 
 impl Homes {
@@ -93,7 +93,7 @@ impl Parts {
             return;
         };
         let home = object.home;
-        self.total -= 16 + object.bytes.as_slice().len() as u64;
+        self.total -= OBJECT_WEIGHT + object.bytes.as_slice().len() as u64;
         self.objects -= 1;
         lower(&mut self.counts, home);
         let stays = is_reserved(&self.rows, serial);
@@ -109,7 +109,7 @@ impl Parts {
         ensures keys { TurnsKeysReserved self.old.keys.entries self.new.keys.entries keys.now false }
     {
         let home = object.home;
-        self.total += 16 + object.bytes.as_slice().len() as u64;
+        self.total += OBJECT_WEIGHT + object.bytes.as_slice().len() as u64;
         self.objects += 1;
         raise(&mut self.counts, home);
         hold_in(&mut self.extents, home, serial);

@@ -12,12 +12,12 @@ use Rattle.incarnations.specs.declared.names.SessionRecord.{SessionRecord}
 use Rattle.incarnations.specs.declared.names.BodyRecord.{BodyRecord}
 use Rattle.incarnations.specs.declared.stock.Stock.{Stock}
 use Rattle.incarnations.specs.Keys.{slot_cmp, session_cmp, body_cmp, object_cmp}
-use Rattle.incarnations.specs.Maps.{each, count}
+use Rattle.recent_table.specs.Maps.{each, count}
 use Rattle.incarnations.specs.Meaning.{no_copies, is_attached}
 use Rattle.link_pool.specs.declared.names.Row.{Row}
 use Rattle.incarnations.specs.declared.names.Entry.{Entry}
 use Rattle.incarnations.specs.Stock.{spot_of, Place, Loose, On, meaning_of, row_at, IsSound}
-use Rattle.incarnations.proofs.Maps.{IsKey, no_value, alike_maps, get_each, count_none}
+use Rattle.recent_table.proofs.Maps.{IsKey, no_value, alike_maps, get_each, count_none}
 use Rattle.incarnations.proofs.Keys.{session_key, slot_key, body_key}
 
 each_empty : {K X Y : Type 0} {R : K → K → Ordering} (key : IsKey R) (f : X → Y) → each {R = R} f finite.empty ≡ finite.empty

@@ -15,20 +15,20 @@ use Rattle.incarnations.specs.declared.names.EntryRecord.{EntryRecord}
 use Rattle.incarnations.specs.declared.names.SessionRecord.{SessionRecord}
 use Rattle.incarnations.specs.declared.stock.Stock.{Stock}
 use Rattle.incarnations.specs.Keys.{slot_cmp}
-use Rattle.incarnations.specs.Maps.{each, count}
+use Rattle.recent_table.specs.Maps.{each, count}
 use Rattle.incarnations.specs.Meaning.{stands_on, is_of, is_attached}
 use Rattle.incarnations.specs.Stock.{Place, Loose, On, spot_of, spots_in, spot_at, row_at, col_at, meaning_of, AreSeated, IsSound, AreNumbered, AreFirst, is_standing, IsInFront, AreInFront, Last}
 use Rattle.type_layout.specs.Schemas.{given}
 use Rattle.incarnations.proofs.FirstNodes.{first_behind, first_alike}
 use Rattle.incarnations.proofs.Fronts.{is_front, in_column}
-use Rattle.incarnations.proofs.Maps.{no_value, one_value, same_or_apart, insert_here, insert_apart, get_each, weight, remove_insert, each_insert}
+use Rattle.recent_table.proofs.Maps.{no_value, one_value, same_or_apart, insert_here, insert_apart, get_each, weight, remove_insert, each_insert}
 use Rattle.incarnations.proofs.Keys.{slot_key}
 use Rattle.incarnations.proofs.Seats.{node_key, seats_alike, seats_kept}
 use Rattle.incarnations.proofs.Named.{apart_less}
 use Rattle.incarnations.specs.Meaning.{HasNoEntry, IsNew}
 use Rattle.incarnations.specs.Keys.{session_cmp, object_cmp}
 use Rattle.incarnations.specs.Stock.{pid_at, number_at}
-use Rattle.incarnations.proofs.Maps.{at_same, count_new}
+use Rattle.recent_table.proofs.Maps.{at_same, count_new}
 use Rattle.incarnations.proofs.Keys.{session_key, object_key, session_told}
 use Rattle.incarnations.proofs.Seats.{col_key, seats_in}
 use Rattle.incarnations.proofs.Named.{object, names_in, numbered_new}

@@ -16,11 +16,11 @@ use Rattle.incarnations.specs.declared.names.EntryRecord.{EntryRecord}
 use Rattle.incarnations.specs.declared.names.SessionRecord.{SessionRecord}
 use Rattle.incarnations.specs.declared.stock.Stock.{Stock}
 use Rattle.incarnations.specs.Keys.{slot_cmp, session_cmp, object_cmp}
-use Rattle.incarnations.specs.Maps.{each, count}
+use Rattle.recent_table.specs.Maps.{each, count}
 use Rattle.incarnations.specs.Records.{without_one}
 use Rattle.incarnations.specs.Meaning.{stands_on, is_of, is_attached, body, same_body}
 use Rattle.incarnations.specs.Stock.{Place, Loose, On, place_of, Spot, spot_of, spots_in, spot_at, row_at, col_at, size_at, load_at, meaning_of, AreSeated, AreApart, AreCounted, AreInFront, IsSound, IsFewer, IsLowered, IsErased, KeepsCols, AreNumbered, AreNamed, pid_at, number_at}
-use Rattle.incarnations.proofs.Maps.{one_value, same_or_apart, insert_here, insert_apart, remove_here, remove_apart, get_each, weight, count_gone, count_some, each_same, each_remove}
+use Rattle.recent_table.proofs.Maps.{one_value, same_or_apart, insert_here, insert_apart, remove_here, remove_apart, get_each, weight, count_gone, count_some, each_same, each_remove}
 use Rattle.incarnations.proofs.Keys.{slot_key, session_key, object_key, session_told}
 use Rattle.incarnations.proofs.Fronts.{attached_some, fronts_gone}
 use Rattle.incarnations.proofs.Seats.{seats_alike, seats_kept, seats_out}

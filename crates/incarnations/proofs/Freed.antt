@@ -21,10 +21,10 @@ use Rattle.incarnations.specs.declared.names.BodyPlace.{BodyPlace}
 use Rattle.incarnations.specs.declared.names.Entry.{Entry}
 use Rattle.incarnations.specs.declared.names.EntryRecord.{EntryRecord}
 use Rattle.incarnations.specs.declared.stock.Stock.{Stock}
-use Rattle.incarnations.specs.Maps.{count}
+use Rattle.recent_table.specs.Maps.{count}
 use Rattle.incarnations.specs.Meaning.{stands_on, is_of, is_attached, body, with_view, Leaves, loosened, freed, of_session, on_body, both}
 use Rattle.incarnations.specs.Stock.{Loose, On, place_of, spot_of, spot_at, row_at, col_at, meaning_of, IsSound, IsErased, IsSet, KeepsBodies, KeepsCols, KeepsRows, asks, turned_entry}
-use Rattle.incarnations.proofs.Maps.{no_value, one_value, same_or_apart, insert_here, insert_apart, remove_here, remove_apart, get_each, weight, count_gone, count_set, count_some, count_none}
+use Rattle.recent_table.proofs.Maps.{no_value, one_value, same_or_apart, insert_here, insert_apart, remove_here, remove_apart, get_each, weight, count_gone, count_set, count_some, count_none}
 use Rattle.incarnations.proofs.Keys.{slot_key, session_told}
 use Rattle.incarnations.proofs.Places.{IsNodeOf, node_of, on_told, on_found}
 use Rattle.incarnations.proofs.Sets.{Has, has_map, plain, entry_is, seat_is, nobody_on, load_on, bodies_left}

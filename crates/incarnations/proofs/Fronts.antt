@@ -20,11 +20,11 @@ use Rattle.incarnations.specs.declared.names.EntryRecord.{EntryRecord}
 use Rattle.incarnations.specs.declared.names.SessionRecord.{SessionRecord}
 use Rattle.incarnations.specs.declared.stock.Stock.{Stock}
 use Rattle.incarnations.specs.Keys.{slot_cmp}
-use Rattle.incarnations.specs.Maps.{count}
+use Rattle.recent_table.specs.Maps.{count}
 use Rattle.incarnations.specs.Records.{with_attached, without_one}
 use Rattle.incarnations.specs.Meaning.{is_of, is_attached}
 use Rattle.incarnations.specs.Stock.{IsSound, End, First, Last, put, IsMoved, AreFirst, is_standing, IsInFront, AreInFront}
-use Rattle.incarnations.proofs.Maps.{one_value, same_or_apart, insert_here, insert_apart, remove_apart, weight, count_set, count_gone, each_remove}
+use Rattle.recent_table.proofs.Maps.{one_value, same_or_apart, insert_here, insert_apart, remove_apart, weight, count_set, count_gone, each_remove}
 use Rattle.incarnations.proofs.Keys.{slot_key, session_key, session_told}
 use Rattle.incarnations.proofs.Seats.{node_key}
 use Rattle.incarnations.proofs.Places.{list_own, list_other, seat_again, seat_stays}

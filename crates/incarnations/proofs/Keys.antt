@@ -20,7 +20,7 @@ use Rattle.pss_machine.specs.contracts.session.ViewPartialEq.TheImpl.{eq-value a
 use Rattle.incarnations.specs.contracts.names.BodyNamePartialEq.TheImpl.{eq-value}
 use Rattle.incarnations.specs.Keys.{session_letters, slot_letters, object_letters, body_letters, view_letters, session_cmp, slot_cmp, object_cmp, body_cmp}
 use Rattle.incarnations.specs.Meaning.{same_slot, same_body}
-use Rattle.incarnations.proofs.Maps.{IsKey, tied, tie_self}
+use Rattle.recent_table.proofs.Maps.{IsKey, tied, tie_self}
 
 -- a key with letters from which it is found again
 key_of : {K : Type 0} (letters : K → List ℕ) (again : List ℕ → K) → ((a : K) → again (letters a) ≡ a) → IsKey (λ a b. slice_cmp nat_cmp (letters a) (letters b))

@@ -1,6 +1,4 @@
-pub mod Maps
 pub mod Keys
-pub mod Hashed
 pub mod Seats
 pub mod Moved
 pub mod Places

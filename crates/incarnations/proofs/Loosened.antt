@@ -18,10 +18,10 @@ use Rattle.incarnations.specs.declared.names.SessionRecord.{SessionRecord}
 use Rattle.incarnations.specs.declared.stock.Stock.{Stock}
 use Rattle.incarnations.specs.Keys.{slot_cmp, session_cmp}
 use Rattle.incarnations.specs.Records.{with_attached}
-use Rattle.incarnations.specs.Maps.{count}
+use Rattle.recent_table.specs.Maps.{count}
 use Rattle.incarnations.specs.Meaning.{stands_on, is_of, is_attached, body, with_view}
 use Rattle.incarnations.specs.Stock.{Loose, On, place_of, Spot, spot_of, spots_in, spot_at, row_at, col_at, size_at, load_at, meaning_of, AreSeated, AreCounted, AreInFront, IsSound, Last, IsMoved, IsFewer, IsLowered, IsSet, IsPassed, HasRun, KeepsRows, KeepsCols}
-use Rattle.incarnations.proofs.Maps.{one_value, get_each, weight, count_set, count_some, at_same}
+use Rattle.recent_table.proofs.Maps.{one_value, get_each, weight, count_set, count_some, at_same}
 use Rattle.incarnations.proofs.Keys.{slot_key, session_key}
 use Rattle.incarnations.proofs.Seats.{seats_alike, seats_kept}
 use Rattle.incarnations.proofs.Places.{on_told, on_found, bare_row, rows_stay, moved_passed}

@@ -11,7 +11,7 @@ use Rattle.link_pool.specs.declared.names.Seat.{Seat}
 use Rattle.link_pool.proofs.RingChanges.{row_stays-unlinked, col_stays-unlinked}
 use Rattle.incarnations.specs.declared.names.Slot.{Slot}
 use Rattle.incarnations.specs.Stock.{End, placed, IsMoved}
-use Rattle.incarnations.proofs.Maps.{one_value}
+use Rattle.recent_table.proofs.Maps.{one_value}
 
 module _ (p mid : Pool Slot) (node : Node) (left : IsSomeAnd (get p.nodes node) (λ seat. mid ≡ unlinked p node seat)) (there : IsSome (get p.nodes node)) where
   -- where the node was

@@ -11,7 +11,7 @@ use Rattle.incarnations.specs.declared.names.ObjectName.{ObjectName}
 use Rattle.incarnations.specs.declared.names.Entry.{Entry}
 use Rattle.incarnations.specs.Keys.{session_cmp, slot_cmp}
 use Rattle.incarnations.specs.Stock.{AreApart, AreNamed, AreNumbered}
-use Rattle.incarnations.proofs.Maps.{no_value, one_value, same_or_apart, insert_here, insert_apart, remove_here, remove_apart}
+use Rattle.recent_table.proofs.Maps.{no_value, one_value, same_or_apart, insert_here, insert_apart, remove_here, remove_apart}
 use Rattle.incarnations.proofs.Keys.{slot_key, object_key, session_key}
 
 abbrev pub object : SessionNo → Pid → ObjectName

@@ -16,10 +16,10 @@ use Rattle.incarnations.specs.declared.names.BodyName.{BodyName}
 use Rattle.incarnations.specs.declared.names.Entry.{Entry}
 use Rattle.incarnations.specs.declared.names.SessionRecord.{SessionRecord}
 use Rattle.incarnations.specs.declared.stock.Stock.{Stock}
-use Rattle.incarnations.specs.Maps.{each, count}
+use Rattle.recent_table.specs.Maps.{each, count}
 use Rattle.incarnations.specs.Meaning.{is_of, body}
 use Rattle.incarnations.specs.Stock.{Place, Loose, On, place_of, Spot, spot_of, spot_at, row_at, col_at, meaning_of, AreFirst, is_standing, IsInFront, IsSound}
-use Rattle.incarnations.proofs.Maps.{no_value, one_value, same_or_apart, insert_here, insert_apart, remove_here, remove_apart, get_each, each_insert}
+use Rattle.recent_table.proofs.Maps.{no_value, one_value, same_or_apart, insert_here, insert_apart, remove_here, remove_apart, get_each, each_insert}
 use Rattle.incarnations.proofs.Keys.{slot_key}
 use Rattle.incarnations.proofs.Seats.{row_key, seats_alike, seats_kept}
 use Rattle.incarnations.proofs.Named.{apart_less}
@@ -30,7 +30,7 @@ use Rattle.std.proofs.lemmas.Bool.{eq-eqb}
 use Rattle.link_pool.specs.Names.{row_cmp}
 use Rattle.std.specs.Option.{unwrap_or}
 use Rattle.std.specs.Prelude.{◌==◌}
-use Rattle.incarnations.proofs.Maps.{by_key, each_remove}
+use Rattle.recent_table.proofs.Maps.{by_key, each_remove}
 use Rattle.incarnations.proofs.Sets.{seat_is}
 use Rattle.incarnations.proofs.Fronts.{is_front}
 use Rattle.incarnations.proofs.Stood.{some_none, unused, front_alike, pool_alike}
@@ -38,7 +38,7 @@ use Rattle.link_pool.proofs.RingChanges.{bare}
 use Rattle.incarnations.specs.Meaning.{opened, closed}
 use Rattle.incarnations.proofs.Places.{bare_row}
 use Rattle.incarnations.proofs.Named.{apart_more}
-use Rattle.incarnations.proofs.Maps.{count_none, count_some}
+use Rattle.recent_table.proofs.Maps.{count_none, count_some}
 use Rattle.incarnations.proofs.Sets.{some, has_map, plain, entry_is}
 
 loose_name : {s t : SessionNo} → Loose s ≡ Loose t → s ≡ t

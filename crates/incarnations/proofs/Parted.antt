@@ -12,11 +12,11 @@ use Rattle.incarnations.specs.declared.names.EntryRecord.{EntryRecord}
 use Rattle.incarnations.specs.declared.names.SessionRecord.{SessionRecord}
 use Rattle.incarnations.specs.declared.stock.Stock.{Stock}
 use Rattle.incarnations.specs.Keys.{slot_cmp, session_cmp, object_cmp}
-use Rattle.incarnations.specs.Maps.{count}
+use Rattle.recent_table.specs.Maps.{count}
 use Rattle.incarnations.specs.Records.{with_entries}
 use Rattle.incarnations.specs.Meaning.{stands_on}
 use Rattle.incarnations.specs.Stock.{Place, Loose, On, Spot, spots_in, row_at, load_at, meaning_of, AreApart, IsSound, IsFewer, KeepsBodies}
-use Rattle.incarnations.proofs.Maps.{no_value, one_value, same_or_apart, insert_here, insert_apart, remove_here, remove_apart, get_each}
+use Rattle.recent_table.proofs.Maps.{no_value, one_value, same_or_apart, insert_here, insert_apart, remove_here, remove_apart, get_each}
 use Rattle.incarnations.proofs.Keys.{body_key}
 use Rattle.incarnations.proofs.Seats.{row_key}
 use Rattle.incarnations.proofs.Named.{apart_less}

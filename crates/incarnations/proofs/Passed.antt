@@ -15,9 +15,9 @@ use Rattle.incarnations.specs.Keys.{slot_cmp}
 use Rattle.pss_machine.specs.declared.session.View.{View}
 use Rattle.type_layout.specs.Schemas.{given}
 use Rattle.incarnations.specs.Meaning.{Meaning, with_view, with_count, with_entry, is_of, stands_on, is_attached}
-use Rattle.incarnations.specs.Maps.{count}
+use Rattle.recent_table.specs.Maps.{count}
 use Rattle.incarnations.specs.Stock.{spot_of, spots_in, spot_at, row_at, col_at, size_at, load_at, pid_at, number_at, meaning_of, AreNumbered, AreCounted, is_standing, AreInFront, IsSound, IsSet, asks, turned_entry}
-use Rattle.incarnations.proofs.Maps.{same_or_apart, insert_here, insert_apart, put_back, each_insert}
+use Rattle.recent_table.proofs.Maps.{same_or_apart, insert_here, insert_apart, put_back, each_insert}
 use Rattle.incarnations.proofs.Keys.{slot_key}
 use Rattle.incarnations.proofs.Seats.{seats_alike}
 use Rattle.incarnations.proofs.Named.{names_alike, numbered_set}

@@ -21,7 +21,7 @@ use Rattle.incarnations.specs.declared.names.BodyName.{BodyName}
 use Rattle.incarnations.specs.declared.names.Entry.{Entry}
 use Rattle.incarnations.specs.Meaning.{body, stands_on, same_body}
 use Rattle.incarnations.specs.Stock.{Place, Loose, On, place_of, Spot, AreSeated, End, First, Last, put, IsMoved, IsPassed}
-use Rattle.incarnations.proofs.Maps.{no_value, one_value, same_or_apart, insert_here, insert_apart}
+use Rattle.recent_table.proofs.Maps.{no_value, one_value, same_or_apart, insert_here, insert_apart}
 use Rattle.incarnations.proofs.Keys.{body_self, body_told}
 use Rattle.incarnations.proofs.Seats.{col_key}
 

@@ -12,7 +12,7 @@ use Rattle.link_pool.specs.declared.names.Seat.{Seat}
 use Rattle.link_pool.proofs.RingChanges.{seat-inserted, seat-inserted_other, seat-unlinked, seat-unlinked_other}
 use Rattle.incarnations.specs.declared.names.Slot.{Slot}
 use Rattle.incarnations.specs.Stock.{Place, Spot, AreSeated, End, placed}
-use Rattle.incarnations.proofs.Maps.{IsKey, no_value, one_value, same_or_apart}
+use Rattle.recent_table.proofs.Maps.{IsKey, no_value, one_value, same_or_apart}
 use Rattle.incarnations.proofs.Keys.{slot_key}
 
 pub row_key : IsKey row_cmp

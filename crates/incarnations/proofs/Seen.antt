@@ -21,12 +21,12 @@ use Rattle.incarnations.specs.declared.names.EntryRecord.{EntryRecord}
 use Rattle.incarnations.specs.declared.names.SessionRecord.{SessionRecord}
 use Rattle.incarnations.specs.declared.stock.Stock.{Stock}
 use Rattle.incarnations.specs.Keys.{body_cmp}
-use Rattle.incarnations.specs.Maps.{each, count, IsWith}
+use Rattle.recent_table.specs.Maps.{each, count, IsWith}
 use Rattle.incarnations.specs.Records.{with_value}
 use Rattle.incarnations.specs.Rings.{AreCopyRings}
 use Rattle.incarnations.specs.Meaning.{Meaning, is_of, stands_on, body, body_of, body_under, same_slot, same_body, slot, with_view, Leaves, loosened, freed, of_session, on_body, both, IsGone, AreCopies, rewritten}
 use Rattle.incarnations.specs.Stock.{Place, Loose, On, place_of, Spot, spot_of, spot_at, row_at, col_at, load_at, meaning_of, IsSound, IsErased, IsSet, asks}
-use Rattle.incarnations.proofs.Maps.{no_value, one_value, same_or_apart, insert_here, insert_apart, remove_here, remove_apart, get_each, each_insert, count_none}
+use Rattle.recent_table.proofs.Maps.{no_value, one_value, same_or_apart, insert_here, insert_apart, remove_here, remove_apart, get_each, each_insert, count_none}
 use Rattle.incarnations.proofs.Keys.{slot_key, body_key, session_told, slot_told, slot_self, body_told, body_self, view_told, view_self}
 use Rattle.incarnations.proofs.Seats.{seats_alike}
 use Rattle.incarnations.proofs.Places.{on_found, IsNodeOf}

@@ -19,11 +19,11 @@ use Rattle.incarnations.specs.declared.names.EntryRecord.{EntryRecord}
 use Rattle.incarnations.specs.declared.names.SessionRecord.{SessionRecord}
 use Rattle.incarnations.specs.declared.stock.Stock.{Stock}
 use Rattle.incarnations.specs.Keys.{slot_cmp, body_cmp}
-use Rattle.incarnations.specs.Maps.{each, count}
+use Rattle.recent_table.specs.Maps.{each, count}
 use Rattle.incarnations.specs.Records.{with_attached}
 use Rattle.incarnations.specs.Meaning.{stands_on}
 use Rattle.incarnations.specs.Stock.{Place, On, place_of, Spot, spot_of, spots_in, spot_at, row_at, col_at, pid_at, number_at, meaning_of, IsSeated, AreSeated, AreApart, AreNamed, AreNumbered, AreLong, IsSound, End, IsMoved}
-use Rattle.incarnations.proofs.Maps.{no_value, one_value, same_or_apart, insert_here, insert_apart, remove_here, remove_apart, get_each, each_insert, each_same, at_same, count_none}
+use Rattle.recent_table.proofs.Maps.{no_value, one_value, same_or_apart, insert_here, insert_apart, remove_here, remove_apart, get_each, each_insert, each_same, at_same, count_none}
 use Rattle.incarnations.proofs.Keys.{slot_key, session_key}
 use Rattle.incarnations.proofs.Seats.{seats_alike, seats_out, seats_in}
 use Rattle.incarnations.proofs.Places.{on_found, length_moved, cols_stay}

@@ -15,18 +15,18 @@ use Rattle.incarnations.specs.declared.names.EntryRecord.{EntryRecord}
 use Rattle.incarnations.specs.declared.names.SessionRecord.{SessionRecord}
 use Rattle.incarnations.specs.declared.stock.Stock.{Stock}
 use Rattle.incarnations.specs.Keys.{slot_cmp, session_cmp}
-use Rattle.incarnations.specs.Maps.{each, count}
+use Rattle.recent_table.specs.Maps.{each, count}
 use Rattle.incarnations.specs.Records.{with_entries, with_attached}
 use Rattle.incarnations.specs.Meaning.{is_of, stands_on, body, with_view, with_entry, attached}
 use Rattle.incarnations.specs.Stock.{Place, Loose, On, row_at, meaning_of, IsSound, First, IsMoved}
-use Rattle.incarnations.proofs.Maps.{no_value, one_value, insert_here, insert_apart, remove_apart, each_insert, each_same, count_within, len_each}
+use Rattle.recent_table.proofs.Maps.{no_value, one_value, insert_here, insert_apart, remove_apart, each_insert, each_same, count_within, len_each}
 use Rattle.incarnations.proofs.Keys.{slot_key, body_key, session_key}
 use Rattle.incarnations.proofs.Fronts.{attached_fewer}
 use Rattle.std.specs.FinMap as finite
 use Rattle.incarnations.specs.Keys.{body_cmp}
 use Rattle.incarnations.proofs.Seats.{row_key}
 use Rattle.incarnations.proofs.Stood.{pool_sound, unused, stay_inserted, standing_sound, plain_is, room_on}
-use Rattle.incarnations.specs.Maps.{IsWith}
+use Rattle.recent_table.specs.Maps.{IsWith}
 use Rattle.incarnations.specs.declared.names.BodyPlace.{BodyPlace}
 use Rattle.incarnations.proofs.Sets.{some, Has, has_map, plain, node_there, home_there, load_on, nobody_on}
 

@@ -20,10 +20,10 @@ use Rattle.incarnations.specs.declared.names.SessionRecord.{SessionRecord}
 use Rattle.incarnations.specs.declared.stock.Stock.{Stock}
 use Rattle.incarnations.specs.Keys.{slot_cmp, session_cmp}
 use Rattle.incarnations.specs.Records.{with_attached}
-use Rattle.incarnations.specs.Maps.{count}
+use Rattle.recent_table.specs.Maps.{count}
 use Rattle.incarnations.specs.Meaning.{stands_on, is_of, is_attached, body, same_body, with_view}
 use Rattle.incarnations.specs.Stock.{Place, Loose, On, Spot, spots_in, spot_at, row_at, col_at, size_at, load_at, AreSeated, AreApart, AreCounted, AreFirst, is_standing, IsInFront, AreInFront, IsSound, First, IsMoved}
-use Rattle.incarnations.proofs.Maps.{no_value, one_value, same_or_apart, insert_here, insert_apart, weight, count_set, count_within, len_each}
+use Rattle.recent_table.proofs.Maps.{no_value, one_value, same_or_apart, insert_here, insert_apart, weight, count_set, count_within, len_each}
 use Rattle.incarnations.proofs.Keys.{slot_key, body_key, body_self, body_told}
 use Rattle.std.specs.FinMap as finite
 use Rattle.std.specs.FinMap.{len-insert}

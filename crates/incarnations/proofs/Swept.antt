@@ -22,7 +22,7 @@ use Rattle.incarnations.specs.declared.names.SessionRecord.{SessionRecord}
 use Rattle.incarnations.specs.declared.stock.Stock.{Stock}
 use Rattle.incarnations.specs.Meaning.{is_of, with_view, Leaves, loosened, of_session, both}
 use Rattle.incarnations.specs.Stock.{col_at, meaning_of, IsSound, IsSet, IsPassed, HasRun, KeepsBodies, KeepsCols, is_standing, asks, chosen_by, turned_entry}
-use Rattle.incarnations.proofs.Maps.{no_value, one_value, same_or_apart, insert_here, insert_apart, get_each}
+use Rattle.recent_table.proofs.Maps.{no_value, one_value, same_or_apart, insert_here, insert_apart, get_each}
 use Rattle.incarnations.proofs.Keys.{slot_key, session_told}
 use Rattle.incarnations.proofs.Sets.{some, Has, has_map, plain, entry_is, seat_is, bodies_left}
 use Rattle.incarnations.proofs.FirstNodes.{Contains-cons_cases, IsParted, parted}

@@ -1,6 +1,5 @@
 pub mod Keys
 pub mod Codes
-pub mod Maps
 pub mod Records
 pub mod Meaning
 pub mod Rings

@@ -17,7 +17,7 @@ use Rattle.incarnations.specs.declared.names.BodyName.{BodyName}
 use Rattle.incarnations.specs.declared.names.Entry.{Entry}
 use Rattle.incarnations.specs.Keys.{session_cmp, slot_cmp, body_cmp}
 use Rattle.incarnations.specs.Codes.{session_code, slot_code, body_name_code, entry_code}
-use Rattle.incarnations.specs.Maps.{count}
+use Rattle.recent_table.specs.Maps.{count}
 
 -- of each session the last number that an entry of it was given; the entries by session and number; the bodies by
 -- object and view, with the values of the object there

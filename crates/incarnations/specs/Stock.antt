@@ -25,7 +25,7 @@ use Rattle.incarnations.specs.declared.names.SessionRecord.{SessionRecord}
 use Rattle.incarnations.specs.declared.names.EntryRecord.{EntryRecord}
 use Rattle.incarnations.specs.declared.stock.Stock.{Stock}
 use Rattle.incarnations.specs.Keys.{session_cmp, slot_cmp}
-use Rattle.incarnations.specs.Maps.{each, count}
+use Rattle.recent_table.specs.Maps.{each, count}
 use Rattle.incarnations.specs.Records.{with_entries}
 use Rattle.incarnations.specs.Meaning.{Meaning, is_of, stands_on, is_attached, with_view}
 

@@ -6,7 +6,7 @@ ghost use Rattle.std.specs.FinMap.{get};
 ghost use Rattle.link_pool.specs.Meaning.{AreRings};
 ghost use Rattle.pss_machine.specs.declared.session.View.TheVariants.{Own};
 ghost use Rattle.incarnations.specs.declared.names.Entry.{Entry};
-ghost use Rattle.incarnations.specs.Maps.{count};
+ghost use Rattle.recent_table.specs.Maps.{count};
 ghost use Rattle.incarnations.specs.Meaning.{no_copies, opened, entry_at, length_of, attached_of, entries_on, slot, body, with_count, with_view, with_entry, attached as attached_to, rewritten, body_under, is_attached, both, of_session, on_body, in_view, loosened, freed, Leaves, HasNoEntry, IsObtained, IsReleased, AreCopies};
 ghost use Rattle.incarnations.specs.Rings.{AreCopyRings};
 

@@ -1,7 +1,7 @@
 // Sessions come and go.
 ghost use Rattle.std.specs.Prelude.{◌≡◌, None, OnOk, OnErr};
 ghost use Rattle.std.specs.FinMap.{get};
-ghost use Rattle.incarnations.specs.Maps.{count};
+ghost use Rattle.recent_table.specs.Maps.{count};
 ghost use Rattle.incarnations.specs.Meaning.{is_of, opened, closed};
 ghost use Rattle.incarnations.specs.Stock.{IsSound, meaning_of};
 

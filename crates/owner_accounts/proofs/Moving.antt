@@ -15,7 +15,7 @@ use Rattle.pss_machine.specs.Kept.{Kept}
 use Rattle.pss_machine.specs.Moving.{with_owner, without_owner, emptied}
 use Rattle.pss_machine.specs.Moving as machine
 use Rattle.pss_machine.proofs.Maps.{get_with_at}
-use Rattle.incarnations.proofs.Maps.{alike_maps, same_or_apart, remove_here, remove_apart}
+use Rattle.recent_table.proofs.Maps.{alike_maps, same_or_apart, remove_here, remove_apart}
 use Rattle.storage_home.specs.Kept.{IsKept}
 use Rattle.lock_table.specs.Agreement.{locks_of}
 use Rattle.tx_session.specs.Owners.{owners_in, Under}

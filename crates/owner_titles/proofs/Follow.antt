@@ -11,7 +11,7 @@ use Rattle.pss_catalog.specs.Catalog.{Catalog}
 use Rattle.pss_machine.specs.Kept.{Kept, Title, first_kept}
 use Rattle.pss_machine.specs.Moving.{new_title}
 use Rattle.pss_machine.proofs.Maps.{get_with_at}
-use Rattle.incarnations.proofs.Maps.{same_or_apart, insert_here, insert_apart, remove_here, remove_apart}
+use Rattle.recent_table.proofs.Maps.{same_or_apart, insert_here, insert_apart, remove_here, remove_apart}
 use Rattle.owner_titles.specs.declared.called.Called.{Called}
 use Rattle.owner_titles.specs.Meaning.{Meaning, AreTitles, title_of, nobody, newly, come, gone, changed}
 use Rattle.owner_titles.proofs.Tables.{nat_key}

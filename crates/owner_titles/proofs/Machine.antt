@@ -14,8 +14,8 @@ use Rattle.pss_machine.specs.Kept as machine
 use Rattle.pss_machine.specs.Kept.{Kept, Title}
 use Rattle.pss_machine.proofs.Found.{first, second, below_missed}
 use Rattle.pss_machine.proofs.Maps.{tied, tied_self}
-use Rattle.incarnations.specs.Maps.{each}
-use Rattle.incarnations.proofs.Maps.{no_value, alike_maps, get_each, entries_each}
+use Rattle.recent_table.specs.Maps.{each}
+use Rattle.recent_table.proofs.Maps.{no_value, alike_maps, get_each, entries_each}
 use Rattle.owner_titles.specs.declared.called.Called.{Called}
 use Rattle.owner_titles.specs.Meaning.{Meaning, AreTitles, title_of, is_transaction, transaction_named, transactions}
 use Rattle.owner_titles.proofs.Tables.{nat_key}

@@ -12,7 +12,7 @@ use Rattle.pss_base.specs.declared.owner.OwnerNo.{OwnerNo}
 use Rattle.pss_machine.specs.Owners.{is_basic}
 use Rattle.pss_machine.proofs.Logic.{both_true, true_false}
 use Rattle.pss_machine.proofs.Found.{found_there}
-use Rattle.incarnations.proofs.Maps.{IsKey, no_value, one_value, tied, same_or_apart, insert_here, insert_apart, remove_here, remove_apart}
+use Rattle.recent_table.proofs.Maps.{IsKey, no_value, one_value, tied, same_or_apart, insert_here, insert_apart, remove_here, remove_apart}
 use Rattle.owner_titles.specs.declared.called.Called.{Called}
 use Rattle.owner_titles.specs.Meaning.{is_transaction}
 use Rattle.owner_titles.specs.inner.Register.{AreNamed}

@@ -5,8 +5,8 @@ use Rattle.std.specs.Ordering.{nat_cmp}
 use Rattle.std.specs.Cmp.Lexicographic.{slice_cmp}
 use Rattle.std.specs.FinMap.{FinMap, get, insert, remove, empty, get-empty}
 use Rattle.pss_machine.specs.Owners.{is_basic}
-use Rattle.incarnations.specs.Maps.{IsWith}
-use Rattle.incarnations.proofs.Maps.{no_value, alike_maps, same_or_apart, insert_apart, remove_here, remove_apart, weight, count_none, count_new, count_gone, count_set, count_some}
+use Rattle.recent_table.specs.Maps.{IsWith}
+use Rattle.recent_table.proofs.Maps.{no_value, alike_maps, same_or_apart, insert_apart, remove_here, remove_apart, weight, count_none, count_new, count_gone, count_set, count_some}
 use Rattle.owner_titles.specs.declared.called.Called.{Called}
 use Rattle.owner_titles.specs.Meaning.{is_transaction}
 use Rattle.owner_titles.specs.inner.Register.{IsSound, AreNamed}

@@ -4,7 +4,7 @@ use Rattle.std.specs.Prelude.{IsSomeAnd}
 use Rattle.std.specs.Ordering.{nat_cmp}
 use Rattle.std.specs.Cmp.{nat_cmp_total}
 use Rattle.std.specs.FinMap.{nat_cmp-IsAntisymmetric}
-use Rattle.incarnations.proofs.Maps.{IsKey}
+use Rattle.recent_table.proofs.Maps.{IsKey}
 
 pub nat_key : IsKey nat_cmp
 nat_key = record { total = nat_cmp_total; alike = nat_cmp-IsAntisymmetric }

@@ -1,7 +1,7 @@
 // Owners as they are called, by number.
 ghost use Rattle.std.specs.Prelude.{◌≡◌, ◌-◌, ◌<◌, ◌^◌, IsSome, IsSomeAnd, OnOk, OnErr, option_copied};
 ghost use Rattle.std.specs.FinMap as map;
-ghost use Rattle.incarnations.specs.Maps.{IsWith};
+ghost use Rattle.recent_table.specs.Maps.{IsWith};
 ghost use Rattle.owner_titles.specs.Meaning.{marked, one_more, unspent};
 
 use crate::called::Called;

@@ -27,10 +27,10 @@ use Rattle.incarnations.specs.declared.names.Slot.{Slot}
 use Rattle.incarnations.specs.declared.names.BodyName.{BodyName}
 use Rattle.incarnations.specs.declared.names.Entry.{Entry}
 use Rattle.incarnations.specs.Keys.{body_cmp}
-use Rattle.incarnations.specs.Maps.{count}
+use Rattle.recent_table.specs.Maps.{count}
 use Rattle.incarnations.specs.Meaning.{AreCopies, body, body_of, same_body, stands_on, entries_on, is_of, is_attached, entries_of, length_of}
 use Rattle.incarnations.proofs.Keys.{slot_key, body_key, body_told, body_self}
-use Rattle.incarnations.proofs.Maps as maps
+use Rattle.recent_table.proofs.Maps as maps
 use Rattle.pss_copies.specs.declared.parts.Parts.{Parts}
 use Rattle.pss_copies.specs.Told.{entry_told, stand_told}
 use Rattle.pss_copies.specs.Seats.{Attends}

@@ -12,7 +12,7 @@ use Rattle.incarnations.specs.declared.names.Slot.{Slot}
 use Rattle.incarnations.specs.declared.names.Entry.{Entry}
 use Rattle.incarnations.specs.Meaning.{Meaning, Leaves, freed, slot, same_slot, entry_at}
 use Rattle.incarnations.proofs.Keys.{slot_key}
-use Rattle.incarnations.proofs.Maps as maps
+use Rattle.recent_table.proofs.Maps as maps
 use Rattle.pss_copies.specs.Told.{stand_told, entry_told, IsTold, AreTold}
 use Rattle.pss_copies.proofs.Numbered.{numbered_at, numbered_without}
 use Rattle.pss_copies.proofs.Left.{stand_same}

@@ -24,7 +24,7 @@ use Rattle.incarnations.specs.declared.names.Entry.{Entry}
 use Rattle.incarnations.specs.Meaning as copy
 use Rattle.incarnations.specs.Meaning.{Meaning, AreCopies, Leaves, freed, loosened, both, of_session, in_view, slot, same_slot, body, entry_at, with_entry, IsReleased}
 use Rattle.incarnations.proofs.Keys.{slot_key}
-use Rattle.incarnations.proofs.Maps as maps
+use Rattle.recent_table.proofs.Maps as maps
 use Rattle.pss_copies.specs.declared.parts.Parts.{Parts}
 use Rattle.pss_copies.specs.Told.{stand_told, entry_told, IsTold, AreTold}
 use Rattle.pss_copies.specs.Seats.{IsSeat, AreSeated, Attends}

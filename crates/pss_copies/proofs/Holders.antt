@@ -8,8 +8,8 @@ use Rattle.std.specs.Ordering.{eq_by_cmp, is_eq, is_lt}
 use Rattle.std.specs.FinMap as finite
 use Rattle.std.specs.FinMap.{FinMap, entries, entries_sorted, is_sorted, get, get-entries}
 use Rattle.std.specs.FinMap.Entries.{below_all}
-use Rattle.incarnations.specs.Maps.{count}
-use Rattle.incarnations.proofs.Maps.{IsKey, tie_self, tied}
+use Rattle.recent_table.specs.Maps.{count}
+use Rattle.recent_table.proofs.Maps.{IsKey, tie_self, tied}
 
 module _ {K X : Type 0} {R : K → K → Ordering} (key : IsKey R) (test : K × X → Bool) where
   -- a thing in a list that passes

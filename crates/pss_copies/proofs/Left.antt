@@ -19,7 +19,7 @@ use Rattle.incarnations.specs.declared.names.Slot.{Slot}
 use Rattle.incarnations.specs.declared.names.BodyName.{BodyName}
 use Rattle.incarnations.specs.declared.names.Entry.{Entry}
 use Rattle.incarnations.specs.Meaning.{Meaning, AreCopies, Leaves, loosened, with_view, stands_on, entries_on, slot, body, same_body, body_of, entry_at}
-use Rattle.incarnations.proofs.Maps.{count_some}
+use Rattle.recent_table.proofs.Maps.{count_some}
 use Rattle.incarnations.proofs.Keys.{slot_key, body_self}
 use Rattle.pss_copies.specs.Told.{stand_told, entry_told, IsTold, AreTold}
 use Rattle.pss_copies.specs.Seats.{AreSeated, AreValued}

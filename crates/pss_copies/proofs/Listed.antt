@@ -14,7 +14,7 @@ use Rattle.std.specs.FinMap.Entries.{below_all}
 use Rattle.pss_machine.proofs.Found.{below_missed}
 use Rattle.pss_machine.proofs.Maps.{tie}
 use Rattle.pss_machine.proofs.Logic.{none_some, true_false}
-use Rattle.incarnations.proofs.Maps.{IsKey, tie_self, tied, weight}
+use Rattle.recent_table.proofs.Maps.{IsKey, tie_self, tied, weight}
 
 -- the sum of a list begins with its first number
 sum_cons : (n : ℕ) (ns : List ℕ) → sum (n ∷ ns) ≡ n + sum ns

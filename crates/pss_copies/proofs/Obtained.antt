@@ -21,7 +21,7 @@ use Rattle.incarnations.specs.declared.names.Slot.{Slot}
 use Rattle.incarnations.specs.declared.names.Entry.{Entry}
 use Rattle.incarnations.specs.Meaning.{Meaning, AreCopies, IsNew, IsAgain, IsObtained, slot, body, entry_at}
 use Rattle.incarnations.proofs.Keys.{session_key, slot_key, pid_told, pid_self}
-use Rattle.incarnations.proofs.Maps as maps
+use Rattle.recent_table.proofs.Maps as maps
 use Rattle.pss_copies.specs.declared.parts.Parts.{Parts}
 use Rattle.pss_copies.specs.Told.{entry_told, IsTold}
 use Rattle.pss_copies.specs.Seats.{Attends, IsObtainedIn}

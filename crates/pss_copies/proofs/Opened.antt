@@ -19,7 +19,7 @@ use Rattle.incarnations.specs.declared.names.Slot.{Slot}
 use Rattle.incarnations.specs.declared.names.Entry.{Entry}
 use Rattle.incarnations.specs.Meaning.{Meaning, AreCopies, Leaves, freed, of_session, slot, body, entry_at, opened as with_copies}
 use Rattle.incarnations.proofs.Keys.{session_key}
-use Rattle.incarnations.proofs.Maps as maps
+use Rattle.recent_table.proofs.Maps as maps
 use Rattle.pss_copies.specs.declared.parts.Parts.{Parts}
 use Rattle.pss_copies.specs.Told.{entry_told, IsTold, AreTold}
 use Rattle.pss_copies.specs.Seats.{Attends}

@@ -24,7 +24,7 @@ use Rattle.incarnations.specs.declared.names.Entry.{Entry}
 use Rattle.incarnations.specs.Meaning as copy
 use Rattle.incarnations.specs.Meaning.{Meaning, AreCopies, slot, body, body_of, entry_at, with_entry, with_view}
 use Rattle.incarnations.proofs.Keys.{body_key}
-use Rattle.incarnations.proofs.Maps as maps
+use Rattle.recent_table.proofs.Maps as maps
 use Rattle.pss_copies.specs.declared.parts.Parts.{Parts}
 use Rattle.pss_copies.specs.Told.{stand_told, entry_told, AreTold}
 use Rattle.pss_copies.specs.Seats.{OwnerSees, AreValued, Attends, IsShared, IsRecordIn, seated_at}

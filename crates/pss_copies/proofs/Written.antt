@@ -27,7 +27,7 @@ use Rattle.incarnations.specs.declared.names.BodyName.{BodyName}
 use Rattle.incarnations.specs.declared.names.Entry.{Entry}
 use Rattle.incarnations.specs.Meaning.{Meaning, AreCopies, Leaves, loosened, both, slot, body, entry_at, rewritten}
 use Rattle.incarnations.proofs.Keys.{body_key, pid_self}
-use Rattle.incarnations.proofs.Maps as maps
+use Rattle.recent_table.proofs.Maps as maps
 use Rattle.pss_copies.specs.declared.parts.Parts.{Parts}
 use Rattle.pss_copies.specs.Told.{stand_told, entry_told, AreTold}
 use Rattle.pss_copies.specs.Seats.{OwnerSees, Attends}

@@ -4,7 +4,7 @@ use Rattle.std.specs.Prelude.{◌||◌}
 use Rattle.std.specs.Map.{values_of}
 use Rattle.std.specs.List.{list_any}
 use Rattle.indexmap.specs.IndexMap.{set_value_at}
-use Rattle.incarnations.proofs.Maps.{no_value, one_value}
+use Rattle.recent_table.proofs.Maps.{no_value, one_value}
 
 module _ {A : Type 0} (test : A → Bool) where
   -- the search from a place on

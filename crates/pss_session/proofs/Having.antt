@@ -13,7 +13,7 @@ use Rattle.pss_machine.specs.Sessions.{with_association, without_transaction}
 use Rattle.type_layout.specs.Schemas.{given}
 use Rattle.incarnations.specs.Meaning.{Meaning as Copies}
 use Rattle.incarnations.specs.Meaning as copies
-use Rattle.incarnations.proofs.Maps.{same_or_apart, insert_here, insert_apart, remove_here, remove_apart}
+use Rattle.recent_table.proofs.Maps.{same_or_apart, insert_here, insert_apart, remove_here, remove_apart}
 use Rattle.incarnations.proofs.Keys.{session_key}
 use Rattle.pss_session.specs.Meaning.{Meaning, HaveSessions, opened, closed, associated, finished}
 use Rattle.pss_session.specs.declared.register.Register.{Register}

@@ -34,7 +34,7 @@ use Rattle.pss_session.specs.inner.Walks.{numbered, some_row}
 use Rattle.pss_session.proofs.Orders.{both_true}
 use Rattle.pss_session.proofs.Fronts.{any_more}
 use Rattle.pss_session.proofs.Registers.{get_session}
-use Rattle.incarnations.proofs.Maps.{no_value, one_value, count_none, count_some}
+use Rattle.recent_table.proofs.Maps.{no_value, one_value, count_none, count_some}
 use Rattle.incarnations.proofs.Keys.{slot_key}
 
 unlike : {A : Type 0} {b : Bool} → b ≡ true → b ≡ false → A

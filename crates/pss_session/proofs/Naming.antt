@@ -9,7 +9,7 @@ use Rattle.std.specs.FinMap as finite
 use Rattle.std.specs.FinMap.{entries, get-entries}
 use Rattle.pss_base.specs.declared.session.SessionNo.{SessionNo}
 use Rattle.pss_machine.specs.Sessions.{Session}
-use Rattle.incarnations.proofs.Maps.{no_value, one_value, tied}
+use Rattle.recent_table.proofs.Maps.{no_value, one_value, tied}
 use Rattle.pss_machine.proofs.Found.{found_there}
 use Rattle.pss_session.specs.declared.register.SessionRecord.{SessionRecord}
 use Rattle.pss_session.specs.inner.Rows.{session_of, row_at}

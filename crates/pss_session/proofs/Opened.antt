@@ -10,7 +10,7 @@ use Rattle.std.specs.FinMap.Entries.{is_sorted}
 use Rattle.pss_base.specs.declared.session.SessionNo.{SessionNo}
 use Rattle.pss_base.specs.declared.owner.OwnerNo.{OwnerNo}
 use Rattle.pss_machine.specs.declared.session.Association.{Association}
-use Rattle.incarnations.proofs.Maps.{no_value}
+use Rattle.recent_table.proofs.Maps.{no_value}
 use Rattle.pss_session.specs.declared.register.SessionRecord.{SessionRecord}
 use Rattle.pss_session.specs.declared.register.Register.{Register}
 use Rattle.pss_session.specs.inner.Rows.{session_of, row_at, with_state, left_row, without, Turns}
@@ -21,7 +21,7 @@ use Rattle.pss_session.proofs.Orders.{sorted_keys, sorted_without}
 use Rattle.std.specs.FinMap as finite
 use Rattle.std.specs.FinMap.{get}
 use Rattle.pss_machine.specs.Sessions.{Session}
-use Rattle.incarnations.proofs.Maps.{alike_maps}
+use Rattle.recent_table.proofs.Maps.{alike_maps}
 use Rattle.pss_session.specs.Meaning.{Meaning, no_sessions}
 use Rattle.pss_session.specs.inner.Register.{sessions_of}
 use Rattle.pss_session.specs.inner.Register.{meaning_of}

@@ -5,7 +5,7 @@ use Rattle.std.specs.Map.{lookup, keys_of, remove_entry}
 use Rattle.std.specs.Ordering.{nat_cmp, is_lt}
 use Rattle.std.specs.FinMap.Entries.{below_all, is_sorted}
 use Rattle.indexmap.specs.IndexMap.{insert_entry}
-use Rattle.incarnations.proofs.Maps.{no_value}
+use Rattle.recent_table.proofs.Maps.{no_value}
 
 pub both_true : (a b : Bool) → (a && b) ≡ true → (a ≡ true) × (b ≡ true)
 both_true true b e = (refl, e)

@@ -15,9 +15,9 @@ use Rattle.pss_base.specs.declared.session.SessionNo.{SessionNo}
 use Rattle.type_layout.specs.Schemas.{given}
 use Rattle.pss_machine.specs.Maps as machine
 use Rattle.pss_machine.specs.Sessions.{Session, Sessions, is_owner, open_in, without_transaction}
-use Rattle.incarnations.specs.Maps.{each}
-use Rattle.incarnations.proofs.Maps.{IsKey, alike_maps, get_each, len_each, entries_each, each_insert, each_remove}
-use Rattle.incarnations.proofs.Hashed.{get_table, inserted, removed}
+use Rattle.recent_table.specs.Maps.{each}
+use Rattle.recent_table.proofs.Maps.{IsKey, alike_maps, get_each, len_each, entries_each, each_insert, each_remove}
+use Rattle.recent_table.proofs.Hashed.{get_table, inserted, removed}
 use Rattle.pss_session.specs.declared.register.SessionRecord.{SessionRecord}
 use Rattle.pss_session.specs.inner.Rows.{session_of, row_at, is_open_row, left_row, Turns}
 use Rattle.pss_session.specs.inner.Register.{rows_of, sessions_of}

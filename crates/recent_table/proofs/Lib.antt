@@ -1,1 +1,3 @@
+pub mod Maps
+pub mod Hashed
 pub mod Standing

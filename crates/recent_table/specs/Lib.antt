@@ -1,2 +1,3 @@
+pub mod Maps
 pub mod Turned
 pub mod Lends

@@ -1,4 +1,5 @@
-//! Tables by hash whose entry found last is found again without its hash.
+//! Tables by hash whose entry found last is found again without its hash, and the finite maps that such tables stand
+//! for.
 #![tactic(auto)]
 
 mod table;

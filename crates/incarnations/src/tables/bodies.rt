@@ -2,7 +2,7 @@
 ghost use Rattle.std.specs.Prelude.{◌≡◌, ◌<◌, ◌^◌, IsSome, OnOk, OnErr, option_copied};
 ghost use Rattle.std.specs.Option.{option_map};
 ghost use Rattle.std.specs.FinMap as map;
-ghost use Rattle.incarnations.specs.Maps.{IsWith};
+ghost use Rattle.recent_table.specs.Maps.{IsWith};
 ghost use Rattle.incarnations.specs.Records.{with_entries, with_value};
 
 use crate::names::{BodyName, BodyPlace, BodyRecord};

@@ -1,7 +1,7 @@
 // The sessions by number.
 ghost use Rattle.std.specs.Prelude.{◌≡◌, ◌<◌, ◌+◌, ◌-◌, ◌^◌, IsSome, IsSomeAnd, OnOk, OnErr};
 ghost use Rattle.std.specs.FinMap as map;
-ghost use Rattle.incarnations.specs.Maps.{IsWith};
+ghost use Rattle.recent_table.specs.Maps.{IsWith};
 ghost use Rattle.incarnations.specs.Records.{with_attached};
 
 use crate::names::SessionRecord;

@@ -5,7 +5,7 @@ use Rattle.std.specs.FinMap.{FinMap, from_entries}
 use Rattle.std.specs.FinMap.Entries.{is_sorted}
 use Rattle.pss_base.specs.declared.session.SessionNo.{SessionNo}
 use Rattle.pss_machine.specs.Sessions.{Sessions}
-use Rattle.incarnations.specs.Maps.{each}
+use Rattle.recent_table.specs.Maps.{each}
 use Rattle.pss_session.specs.declared.register.SessionRecord.{SessionRecord}
 use Rattle.pss_session.specs.declared.register.Register.{Register}
 use Rattle.pss_session.specs.Meaning.{Meaning}

@@ -1,7 +1,7 @@
 use Rattle.std.proofs.Common.{refl, sym, ap, ◌∙◌, arith}
 use Rattle.std.specs.Prelude.{is_some}
 use Rattle.std.specs.FinMap.{get, insert}
-use Rattle.incarnations.proofs.Maps.{no_value}
+use Rattle.recent_table.proofs.Maps.{no_value}
 use Rattle.incarnations.proofs.Sets.{some, node_there, home_there}
 use Rattle.incarnations.specs.Records.{without_one}
 use Rattle.incarnations.proofs.Erased.{has_size, has_attached, told_loose_sound, told_loose_erased, told_attached, told_body, told_sound, told_erased, told_cols, told_parted_cols}

@@ -8,7 +8,7 @@ use Rattle.incarnations.specs.Keys.{slot_cmp, session_cmp}
 use Rattle.incarnations.specs.Records.{with_attached}
 use Rattle.incarnations.specs.Meaning.{body, with_view}
 use Rattle.incarnations.specs.Stock.{Loose, IsLowered}
-use Rattle.incarnations.proofs.Maps.{no_value}
+use Rattle.recent_table.proofs.Maps.{no_value}
 use Rattle.incarnations.proofs.Sets.{node_there, home_there}
 use Rattle.incarnations.proofs.Loosened.{moved_stock, lower_body, some_attached, sound_after, set_after, rows_after, cols_after, passed_after, some_in_session}
 use Rattle.incarnations.proofs.loosening.loosen.Goals as goal

@@ -1,6 +1,6 @@
 use Rattle.std.proofs.Common.{◌∙◌, ap}
 use Rattle.std.specs.FinMap.{remove}
-use Rattle.incarnations.proofs.Maps.{remove_insert}
+use Rattle.recent_table.proofs.Maps.{remove_insert}
 use Rattle.incarnations.proofs.Keys.{object_key}
 use Rattle.incarnations.proofs.Named.{object}
 use Rattle.incarnations.proofs.obtaining.enter_tables.Goals as goal

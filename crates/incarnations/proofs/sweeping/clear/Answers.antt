@@ -1,8 +1,8 @@
 use Rattle.std.proofs.Common.{◌≡◌, sym, ◌∙◌, arith}
 use Rattle.std.specs.FinMap.{get}
-use Rattle.incarnations.specs.Maps.{count}
+use Rattle.recent_table.specs.Maps.{count}
 use Rattle.incarnations.specs.Meaning.{stands_on}
-use Rattle.incarnations.proofs.Maps.{no_value}
+use Rattle.recent_table.proofs.Maps.{no_value}
 use Rattle.incarnations.proofs.Sets.{some, plain, nobody_on}
 use Rattle.incarnations.proofs.Freed.{entry_found, row_there, row_some, first_in_row, first_stood, cleared_none, cleared_more, cleared_all, cleared_absent, still, place_row, place_load, place_none}
 use Rattle.incarnations.proofs.sweeping.clear.Goals as goal

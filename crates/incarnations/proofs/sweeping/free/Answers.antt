@@ -1,9 +1,9 @@
 use Rattle.std.proofs.Common.{◌≡◌, ◌<◌, sym, ap, ◌∙◌, arith}
 use Rattle.std.specs.Option.{option_map}
 use Rattle.std.specs.FinMap.{get}
-use Rattle.incarnations.specs.Maps.{count}
+use Rattle.recent_table.specs.Maps.{count}
 use Rattle.incarnations.specs.Meaning.{is_of}
-use Rattle.incarnations.proofs.Maps.{no_value}
+use Rattle.recent_table.proofs.Maps.{no_value}
 use Rattle.incarnations.proofs.Sets.{some, plain}
 use Rattle.incarnations.proofs.Freed.{entry_found, col_there, column_some, first_at, first_entry, freed_none, freed_more, freed_all, nobody_of, freed_absent}
 use Rattle.incarnations.proofs.sweeping.free.Goals as goal

@@ -1,7 +1,7 @@
 use Rattle.std.proofs.Common.{sym, ◌∙◌, subst, arith}
 use Rattle.std.specs.FinMap.{get}
 use Rattle.incarnations.specs.Stock.{chosen_by, IsPassed}
-use Rattle.incarnations.proofs.Maps.{no_value}
+use Rattle.recent_table.proofs.Maps.{no_value}
 use Rattle.incarnations.proofs.Sets.{some}
 use Rattle.incarnations.proofs.Freed.{entry_found, spot_found, nobody_attached, loosened_absent}
 use Rattle.incarnations.proofs.Swept.{home_col, swept_none, some_next, next_there, swept_more, swept_all}

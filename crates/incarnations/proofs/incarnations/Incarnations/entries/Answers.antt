@@ -2,7 +2,7 @@ use Rattle.std.proofs.Common.{sym, ap, ◌∙◌}
 use Rattle.std.specs.FinMap as map
 use Rattle.incarnations.specs.declared.names.EntryRecord.{EntryRecord}
 use Rattle.incarnations.specs.Meaning.{Meaning}
-use Rattle.incarnations.proofs.Maps.{len_each}
+use Rattle.recent_table.proofs.Maps.{len_each}
 use Rattle.incarnations.proofs.incarnations.Incarnations.entries.Goals as goal
 
 pub returns : goal.returns

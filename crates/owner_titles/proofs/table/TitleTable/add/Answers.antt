@@ -1,7 +1,7 @@
 use Rattle.std.proofs.Common.{ap, ◌∙◌}
 use Rattle.std.specs.Cmp.{unsigned_tied}
 use Rattle.std.specs.FinMap as map
-use Rattle.incarnations.proofs.Hashed.{inserted}
+use Rattle.recent_table.proofs.Hashed.{inserted}
 use Rattle.owner_titles.proofs.Tables.{nat_key, same}
 use Rattle.owner_titles.proofs.table.TitleTable.add.Goals as goal
 

@@ -1,7 +1,7 @@
 use Rattle.std.proofs.Common.{◌-◌, ◌<◌, ◌^◌, arith}
 use Rattle.std.specs.Cmp.{unsigned_tied}
 use Rattle.owner_titles.specs.Meaning.{one_more}
-use Rattle.incarnations.proofs.Hashed.{some, holds_at, written, there, never}
+use Rattle.recent_table.proofs.Hashed.{some, holds_at, written, there, never}
 use Rattle.owner_titles.specs.declared.called.Called.{Called}
 use Rattle.owner_titles.proofs.Tables.{nat_key, same}
 use Rattle.owner_titles.proofs.table.TitleTable.count.Goals as goal

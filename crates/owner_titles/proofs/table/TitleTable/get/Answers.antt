@@ -1,6 +1,6 @@
 use Rattle.std.proofs.Common.{sym, ◌∙◌}
 use Rattle.std.specs.Cmp.{unsigned_tied}
-use Rattle.incarnations.proofs.Hashed.{told}
+use Rattle.recent_table.proofs.Hashed.{told}
 use Rattle.owner_titles.proofs.Tables.{nat_key, same}
 use Rattle.owner_titles.proofs.table.TitleTable.get.Goals as goal
 

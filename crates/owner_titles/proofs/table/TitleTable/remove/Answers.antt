@@ -1,7 +1,7 @@
 use Rattle.std.proofs.Common.{sym, ap, ◌∙◌}
 use Rattle.std.specs.Cmp.{unsigned_tied}
 use Rattle.std.specs.FinMap as map
-use Rattle.incarnations.proofs.Hashed.{told, removed}
+use Rattle.recent_table.proofs.Hashed.{told, removed}
 use Rattle.owner_titles.proofs.Tables.{nat_key, same}
 use Rattle.owner_titles.proofs.table.TitleTable.remove.Goals as goal
 

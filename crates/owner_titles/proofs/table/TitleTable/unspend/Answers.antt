@@ -1,6 +1,6 @@
 use Rattle.std.specs.Cmp.{unsigned_tied}
 use Rattle.owner_titles.specs.Meaning.{unspent}
-use Rattle.incarnations.proofs.Hashed.{written, there, never}
+use Rattle.recent_table.proofs.Hashed.{written, there, never}
 use Rattle.owner_titles.proofs.Tables.{nat_key, same}
 use Rattle.owner_titles.proofs.table.TitleTable.unspend.Goals as goal
 

@@ -3,7 +3,7 @@ use Rattle.std.specs.Ordering.{nat_cmp, eq_by_cmp}
 use Rattle.std.specs.Cmp.Lexicographic.{slice_cmp, nat_list_cmp_total}
 use Rattle.std.specs.FinMap as map
 use Rattle.std.specs.FinSet as set
-use Rattle.incarnations.proofs.Maps.{tie_self}
+use Rattle.recent_table.proofs.Maps.{tie_self}
 use Rattle.owner_titles.specs.Meaning.{Meaning, newly, transaction_named}
 use Rattle.owner_titles.specs.inner.Register.{IsSound}
 use Rattle.owner_titles.proofs.Naming.{bytes_key, named_is, number}

@@ -1,7 +1,7 @@
 use Rattle.std.proofs.Common.{ap, ◌∙◌}
 use Rattle.std.specs.FinMap as map
 use Rattle.incarnations.proofs.Keys.{body_key, same_name, name_ties}
-use Rattle.incarnations.proofs.Hashed.{inserted}
+use Rattle.recent_table.proofs.Hashed.{inserted}
 use Rattle.incarnations.proofs.tables.bodies.BodyTable.add.Goals as goal
 
 pub returns-clause-ok : goal.returns-clause-ok

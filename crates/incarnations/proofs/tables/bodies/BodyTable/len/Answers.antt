@@ -1,7 +1,7 @@
 use Rattle.std.proofs.Common.{ap, ◌∙◌, sym}
 use Rattle.std.specs.FinMap as map
 use Rattle.incarnations.proofs.Keys.{body_key, same_name, name_ties}
-use Rattle.incarnations.proofs.Hashed.{len_table}
+use Rattle.recent_table.proofs.Hashed.{len_table}
 use Rattle.incarnations.proofs.tables.bodies.BodyTable.len.Goals as goal
 
 pub returns-clause-len : goal.returns-clause-len

@@ -1,7 +1,7 @@
 use Rattle.std.proofs.Common.{ap, ◌∙◌}
 use Rattle.std.specs.FinMap as map
 use Rattle.incarnations.proofs.Keys.{body_key, same_name, name_ties}
-use Rattle.incarnations.proofs.Hashed.{removed}
+use Rattle.recent_table.proofs.Hashed.{removed}
 use Rattle.incarnations.proofs.tables.bodies.BodyTable.remove.Goals as goal
 
 pub returns : goal.returns

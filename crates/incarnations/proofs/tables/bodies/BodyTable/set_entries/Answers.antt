@@ -1,6 +1,6 @@
 use Rattle.incarnations.specs.Records.{with_entries}
 use Rattle.incarnations.proofs.Keys.{body_key, same_name, name_ties}
-use Rattle.incarnations.proofs.Hashed.{there, never, written}
+use Rattle.recent_table.proofs.Hashed.{there, never, written}
 use Rattle.incarnations.proofs.tables.bodies.BodyTable.set_entries.Goals as goal
 
 pub unreachable-requires : goal.unreachable-requires

@@ -2,7 +2,7 @@ use Rattle.std.proofs.Common.{sym, ap, ◌∙◌}
 use Rattle.std.specs.Option.{option_map}
 use Rattle.incarnations.specs.declared.names.BodyRecord.{BodyRecord}
 use Rattle.incarnations.proofs.Keys.{body_key, same_name, name_ties}
-use Rattle.incarnations.proofs.Hashed.{told}
+use Rattle.recent_table.proofs.Hashed.{told}
 use Rattle.incarnations.proofs.tables.bodies.BodyTable.value.Goals as goal
 
 pub returns-in-Some : goal.returns-in-Some

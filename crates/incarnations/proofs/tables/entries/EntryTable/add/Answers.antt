@@ -2,7 +2,7 @@ use Rattle.std.proofs.Common.{ap, ◌∙◌}
 use Rattle.std.specs.FinMap as map
 use Rattle.incarnations.specs.Meaning.{same_slot}
 use Rattle.incarnations.proofs.Keys.{slot_key, slot_ties}
-use Rattle.incarnations.proofs.Hashed.{inserted}
+use Rattle.recent_table.proofs.Hashed.{inserted}
 use Rattle.incarnations.proofs.tables.entries.EntryTable.add.Goals as goal
 
 pub returns-clause-ok : goal.returns-clause-ok

@@ -2,7 +2,7 @@ use Rattle.std.proofs.Common.{sym, ap, ◌∙◌}
 use Rattle.std.specs.FinMap as map
 use Rattle.incarnations.specs.Meaning.{same_slot}
 use Rattle.incarnations.proofs.Keys.{slot_key, slot_ties}
-use Rattle.incarnations.proofs.Hashed.{get_table}
+use Rattle.recent_table.proofs.Hashed.{get_table}
 use Rattle.incarnations.proofs.tables.entries.EntryTable.find.Goals as goal
 
 pub returns : goal.returns

@@ -2,7 +2,7 @@ use Rattle.std.proofs.Common.{ap, ◌∙◌, sym}
 use Rattle.std.specs.FinMap as map
 use Rattle.incarnations.specs.Meaning.{same_slot}
 use Rattle.incarnations.proofs.Keys.{slot_key, slot_ties}
-use Rattle.incarnations.proofs.Hashed.{len_table}
+use Rattle.recent_table.proofs.Hashed.{len_table}
 use Rattle.incarnations.proofs.tables.entries.EntryTable.len.Goals as goal
 
 pub returns-clause-len : goal.returns-clause-len

@@ -2,7 +2,7 @@ use Rattle.std.proofs.Common.{ap, ◌∙◌}
 use Rattle.std.specs.FinMap as map
 use Rattle.incarnations.specs.Meaning.{same_slot}
 use Rattle.incarnations.proofs.Keys.{slot_key, slot_ties}
-use Rattle.incarnations.proofs.Hashed.{inserted, there}
+use Rattle.recent_table.proofs.Hashed.{inserted, there}
 use Rattle.incarnations.proofs.tables.entries.EntryTable.set.Goals as goal
 
 pub set-requires : goal.set-requires

@@ -1,7 +1,7 @@
 use Rattle.std.proofs.Common.{ap, ◌∙◌}
 use Rattle.std.specs.FinMap as map
 use Rattle.incarnations.proofs.Keys.{object_key, same_object, object_ties}
-use Rattle.incarnations.proofs.Hashed.{inserted}
+use Rattle.recent_table.proofs.Hashed.{inserted}
 use Rattle.incarnations.proofs.tables.objects.ObjectTable.add.Goals as goal
 
 pub returns-clause-ok : goal.returns-clause-ok

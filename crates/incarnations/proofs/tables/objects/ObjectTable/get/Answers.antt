@@ -1,7 +1,7 @@
 use Rattle.std.proofs.Common.{sym, ap, ◌∙◌}
 use Rattle.std.specs.FinMap as map
 use Rattle.incarnations.proofs.Keys.{object_key, same_object, object_ties}
-use Rattle.incarnations.proofs.Hashed.{get_table}
+use Rattle.recent_table.proofs.Hashed.{get_table}
 use Rattle.incarnations.proofs.tables.objects.ObjectTable.get.Goals as goal
 
 pub returns : goal.returns

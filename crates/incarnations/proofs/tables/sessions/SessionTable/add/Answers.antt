@@ -1,7 +1,7 @@
 use Rattle.std.proofs.Common.{ap, ◌∙◌}
 use Rattle.std.specs.FinMap as map
 use Rattle.incarnations.proofs.Keys.{session_key, same_session, session_ties}
-use Rattle.incarnations.proofs.Hashed.{inserted}
+use Rattle.recent_table.proofs.Hashed.{inserted}
 use Rattle.incarnations.proofs.tables.sessions.SessionTable.add.Goals as goal
 
 pub returns-clause-ok : goal.returns-clause-ok

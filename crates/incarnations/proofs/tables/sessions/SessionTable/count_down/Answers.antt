@@ -1,7 +1,7 @@
 use Rattle.std.proofs.Common.{◌<◌, ◌-◌, arith}
 use Rattle.incarnations.specs.Records.{with_attached}
 use Rattle.incarnations.proofs.Keys.{session_key, same_session, session_ties}
-use Rattle.incarnations.proofs.Hashed.{some, holds_at, there, never, written}
+use Rattle.recent_table.proofs.Hashed.{some, holds_at, there, never, written}
 use Rattle.incarnations.proofs.tables.sessions.SessionTable.count_down.Goals as goal
 
 pub overflow_sub-record : goal.overflow_sub-record

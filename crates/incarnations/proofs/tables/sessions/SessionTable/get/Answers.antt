@@ -1,7 +1,7 @@
 use Rattle.std.proofs.Common.{sym, ap, ◌∙◌}
 use Rattle.std.specs.FinMap as map
 use Rattle.incarnations.proofs.Keys.{session_key, same_session, session_ties}
-use Rattle.incarnations.proofs.Hashed.{get_table}
+use Rattle.recent_table.proofs.Hashed.{get_table}
 use Rattle.incarnations.proofs.tables.sessions.SessionTable.get.Goals as goal
 
 pub returns : goal.returns

@@ -1,7 +1,7 @@
 use Rattle.std.proofs.Common.{ap, ◌∙◌}
 use Rattle.std.specs.FinMap as map
 use Rattle.incarnations.proofs.Keys.{session_key, same_session, session_ties}
-use Rattle.incarnations.proofs.Hashed.{removed}
+use Rattle.recent_table.proofs.Hashed.{removed}
 use Rattle.incarnations.proofs.tables.sessions.SessionTable.remove.Goals as goal
 
 pub returns : goal.returns

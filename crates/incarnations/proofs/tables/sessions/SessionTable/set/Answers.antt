@@ -1,7 +1,7 @@
 use Rattle.std.proofs.Common.{ap, ◌∙◌}
 use Rattle.std.specs.FinMap as map
 use Rattle.incarnations.proofs.Keys.{session_key, same_session, session_ties}
-use Rattle.incarnations.proofs.Hashed.{inserted, there}
+use Rattle.recent_table.proofs.Hashed.{inserted, there}
 use Rattle.incarnations.proofs.tables.sessions.SessionTable.set.Goals as goal
 
 pub set-requires : goal.set-requires

@@ -11,7 +11,7 @@ use Rattle.std.specs.FinMap as finite
 use Rattle.std.specs.FinMap.{FinMap, IsAntisymmetric, entries, find, put, is_sorted, get, insert, remove, get-insert, get-remove, get-entries, entries-insert, entries-from_sorted, entries_sorted, len-entries, same_map}
 use Rattle.std.specs.FinMap.Entries.{below_all, by_order}
 use Rattle.std.proofs.lemmas.List.{length-map}
-use Rattle.incarnations.specs.Maps.{each, count}
+use Rattle.recent_table.specs.Maps.{each, count}
 
 pub no_value : {A B : Type 0} (r : A) → None ≡ Some r → B
 no_value r h = absurd (cc)

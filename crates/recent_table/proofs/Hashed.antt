@@ -8,8 +8,8 @@ use Rattle.std.specs.Ordering.{eq_by_cmp}
 use Rattle.std.specs.Cmp.{eq_by_cmp_equiv}
 use Rattle.std.specs.FinMap as finite
 use Rattle.std.specs.FinMap.{FinMap, find, get, insert, remove, from_entries, get-from_entries, get-insert, get-remove, len-insert, len-empty}
-use Rattle.incarnations.specs.Maps.{IsWith}
-use Rattle.incarnations.proofs.Maps.{IsKey, alike_maps}
+use Rattle.recent_table.specs.Maps.{IsWith}
+use Rattle.recent_table.proofs.Maps.{IsKey, alike_maps}
 
 nothing : {B : Type 0} → false ≡ true → B
 nothing h = absurd (cc)

@@ -13,7 +13,7 @@ use std::marker::Model;
 /// A finite map from the numbers of owners to how they are called.
 #[derive(Drop)]
 pub struct TitleTable {
-    table: RecentTable<u32, Called>,
+    table: RecentTable<OwnerNo, Called>,
 }
 
 impl Model for TitleTable {
@@ -22,12 +22,13 @@ impl Model for TitleTable {
     ghost use Rattle.std.specs.FinMap.{FinMap, from_entries, code};
     ghost use Rattle.owner_titles.specs.declared.called.Called.{Called};
     ghost use Rattle.owner_titles.specs.Codes.{called_code};
+    ghost use Rattle.owner_titles.specs.inner.Numbered.{numbered};
 
     ghost Value = { FinMap nat_cmp Called };
 
     ghost coded = { code coded_ℕ called_code };
 
-    ghost view = { λ t. from_entries t.table };
+    ghost view = { λ t. from_entries (numbered t.table) };
 }
 
 impl TitleTable {
@@ -42,7 +43,7 @@ impl TitleTable {
     pub fn get(&self, owner: OwnerNo) -> Option<&Called>
         ensures { option_copied result ≡ map.get self.now owner.0 }
     {
-        self.table.get(owner.0)
+        self.table.get(owner)
     }
 
     /// `NoMemory`: the table is as before.
@@ -50,7 +51,7 @@ impl TitleTable {
         ensures ok { OnOk result (self.new ≡ map.insert self.old owner.0 called) }
         ensures err { OnErr result (self.new ≡ self.old) }
     {
-        self.table.insert(owner.0, called)?;
+        self.table.insert(owner, called)?;
         Ok(())
     }
 
@@ -58,7 +59,7 @@ impl TitleTable {
         requires { IsSome (map.get self.old owner.0) }
         ensures { IsWith self.old self.new owner.0 (marked failed) }
     {
-        match self.table.get_mut(owner.0) {
+        match self.table.get_mut(owner) {
             Some(called) => called.failed |= failed,
             None => unreachable!(),
         }
@@ -70,8 +71,8 @@ impl TitleTable {
         ensures { IsWith self.old self.new owner.0 one_more }
     {
         // `get` keeps the place that it finds and `get_mut` does not, so the owner is looked for first at its next command.
-        let _ = self.table.get(owner.0);
-        match self.table.get_mut(owner.0) {
+        let _ = self.table.get(owner);
+        match self.table.get_mut(owner) {
             Some(called) => called.commands += 1,
             None => unreachable!(),
         }
@@ -81,7 +82,7 @@ impl TitleTable {
         requires { IsSome (map.get self.old owner.0) }
         ensures { IsWith self.old self.new owner.0 unspent }
     {
-        match self.table.get_mut(owner.0) {
+        match self.table.get_mut(owner) {
             Some(called) => called.commands = 0,
             None => unreachable!(),
         }
@@ -91,6 +92,6 @@ impl TitleTable {
         ensures value { result ≡ map.get self.old owner.0 }
         ensures removed { self.new ≡ map.remove self.old owner.0 }
     {
-        self.table.remove(owner.0)
+        self.table.remove(owner)
     }
 }

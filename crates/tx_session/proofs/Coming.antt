@@ -13,7 +13,7 @@ use Rattle.tx_session.specs.Kept.{IsNew, owned_at, TurnsOwned}
 use Rattle.tx_session.specs.Owners.{owners_of}
 use Rattle.tx_session.proofs.Endings.{owner_came, under_came, counted_came, locks_came}
 
-module _ {A E : Type 0} (held : Held) (es fs : List (ℕ × Owned)) (n : OwnerNo) (level : Level) (o : Owned) (new : IsNew level o) where
+module _ {A E : Type 0} (held : Held) (es fs : List (OwnerNo × Owned)) (n : OwnerNo) (level : Level) (o : Owned) (new : IsNew level o) where
   pub came : (r : Result A E) → OnOk r (TurnsOwned es fs n.0 (Some o)) → HaveLocks (owners_of held es) held → get (owners_of held es) n.0 ≡ None → OnOk r (owners_of held fs ≡ insert (owners_of held es) n.0 (new_owner level))
   came (Ok a) turns have none = owner_came held es fs n level o turns new have none
   came (Err e) turns have none = turns
@@ -28,4 +28,4 @@ module _ {A E : Type 0} (held : Held) (es fs : List (ℕ × Owned)) (n : OwnerNo
 
   pub locks_there : (r : Result A E) → OnOk r (TurnsOwned es fs n.0 (Some o)) → OnErr r (fs ≡ es) → HaveLocks (owners_of held es) held → HaveLocks (owners_of held fs) held
   locks_there (Ok a) turns same have = locks_came held es fs n level o turns new have
-  locks_there (Err e) turns same have = subst (λ (l : List (ℕ × Owned)). HaveLocks (owners_of held l) held) (sym same) have
+  locks_there (Err e) turns same have = subst (λ (l : List (OwnerNo × Owned)). HaveLocks (owners_of held l) held) (sym same) have

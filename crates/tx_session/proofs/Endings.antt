@@ -21,7 +21,7 @@ use Rattle.tx_session.proofs.Turns.{is_owner, no_owner, owner_turned, owner_gone
 same_one : {A : Type 0} (x y : A) → Some x ≡ Some y → x ≡ y
 same_one x y e = cc
 
-module _ (held : Held) (es fs : List (ℕ × Owned)) (n : OwnerNo) where
+module _ (held : Held) (es fs : List (OwnerNo × Owned)) (n : OwnerNo) where
   -- no owner has no lock
   pub none_locked : HaveLocks (owners_of held es) held → get (owners_of held es) n.0 ≡ None → held_by held n ≡ set.empty
   none_locked have none = sym (have n) ∙ ap (λ (o : Option Owner). unwrap_or (option_map (λ owner. owner.locks) o) set.empty) none

@@ -63,10 +63,10 @@ module _ {S : Schema} {homes : Homes} {owners : Owners} {n : OwnerNo} {p : Pid} 
 same_one : {A : Type 0} (x y : A) → Some x ≡ Some y → x ≡ y
 same_one x y e = cc
 
-pub level_is : (held : Held) (es : List (ℕ × Owned)) (n : ℕ) (owned : Owned) → owned_at n es ≡ Some owned → (o : Owner) → get (owners_of held es) n ≡ Some o → owned.level ≡ o.level
+pub level_is : (held : Held) (es : List (OwnerNo × Owned)) (n : ℕ) (owned : Owned) → owned_at n es ≡ Some owned → (o : Owner) → get (owners_of held es) n ≡ Some o → owned.level ≡ o.level
 level_is held es n owned at o there = ap (λ (x : Owner). x.level) (same_one _ o (sym (is_owner held es n owned at) ∙ there))
 
-pub never_there : {A : Type 0} (held : Held) (es : List (ℕ × Owned)) (n : ℕ) → owned_at n es ≡ None → (o : Owner) → get (owners_of held es) n ≡ Some o → A
+pub never_there : {A : Type 0} (held : Held) (es : List (OwnerNo × Owned)) (n : ℕ) → owned_at n es ≡ None → (o : Owner) → get (owners_of held es) n ≡ Some o → A
 never_there held es n none o there = (let no : None ≡ Some o = sym (no_owner held es n none) ∙ there in cc)
 
 -- ---- answers that tell whether an object is there

@@ -30,7 +30,7 @@ same_Some x y e = cc
 same_plain : (held : Held) (n : ℕ) (old new : Owned) → IsSame old new → plain_owner held n new ≡ plain_owner held n old
 same_plain held n old new same i = record { level = same.level i; locks = held_by held (record { 0 = n }); changes = same.changes i }
 
-module _ (held : Held) (es fs : List (ℕ × Owned)) (n : OwnerNo) (same : TurnsBy IsSame es fs n.0) where
+module _ (held : Held) (es fs : List (OwnerNo × Owned)) (n : OwnerNo) (same : TurnsBy IsSame es fs n.0) where
   owners_stay : owners_of held fs ≡ owners_of held es
   owners_stay = owners_same held held es fs n same.others (λ q other. refl) (by (owned_at n.0 es) refl)
     where
@@ -106,7 +106,7 @@ module _ (S : Schema) (parts : Parts) (n : OwnerNo) (step : Step) (m : MayTake S
   pub may_change : (owned : Owned) → owned_at n.0 parts.table ≡ Some owned → MayChange owned step.put
   may_change owned at = subst (λ o. MayChange o step.put) (same_Some m.owned owned (sym m.there ∙ at)) its_may
 
-  module _ (fs : List (ℕ × Owned)) (turned : TurnsBy (HasStepped step.put) parts.table fs n.0) where
+  module _ (fs : List (OwnerNo × Owned)) (turned : TurnsBy (HasStepped step.put) parts.table fs n.0) where
     stepped : (b : Owned) × (owned_at n.0 fs ≡ Some b) × HasStepped step.put m.owned b
     stepped = turned_to (HasStepped step.put) parts.table fs n turned m.owned m.there
 
@@ -134,7 +134,7 @@ module _ (S : Schema) (parts : Parts) (n : OwnerNo) (step : Step) (m : MayTake S
         (λ none. (let no : None ≡ Some stepped.0 = sym none ∙ stepped.1 in cc))
 
   -- what is kept after a step, or where memory lacked for it
-  pub record AreKept {A E : Type 0} (r : Result A E) (held : Held) (fs : List (ℕ × Owned)) : Type 0 where
+  pub record AreKept {A E : Type 0} (r : Result A E) (held : Held) (fs : List (OwnerNo × Owned)) : Type 0 where
     pub stepped : OnOk r (owners_of held fs ≡ with_at (owners_in parts) n.0 (with_step step))
     pub err : OnErr r (owners_of held fs ≡ owners_in parts)
     pub under : (q : ℕ) (o : Owned) → owned_at q fs ≡ Some o → IsUnder S o
@@ -142,7 +142,7 @@ module _ (S : Schema) (parts : Parts) (n : OwnerNo) (step : Step) (m : MayTake S
     pub locks : HaveLocks (owners_of held fs) held
 
   pub kept_after :
-      {A E : Type 0} (r : Result A E) (held : Held) (fs : List (ℕ × Owned)) → TurnsBy (HasTaken r step.put) parts.table fs n.0 → OnOk r (held ≡ granted parts.locks n step.needs) → OnErr r (held ≡ parts.locks)
+      {A E : Type 0} (r : Result A E) (held : Held) (fs : List (OwnerNo × Owned)) → TurnsBy (HasTaken r step.put) parts.table fs n.0 → OnOk r (held ≡ granted parts.locks n step.needs) → OnErr r (held ≡ parts.locks)
       → AreKept r held fs
   kept_after {A} {E} (Ok a) held fs turned is err = subst (λ (h : Held). AreKept {A = A} {E = E} (Ok a) h fs) (sym is) (record {
     stepped = owners_stepped fs turned;

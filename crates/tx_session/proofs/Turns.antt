@@ -21,24 +21,24 @@ numbered n = record { 0 = n }
 
 -- ---- an owner of the table is one of the machine
 
-pub get_owner : (held : Held) (es : List (ℕ × Owned)) (n : ℕ) → get (owners_of held es) n ≡ option_map (plain_owner held n) (owned_at n es)
+pub get_owner : (held : Held) (es : List (OwnerNo × Owned)) (n : ℕ) → get (owners_of held es) n ≡ option_map (plain_owner held n) (owned_at n es)
 get_owner held [] n = get-empty nat_cmp n
 get_owner held (e ∷ es) n =
-    get-insert nat_cmp_total (owners_of held es) e.0 (plain_owner held e.0 e.1) n
-    ∙ ap (λ b. cond b (Some (plain_owner held e.0 e.1)) (get (owners_of held es) n)) (tie n e.0)
-    ∙ by_test (λ b. (n == e.0) ≡ b → cond b (Some (plain_owner held e.0 e.1)) (get (owners_of held es) n) ≡ option_map (plain_owner held n) (cond b (Some e.1) (owned_at n es))) (n == e.0)
-    (λ _ is. ap (λ (k : ℕ). Some (plain_owner held k e.1)) (sym (same_number n e.0 is)))
+    get-insert nat_cmp_total (owners_of held es) e.0.0 (plain_owner held e.0.0 e.1) n
+    ∙ ap (λ b. cond b (Some (plain_owner held e.0.0 e.1)) (get (owners_of held es) n)) (tie n e.0.0)
+    ∙ by_test (λ b. (n == e.0.0) ≡ b → cond b (Some (plain_owner held e.0.0 e.1)) (get (owners_of held es) n) ≡ option_map (plain_owner held n) (cond b (Some e.1) (owned_at n es))) (n == e.0.0)
+    (λ _ is. ap (λ (k : ℕ). Some (plain_owner held k e.1)) (sym (same_number n e.0.0 is)))
     (λ _ _. get_owner held es n)
     refl
 
-pub is_owner : (held : Held) (es : List (ℕ × Owned)) (n : ℕ) (o : Owned) → owned_at n es ≡ Some o → get (owners_of held es) n ≡ Some (plain_owner held n o)
+pub is_owner : (held : Held) (es : List (OwnerNo × Owned)) (n : ℕ) (o : Owned) → owned_at n es ≡ Some o → get (owners_of held es) n ≡ Some (plain_owner held n o)
 is_owner held es n o at = get_owner held es n ∙ ap (option_map (plain_owner held n)) at
 
-pub no_owner : (held : Held) (es : List (ℕ × Owned)) (n : ℕ) → owned_at n es ≡ None → get (owners_of held es) n ≡ None
+pub no_owner : (held : Held) (es : List (OwnerNo × Owned)) (n : ℕ) → owned_at n es ≡ None → get (owners_of held es) n ≡ None
 no_owner held es n none = get_owner held es n ∙ ap (option_map (plain_owner held n)) none
 
 -- what is kept of an owner of the machine
-pub kept_of : (held : Held) (es : List (ℕ × Owned)) (n : ℕ) (owner : Owner) → get (owners_of held es) n ≡ Some owner → (o : Owned) × (owned_at n es ≡ Some o) × (plain_owner held n o ≡ owner)
+pub kept_of : (held : Held) (es : List (OwnerNo × Owned)) (n : ℕ) (owner : Owner) → get (owners_of held es) n ≡ Some owner → (o : Owned) × (owned_at n es ≡ Some o) × (plain_owner held n o ≡ owner)
 kept_of held es n owner at = by (owned_at n es) refl (sym (get_owner held es n) ∙ at)
   where
     by : (o : Option Owned) → owned_at n es ≡ o → option_map (plain_owner held n) o ≡ Some owner → (o : Owned) × (owned_at n es ≡ Some o) × (plain_owner held n o ≡ owner)
@@ -61,7 +61,7 @@ split {P} n q here other = by (n == q) refl
     by true is = here is
     by false is = other is
 
-module _ (held after : Held) (es fs : List (ℕ × Owned)) (n : OwnerNo) (others : (q : ℕ) → (n.0 == q) ≡ false → owned_at q fs ≡ owned_at q es)
+module _ (held after : Held) (es fs : List (OwnerNo × Owned)) (n : OwnerNo) (others : (q : ℕ) → (n.0 == q) ≡ false → owned_at q fs ≡ owned_at q es)
     (locks : (q : OwnerNo) → (q ≡ n → ⊥) → held_by after q ≡ held_by held q) where
   other_same : (q : ℕ) → (n.0 == q) ≡ false → get (owners_of after fs) q ≡ get (owners_of held es) q
   other_same q other =
@@ -116,11 +116,11 @@ module _ (held after : Held) (es fs : List (ℕ × Owned)) (n : OwnerNo) (others
 
 -- what held of each holds of each where it does of the one that turned
 pub each_turned :
-    (P : Owned → Type 0) (es fs : List (ℕ × Owned)) (n : OwnerNo) → ((q : ℕ) → (n.0 == q) ≡ false → owned_at q fs ≡ owned_at q es) → ((o : Owned) → owned_at n.0 fs ≡ Some o → P o)
+    (P : Owned → Type 0) (es fs : List (OwnerNo × Owned)) (n : OwnerNo) → ((q : ℕ) → (n.0 == q) ≡ false → owned_at q fs ≡ owned_at q es) → ((o : Owned) → owned_at n.0 fs ≡ Some o → P o)
     → ((q : ℕ) (o : Owned) → owned_at q es ≡ Some o → P o) → (q : ℕ) (o : Owned) → owned_at q fs ≡ Some o → P o
 each_turned P es fs n others one each q o at = split n.0 q (λ is. one o (ap (λ (k : ℕ). owned_at k fs) (same_number n.0 q is) ∙ at)) (λ other. each q o (sym (others q other) ∙ at))
 
-module _ (Turns : Owned → Owned → Type 0) (es fs : List (ℕ × Owned)) (n : OwnerNo) (turn : TurnsBy Turns es fs n.0) where
+module _ (Turns : Owned → Owned → Type 0) (es fs : List (OwnerNo × Owned)) (n : OwnerNo) (turn : TurnsBy Turns es fs n.0) where
   -- the one that turned was there
   pub turned_from : (b : Owned) → owned_at n.0 fs ≡ Some b → (a : Owned) × (owned_at n.0 es ≡ Some a) × Turns a b
   turned_from b at = by (owned_at n.0 es) refl (subst (Both Turns (owned_at n.0 es)) at turn.here)
@@ -144,14 +144,14 @@ module _ (Turns : Owned → Owned → Type 0) (es fs : List (ℕ × Owned)) (n :
       by (Some b) is never = absurd never
 
 -- one is put in a place, or goes
-pub turned_others : (es fs : List (ℕ × Owned)) (n : ℕ) (o : Option Owned) → TurnsOwned es fs n o → (q : ℕ) → (n == q) ≡ false → owned_at q fs ≡ owned_at q es
+pub turned_others : (es fs : List (OwnerNo × Owned)) (n : ℕ) (o : Option Owned) → TurnsOwned es fs n o → (q : ℕ) → (n == q) ≡ false → owned_at q fs ≡ owned_at q es
 turned_others es fs n o turns q other = turns q ∙ ap (λ b. cond b o (owned_at q es)) other
 
-pub turned_here : (es fs : List (ℕ × Owned)) (n : ℕ) (o : Option Owned) → TurnsOwned es fs n o → owned_at n fs ≡ o
+pub turned_here : (es fs : List (OwnerNo × Owned)) (n : ℕ) (o : Option Owned) → TurnsOwned es fs n o → owned_at n fs ≡ o
 turned_here es fs n o turns = turns n ∙ ap (λ b. cond b o (owned_at n es)) (eq-eqb n n refl)
 
 -- one that was there has become another
-pub turned_by : (Turns : Owned → Owned → Type 0) (es fs : List (ℕ × Owned)) (n : ℕ) (a b : Owned) → Some a ≡ owned_at n es → TurnsOwned es fs n (Some b) → Turns a b → TurnsBy Turns es fs n
+pub turned_by : (Turns : Owned → Owned → Type 0) (es fs : List (OwnerNo × Owned)) (n : ℕ) (a b : Owned) → Some a ≡ owned_at n es → TurnsOwned es fs n (Some b) → Turns a b → TurnsBy Turns es fs n
 turned_by Turns es fs n a b was turns one = record {
   here = subst (λ o. Both Turns o (owned_at n fs)) was (subst (Both Turns (Some a)) (sym (turned_here es fs n (Some b) turns)) one);
   others = turned_others es fs n (Some b) turns;

@@ -2,6 +2,7 @@
 use Rattle.std.specs.Prelude.{ℕ, ◌≡◌, ◌==◌, List, Option, Some, None, false, cond}
 use Rattle.std.specs.Map.{lookup}
 use Rattle.std.specs.FinMap.{empty}
+use Rattle.pss_base.specs.declared.owner.OwnerNo.{OwnerNo}
 use Rattle.type_layout.specs.declared.schema.Schema.{Schema}
 use Rattle.pss_machine.specs.declared.level.Level.{Level}
 use Rattle.owner_view.specs.declared.owned.Owned.{Owned}
@@ -25,14 +26,14 @@ Both Holds (Some old) (Some new) = Holds old new
 Both Holds _ _ = ⊥
 
 -- what is kept of the owner with a number
-abbrev pub owned_at : ℕ → List (ℕ × Owned) → Option Owned
-owned_at n es = lookup (λ t. n == t) es
+abbrev pub owned_at : ℕ → List (OwnerNo × Owned) → Option Owned
+owned_at n es = lookup (λ t. n == t.0) es
 
 -- the owner with this number is another one, or is gone, and all others stay
-abbrev pub TurnsOwned : List (ℕ × Owned) → List (ℕ × Owned) → ℕ → Option Owned → Type 0
+abbrev pub TurnsOwned : List (OwnerNo × Owned) → List (OwnerNo × Owned) → ℕ → Option Owned → Type 0
 TurnsOwned old new n owned = (q : ℕ) → owned_at q new ≡ cond (n == q) owned (owned_at q old)
 
 -- the owner with this number, where there is one, has become another, and all others stay
-pub record TurnsBy (Turns : Owned → Owned → Type 0) (old new : List (ℕ × Owned)) (n : ℕ) : Type 0 where
+pub record TurnsBy (Turns : Owned → Owned → Type 0) (old new : List (OwnerNo × Owned)) (n : ℕ) : Type 0 where
   pub here : Both Turns (owned_at n old) (owned_at n new)
   pub others : (q : ℕ) → (n == q) ≡ false → owned_at q new ≡ owned_at q old

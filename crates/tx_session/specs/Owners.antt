@@ -21,9 +21,9 @@ use Rattle.owner_view.specs.Seen.{Fits}
 abbrev pub plain_owner : Held → ℕ → Owned → Owner
 plain_owner held n owned = record { level = owned.level; locks = held_by held (record { 0 = n }); changes = changed_by owned }
 
-abbrev pub owners_of : Held → List (ℕ × Owned) → Owners
+abbrev pub owners_of : Held → List (OwnerNo × Owned) → Owners
 owners_of held [] = empty
-owners_of held (e ∷ es) = insert (owners_of held es) e.0 (plain_owner held e.0 e.1)
+owners_of held (e ∷ es) = insert (owners_of held es) e.0.0 (plain_owner held e.0.0 e.1)
 
 -- the machine's owners
 abbrev pub owners_in : Parts → Owners

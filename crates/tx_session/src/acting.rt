@@ -1,5 +1,6 @@
 // An owner acts: the step of an operation on its view, room for it, and what becomes of locks and changes.
 ghost use Rattle.std.specs.Prelude.{◌≡◌, Some, None, IsSome, IfOk, OnOk, OnErr};
+ghost use Rattle.type_layout.specs.declared.schema.Schema.{Schema as PlainSchema};
 ghost use Rattle.pss_machine.specs.Maps.{with_at};
 ghost use Rattle.pss_machine.specs.Operations.{plain_op};
 ghost use Rattle.pss_machine.specs.Owners.{view};
@@ -42,13 +43,13 @@ impl Parts {
     /// Takes a step that nobody holds up.
     ///
     /// `NoMemory`: what owners have locked and changed is as before.
-    pub fn take(&mut self, owner: OwnerNo, schema: &Schema, step: Step) -> Result<Answer, NoMemory>
-        requires may { MayTake schema.now self.old owner step }
+    pub fn take(&mut self, owner: OwnerNo, step: Step) -> Result<Answer, NoMemory>
+        requires may { (S : PlainSchema) × MayTake S self.old owner step }
         requires free { blocker self.old.locks owner step.needs ≡ None }
         ensures answer { IfOk result (λ answer. answer ≡ step.answer) }
         ensures stepped { OnOk result (owners_in self.new ≡ with_at (owners_in self.old) owner.0 (with_step step)) }
         ensures err { OnErr result (owners_in self.new ≡ owners_in self.old) }
-        ensures under { Under schema.now self.new }
+        ensures under { (S : PlainSchema) → MayTake S self.old owner step → Under S self.new }
         ensures owners { AreOwners self.new }
     {
         take_in(&mut self.table, &mut self.locks, owner, step)
@@ -70,7 +71,7 @@ fn take_in(
     ensures granted { OnOk result (locks.new ≡ granted locks.old owner step.needs) }
     ensures err { OnErr result (locks.new ≡ locks.old) }
 {
-    match table.get_mut(owner.0) {
+    match table.get_mut(owner) {
         Some(owned) => take_with(owned, locks, owner, step),
         None => unreachable!(),
     }

@@ -112,7 +112,7 @@ impl Owners {
         let step = self.parts.step_of(owner, schema, homes, op)?;
         match self.parts.locks.blocker(owner, &step.needs) {
             Some(other) => Ok(Answer::Busy(other)),
-            None => self.parts.take(owner, schema, step),
+            None => self.parts.take(owner, step),
         }
     }
 
@@ -140,7 +140,7 @@ impl Owners {
         let led = self.parts.step_led(owner, schema, homes, pid, to)?;
         match self.parts.locks.blocker(owner, &led.needs) {
             Some(holder) => Ok(Answer::Busy(holder)),
-            None => self.parts.take(owner, schema, led),
+            None => self.parts.take(owner, led),
         }
     }
 

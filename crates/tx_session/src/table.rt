@@ -8,7 +8,7 @@ use pss_base::{NoMemory, OwnerNo};
 use recent_table::RecentTable;
 use std::alloc::Global;
 
-pub type Table = RecentTable<u32, Owned>;
+pub type Table = RecentTable<OwnerNo, Owned>;
 
 pub fn empty(alloc: Global) -> Table
     ensures { result ≡ [] }
@@ -20,7 +20,7 @@ pub fn empty(alloc: Global) -> Table
 pub fn find(table: &Table, owner: OwnerNo) -> Option<&Owned>
     ensures { option_map (λ owned. owned.now) result ≡ owned_at owner.0 table.now }
 {
-    table.get(owner.0)
+    table.get(owner)
 }
 
 /// Puts an owner in, in place of the one with this number, where there is one. `NoMemory`: all is as before.
@@ -28,21 +28,21 @@ pub fn add(table: &mut Table, owner: OwnerNo, owned: Owned) -> Result<(), NoMemo
     ensures ok { OnOk result (TurnsOwned table.old table.new owner.0 (Some owned)) }
     ensures err { OnErr result (table.new ≡ table.old) }
 {
-    table.insert(owner.0, owned)
+    table.insert(owner, owned)
 }
 
 /// Takes an owner out, where there is one with this number.
 pub fn remove(table: &mut Table, owner: OwnerNo) -> Option<Owned>
     ensures { TurnsOwned table.old table.new owner.0 None }
 {
-    table.remove(owner.0)
+    table.remove(owner)
 }
 
 /// Takes all that an owner changed away. It takes no memory.
 pub fn clear(table: &mut Table, owner: OwnerNo)
     ensures { TurnsBy IsCleared table.old table.new owner.0 }
 {
-    if let Some(owned) = table.get_mut(owner.0) {
+    if let Some(owned) = table.get_mut(owner) {
         owned.clear();
     }
 }

@@ -6,7 +6,7 @@ use Rattle.tx_session.proofs.owners.Owners.follow.Goals as goal
 
 pub take-requires-clause-may : goal.take-requires-clause-may
 take-requires-clause-may c =
-    may_be_taken c.args.schema.now c.args.homes.now c.args.self.now c.self.inside.parts c.args.owner (Ask (Follow c.args.pid c.requires.may.member)) c.self.view_is c.in_ok-led.led c.requires.may.act (c.in_ok-led.ensures (following c.self.view_is c.requires.may)) c.requires.under c.self.invariant
+    (c.args.schema.now, may_be_taken c.args.schema.now c.args.homes.now c.args.self.now c.self.inside.parts c.args.owner (Ask (Follow c.args.pid c.requires.may.member)) c.self.view_is c.in_ok-led.led c.requires.may.act (c.in_ok-led.ensures (following c.self.view_is c.requires.may)) c.requires.under c.self.invariant)
 
 pub returns-in-Some-clause-busy : goal.returns-in-Some-clause-busy
 returns-in-Some-clause-busy c m =
@@ -47,3 +47,8 @@ returns-in-None-clause-stepped c =
     (λ on m none.
     stepped_on c.args.schema.now c.args.homes.now c.args.self.now c.self.inside.parts c.args.owner (Ask (Follow c.args.pid m.member)) c.self.view_is c.in_ok-led.led m.act (c.in_ok-led.ensures (following c.self.view_is m)) c.self.invariant.locks c.take.new.self on)
     c.take.ensures.stepped
+
+pub returns-in-None-clause-under : goal.returns-in-None-clause-under
+returns-in-None-clause-under c =
+    c.take.ensures.under c.args.schema.now
+    (may_be_taken c.args.schema.now c.args.homes.now c.args.self.now c.self.inside.parts c.args.owner (Ask (Follow c.args.pid c.requires.may.member)) c.self.view_is c.in_ok-led.led c.requires.may.act (c.in_ok-led.ensures (following c.self.view_is c.requires.may)) c.requires.under c.self.invariant)

@@ -9,7 +9,7 @@ use Rattle.pss_machine.specs.Changes.{Changes}
 use Rattle.owner_view.specs.declared.owned.Owned.{Owned}
 use Rattle.owner_view.specs.declared.states.Slot.{Slot}
 use Rattle.owner_view.specs.declared.states.Slot.TheVariants as slot
-use Rattle.owner_view.specs.declared.step.Put.{Put}
+use Rattle.owner_view.specs.declared.step.NewState.{NewState}
 use Rattle.storage_home.specs.Indexes.{KeyIndexes, lists, TurnsFound, KeepsKeysReserved, MayPut}
 use Rattle.owner_view.specs.Keyed.{Pair, keys_of}
 use Rattle.owner_view.specs.Overlay.{changes_in, indexes_in, FoundAfter, HasHolders}
@@ -30,7 +30,7 @@ told_insert S V serial slot.Reserved c never = absurd never
 told_insert S V serial slot.Gone c may = refl
 told_insert S V serial (slot.There object) c may = refl
 
-module _ (owned : Owned) (put : Put) (may : MayPutIn owned put) where
+module _ (owned : Owned) (put : NewState) (may : MayPutIn owned put) where
   abbrev S : Schema
   S = may.schema
 

@@ -9,7 +9,7 @@ use Rattle.pss_machine.specs.Operations.{PlainOp}
 use Rattle.storage_home.specs.declared.parts.Parts.{Parts as Homes}
 use Rattle.storage_home.specs.Kept.{IsKept}
 use Rattle.owner_view.specs.declared.owned.Owned.{Owned}
-use Rattle.owner_view.specs.declared.step.Put.{Put}
+use Rattle.owner_view.specs.declared.step.NewState.{NewState}
 use Rattle.owner_view.specs.Fitting.{FitsOp}
 use Rattle.owner_view.specs.Overlay.{changes_in, indexes_in, slots_in, IsReady, HasHolders}
 use Rattle.owner_view.specs.Seen.{Fits}
@@ -55,12 +55,12 @@ pub record IsSame (old new : Owned) : Type 0 where
   pub under : (S : Schema) → IsUnder S old → IsUnder S new
 
 -- what is put may be put without memory
-abbrev pub IsReadyFor : Option Put → Owned → Type 0
+abbrev pub IsReadyFor : Option NewState → Owned → Type 0
 IsReadyFor None owned = Unit {0}
 IsReadyFor (Some put) owned = IsReady put.serial put.pairs.has.items owned.overlay
 
 -- what may be put: a step puts it on what the owner sees, there is room for it, and the owner may change one object more
-pub record MayPutIn (owned : Owned) (put : Put) : Type 0 where
+pub record MayPutIn (owned : Owned) (put : NewState) : Type 0 where
   pub schema : Schema
   pub catalog : Catalog
   pub sound : IsSoundSchema schema
@@ -72,7 +72,7 @@ pub record MayPutIn (owned : Owned) (put : Put) : Type 0 where
   pub few : len (changed_by owned) < 4294967295
 
 -- the owner has put something
-pub record HasPut (old new : Owned) (put : Put) : Type 0 where
+pub record HasPut (old new : Owned) (put : NewState) : Type 0 where
   pub level : new.level ≡ old.level
   pub changes : changed_by new ≡ with_changes (changed_by old) (changes_put (Some put))
   pub counted : IsCounted new

@@ -14,7 +14,7 @@ use Rattle.pss_machine.specs.Operations.{PlainOp, PlainAnswer, Gone, Done, plain
 use Rattle.pss_machine.specs.Alone.{Outcome, alone, first_taken, unless_gone, stored}
 use Rattle.pss_machine.specs.Needs.{needs, object_need, extent_need, targets}
 use Rattle.owner_view.specs.declared.step.Step.{Step}
-use Rattle.owner_view.specs.declared.step.Put.{Put}
+use Rattle.owner_view.specs.declared.step.NewState.{NewState}
 use Rattle.owner_view.specs.declared.draft.Draft.{Draft}
 use Rattle.owner_view.specs.Refusal.{unless_refused}
 use Rattle.pss_base.specs.declared.pid.Pid.{Pid}
@@ -53,7 +53,7 @@ state_put slot.Reserved = None
 state_put slot.Gone = None
 state_put (slot.There object) = Some (plain_object object)
 
-abbrev pub changes_put : Option Put → List Change
+abbrev pub changes_put : Option NewState → List Change
 changes_put None = []
 changes_put (Some put) = record { serial = put.serial; state = state_put put.slot } ∷ []
 
@@ -64,12 +64,12 @@ MayStand S V serial slot.Gone = Unit {0}
 MayStand S V serial (slot.There object) = Fits S (plain_object object) × (first_taken S V serial (plain_object object) ≡ None) × IsSized S object
 
 -- the keys that the object had in the view, and those that it has
-pub record IsPut (S : Schema) (V : Catalog) (put : Put) : Type 0 where
+pub record IsPut (S : Schema) (V : Catalog) (put : NewState) : Type 0 where
   pub may : MayStand S V put.serial put.slot
   pub had : put.pairs.had.items ≡ keys_of S (get V put.serial)
   pub has : put.pairs.has.items ≡ keys_of S (state_put put.slot)
 
-abbrev pub MayBePut : Schema → Catalog → Option Put → Type 0
+abbrev pub MayBePut : Schema → Catalog → Option NewState → Type 0
 MayBePut S V None = Unit {0}
 MayBePut S V (Some put) = IsPut S V put
 

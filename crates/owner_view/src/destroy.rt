@@ -13,7 +13,7 @@ use crate::gone::step_of_gone;
 use crate::needs::need_whole;
 use crate::seen::home_of;
 use crate::states::Slot;
-use crate::step::{Pairs, Put, Step};
+use crate::step::{NewState, Pairs, Step};
 use crate::view::{Found, View, object_of};
 use pss_base::{Bytes, NoMemory, Pid};
 use pss_machine::{Answer, Level, Needs};
@@ -58,7 +58,7 @@ fn removal<C: Committed>(
     Ok(Step {
         needs,
         answer: Answer::Done,
-        put: Some(Put {
+        put: Some(NewState {
             serial,
             slot: Slot::Gone,
             pairs: Pairs {

@@ -23,7 +23,7 @@ use crate::object::Changed;
 use crate::refusal::{Refusal, refusal_of};
 use crate::seen::Seen;
 use crate::states::Slot;
-use crate::step::{Pairs, Put, Step};
+use crate::step::{NewState, Pairs, Step};
 use crate::view::{Found, View, object_at};
 use pss_base::{Bytes, NoMemory, Pid};
 use pss_machine::{Answer, Level, Needs};
@@ -196,7 +196,7 @@ impl Draft {
             None => Step {
                 needs,
                 answer: done,
-                put: Some(Put {
+                put: Some(NewState {
                     serial,
                     slot: Slot::There(object),
                     pairs,

@@ -35,4 +35,4 @@ mod view;
 mod weight;
 
 pub use owned::Owned;
-pub use step::{Put, Step};
+pub use step::{NewState, Step};

@@ -17,7 +17,7 @@ use crate::net::net_changes;
 use crate::overlay::Overlay;
 use crate::state::state_at;
 use crate::states::Told;
-use crate::step::{Put, Step};
+use crate::step::{NewState, Step};
 use crate::view::View;
 use crate::{operation, weight};
 use pss_base::{NoMemory, Pid};
@@ -160,7 +160,7 @@ impl Owned {
 
     /// Sees to it that what a step puts may be put without memory. Nothing that is told of the owner changes, not even where
     /// memory lacks.
-    pub fn reserve(&mut self, put: &Option<Put>) -> Result<(), NoMemory>
+    pub fn reserve(&mut self, put: &Option<NewState>) -> Result<(), NoMemory>
         ensures same { IsSame self.old self.new }
         ensures ready { OnOk result (IsReadyFor put.now self.new) }
     {
@@ -171,11 +171,11 @@ impl Owned {
     }
 
     /// Puts what a step puts. It takes no memory.
-    pub fn put(&mut self, put: Put)
+    pub fn put(&mut self, put: NewState)
         requires { MayPutIn self.old put }
         ensures { HasPut self.old self.new put }
     {
-        let Put {
+        let NewState {
             serial,
             slot,
             pairs,

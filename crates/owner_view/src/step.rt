@@ -13,7 +13,7 @@ pub struct Pairs {
 
 /// What an operation makes of one object: a new state, or none, with the keys that the object had and those that it has.
 #[derive(Drop)]
-pub struct Put {
+pub struct NewState {
     pub(crate) serial: u64,
     pub(crate) slot: Slot,
     pub(crate) pairs: Pairs,
@@ -27,5 +27,5 @@ pub struct Step {
     /// What is answered where nobody holds the needs up.
     pub answer: Answer,
     /// What is put, where something changes.
-    pub put: Option<Put>,
+    pub put: Option<NewState>,
 }

@@ -12,7 +12,7 @@ use Rattle.lock_table.specs.Agreement.{HaveLocks}
 use Rattle.lock_table.proofs.Owning.{held_by-granted, held_by-granted_other}
 use Rattle.owner_view.specs.declared.owned.Owned.{Owned}
 use Rattle.tx_session.specs.declared.parts.Parts.{Parts}
-use Rattle.owner_view.specs.declared.step.Put.{Put}
+use Rattle.owner_view.specs.declared.step.NewState.{NewState}
 use Rattle.owner_view.specs.declared.step.Step.{Step}
 use Rattle.owner_view.specs.Views.{seen_with}
 use Rattle.owner_view.specs.Steps.{IsPut, state_put}
@@ -51,9 +51,9 @@ module _ (held : Held) (es fs : List (OwnerNo × Owned)) (n : OwnerNo) (same : T
 
 -- ---- a step
 
-module _ (old between : Owned) (put : Option Put) (same : IsSame old between) where
+module _ (old between : Owned) (put : Option NewState) (same : IsSame old between) where
   -- with room what a step puts may be put
-  abbrev may_put_in : (p : Put) → MayChange old (Some p) → IsReadyFor (Some p) between → MayPutIn between p
+  abbrev may_put_in : (p : NewState) → MayChange old (Some p) → IsReadyFor (Some p) between → MayPutIn between p
   may_put_in p m ready = record {
     schema = m.schema;
     catalog = m.catalog;
@@ -69,14 +69,14 @@ module _ (old between : Owned) (put : Option Put) (same : IsSame old between) wh
   pub may_settle : MayChange old put → IsReadyFor put between → MaySettle between put
   may_settle m ready = by put m ready
     where
-      by : (o : Option Put) → MayChange old o → IsReadyFor o between → MaySettle between o
+      by : (o : Option NewState) → MayChange old o → IsReadyFor o between → MaySettle between o
       by None m ready = tt
       by (Some p) m ready = may_put_in p m ready
 
   pub has_stepped : (new : Owned) → MayChange old put → IsReadyFor put between → HasSettled between new put → HasStepped put old new
   has_stepped new m ready settled = by put m ready settled
     where
-      by : (o : Option Put) → MayChange old o → IsReadyFor o between → HasSettled between new o → HasStepped o old new
+      by : (o : Option NewState) → MayChange old o → IsReadyFor o between → HasSettled between new o → HasStepped o old new
       by None m ready is = subst (HasStepped None old) (sym is) (record {
         level = same.level;
         changes = same.changes;

@@ -11,7 +11,7 @@ use Rattle.pss_machine.specs.Owners.{Owner}
 use Rattle.owner_view.specs.declared.owned.Owned.{Owned}
 use Rattle.tx_session.specs.declared.parts.Parts.{Parts}
 use Rattle.owner_view.specs.declared.step.Step.{Step}
-use Rattle.owner_view.specs.declared.step.Put.{Put}
+use Rattle.owner_view.specs.declared.step.NewState.{NewState}
 use Rattle.owner_view.specs.Owned.{changed_by, IsCounted, IsUnder, IsSame, MayPutIn, HasPut}
 use Rattle.tx_session.specs.Kept.{owned_at}
 use Rattle.tx_session.specs.Owners.{Under, AreOwners}
@@ -35,7 +35,7 @@ pub record MayTake (S : Schema) (parts : Parts) (n : OwnerNo) (step : Step) : Ty
   pub under : Under S parts
 
 -- an owner may put what a step on its view puts, and may change one object more
-pub record MayChange (owned : Owned) (put : Option Put) : Type 0 where
+pub record MayChange (owned : Owned) (put : Option NewState) : Type 0 where
   pub schema : Schema
   pub catalog : Catalog
   pub sound : IsSoundSchema schema
@@ -46,23 +46,23 @@ pub record MayChange (owned : Owned) (put : Option Put) : Type 0 where
   pub few : len (changed_by owned) < 4294967295
 
 -- it has put it
-pub record HasStepped (put : Option Put) (old new : Owned) : Type 0 where
+pub record HasStepped (put : Option NewState) (old new : Owned) : Type 0 where
   pub level : new.level ≡ old.level
   pub changes : changed_by new ≡ with_changes (changed_by old) (changes_put put)
   pub counted : IsCounted new
   pub under : (may : MayChange old put) → IsUnder may.schema new
 
 -- or memory lacked, and all that can be told of it is as before
-abbrev pub HasTaken : {A E : Type 0} → Result A E → Option Put → Owned → Owned → Type 0
+abbrev pub HasTaken : {A E : Type 0} → Result A E → Option NewState → Owned → Owned → Type 0
 HasTaken (Ok a) put old new = HasStepped put old new
 HasTaken (Err e) put old new = IsSame old new
 
 -- what a step puts, where it puts something, may be put
-abbrev pub MaySettle : Owned → Option Put → Type 0
+abbrev pub MaySettle : Owned → Option NewState → Type 0
 MaySettle owned None = Unit {0}
 MaySettle owned (Some put) = MayPutIn owned put
 
 -- it has been put
-abbrev pub HasSettled : Owned → Owned → Option Put → Type 0
+abbrev pub HasSettled : Owned → Owned → Option NewState → Type 0
 HasSettled old new None = new ≡ old
 HasSettled old new (Some put) = HasPut old new put

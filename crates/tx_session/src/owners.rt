@@ -214,7 +214,7 @@ impl Owners {
         }
     }
 
-    /// The pids of the objects that have a value from an owner, also where it is the one that was committed. They stand in no
+    /// The pids of the objects that have a value from an owner, also where it is the one that was committed: each once, in no
     /// stated order.
     ///
     /// `NoMemory`: there was no room for the list.

@@ -1,17 +1,19 @@
 -- Keys and factories in bodies, and by descent.
-use Rattle.std.proofs.Common.{◌≡◌, ℕ, ◌≤◌, List, [], ◌∷◌, Bool, true, false, not, ◌&&◌, length, map, Some, None, refl, sym, ap, ◌∙◌, arith}
+use Rattle.std.proofs.Common.{◌≡◌, ℕ, ◌≤◌, List, [], ◌∷◌, ◌++◌, Bool, true, false, not, ◌&&◌, length, map, Some, None, refl, sym, ap, ◌∙◌, arith}
 use Rattle.std.specs.List.{flat_map}
 use Rattle.std.specs.Str.{bytes_eq}
 use Rattle.std.specs.Bool.{Decides}
 use Rattle.std.proofs.lemmas.Bool.Decides.{same_from_decides}
-use Rattle.std.proofs.lemmas.List.{get_or_past}
+use Rattle.std.proofs.lemmas.List.{get_or_past, map-append}
+use Rattle.std.proofs.lemmas.Simd.{map-map}
 use Rattle.std.proofs.lemmas.Slice.Eq.{bytes_eq-Decides, slice_eq-Decides}
 use Rattle.type_layout.specs.Sound.{are_distinct}
+use Rattle.psdl_tree.specs.declared.names.Identifier.{Identifier}
 use Rattle.psdl_tree.specs.Trees.{AbstractHomeMember, KeyMember, FactoryMember, HomeOperation, HomeMember, PlainKey, PrimaryKey, HomeFactory}
 use Rattle.psdl_directory.specs.Declarations.{What, IsModule, IsConstant, IsAlias, IsStruct, IsEnumeration, IsEnumerator, IsAbstractType, IsConcreteType, IsAbstractHome, IsConcreteHome, IsCatalog, Declaration}
-use Rattle.psdl_directory.specs.Parts.{abstract_key, abstract_factory, concrete_key, concrete_factory}
+use Rattle.psdl_directory.specs.Parts.{abstract_key, abstract_factory, concrete_key, concrete_factory, keys, factories}
 use Rattle.psdl_directory.specs.Lookup.{at, nothing, lower}
-use Rattle.psdl_lineage.specs.Descent.{ancestry, Listed, same_list, same_listed, without_repeats, listed_key, listed_factory}
+use Rattle.psdl_lineage.specs.Descent.{ancestry, Listed, same_list, same_listed, without_repeats}
 use Rattle.psdl_lineage.specs.Graph.{graph_of, ancestry_in}
 use Rattle.psdl_lineage.specs.Sources.{is_own, sources_in}
 use Rattle.psdl_lineage.proofs.Inherited.{inherited}
@@ -22,9 +24,9 @@ use Rattle.psdl_members.specs.declared.list_kind.ListKind.TheVariants as kinds
 use Rattle.psdl_members.specs.declared.listed.Listed.{Listed as ListedNode}
 use Rattle.psdl_members.specs.declared.rows.Rows.{Rows}
 use Rattle.psdl_members.specs.Clashes.{lists_clash}
-use Rattle.psdl_members.specs.Listings.{listed_views, lists_of, home_lists}
+use Rattle.psdl_members.specs.Listings.{listed_views, identifiers_of_each, identifiers_of, lists_of, home_lists}
 use Rattle.psdl_members.specs.inner.Clashing.{some_clash, entries_clash, ClashAlike}
-use Rattle.psdl_members.specs.inner.Listing.{of_abstract, of_concrete, listed_in, own_lists}
+use Rattle.psdl_members.specs.inner.Listing.{Whole, whole_view, whole_views, whole_key, whole_factory, of_abstract, of_concrete, whole_in, listed_of, listed_in, own_lists}
 use Rattle.psdl_members.specs.inner.Rowed.{row_of}
 use Rattle.psdl_members.proofs.Pairs.{clash_is, repeats_clash, both, and_false}
 use Rattle.psdl_members.proofs.Rowing.{flat_same}
@@ -35,57 +37,80 @@ length-listed (l ∷ ls) = omega (arith, length-listed ls)
 
 -- ---- in bodies
 
-abstract_keys : (ms : List AbstractHomeMember) → flat_map (of_abstract kinds.Key) ms ≡ map listed_key (flat_map abstract_key ms)
+abstract_keys : (ms : List AbstractHomeMember) → flat_map (of_abstract kinds.Key) ms ≡ map whole_key (flat_map abstract_key ms)
 abstract_keys [] = refl
-abstract_keys (KeyMember key ∷ ms) = ap (λ (l : List Listed). listed_key key ∷ l) (abstract_keys ms)
+abstract_keys (KeyMember key ∷ ms) = ap (λ (l : List Whole). whole_key key ∷ l) (abstract_keys ms)
 abstract_keys (FactoryMember factory ∷ ms) = abstract_keys ms
 abstract_keys (HomeOperation operation ∷ ms) = abstract_keys ms
 
-concrete_keys : (ms : List HomeMember) → flat_map (of_concrete kinds.Key) ms ≡ map listed_key (flat_map concrete_key ms)
+concrete_keys : (ms : List HomeMember) → flat_map (of_concrete kinds.Key) ms ≡ map whole_key (flat_map concrete_key ms)
 concrete_keys [] = refl
-concrete_keys (PlainKey key ∷ ms) = ap (λ (l : List Listed). listed_key key ∷ l) (concrete_keys ms)
-concrete_keys (PrimaryKey key ∷ ms) = ap (λ (l : List Listed). listed_key key ∷ l) (concrete_keys ms)
+concrete_keys (PlainKey key ∷ ms) = ap (λ (l : List Whole). whole_key key ∷ l) (concrete_keys ms)
+concrete_keys (PrimaryKey key ∷ ms) = ap (λ (l : List Whole). whole_key key ∷ l) (concrete_keys ms)
 concrete_keys (HomeFactory factory ∷ ms) = concrete_keys ms
 
-abstract_factories : (ms : List AbstractHomeMember) → flat_map (of_abstract kinds.Factory) ms ≡ map listed_factory (flat_map abstract_factory ms)
+abstract_factories : (ms : List AbstractHomeMember) → flat_map (of_abstract kinds.Factory) ms ≡ map whole_factory (flat_map abstract_factory ms)
 abstract_factories [] = refl
 abstract_factories (KeyMember key ∷ ms) = abstract_factories ms
-abstract_factories (FactoryMember factory ∷ ms) = ap (λ (l : List Listed). listed_factory factory ∷ l) (abstract_factories ms)
+abstract_factories (FactoryMember factory ∷ ms) = ap (λ (l : List Whole). whole_factory factory ∷ l) (abstract_factories ms)
 abstract_factories (HomeOperation operation ∷ ms) = abstract_factories ms
 
-concrete_factories : (ms : List HomeMember) → flat_map (of_concrete kinds.Factory) ms ≡ map listed_factory (flat_map concrete_factory ms)
+concrete_factories : (ms : List HomeMember) → flat_map (of_concrete kinds.Factory) ms ≡ map whole_factory (flat_map concrete_factory ms)
 concrete_factories [] = refl
 concrete_factories (PlainKey key ∷ ms) = concrete_factories ms
 concrete_factories (PrimaryKey key ∷ ms) = concrete_factories ms
-concrete_factories (HomeFactory factory ∷ ms) = ap (λ (l : List Listed). listed_factory factory ∷ l) (concrete_factories ms)
+concrete_factories (HomeFactory factory ∷ ms) = ap (λ (l : List Whole). whole_factory factory ∷ l) (concrete_factories ms)
+
+whole_keys : (what : What) → whole_in kinds.Key what ≡ map whole_key (keys what)
+whole_keys (IsAbstractHome (Some body)) = abstract_keys body.members
+whole_keys (IsAbstractHome None) = refl
+whole_keys (IsConcreteHome home) = concrete_keys home.members
+whole_keys IsModule = refl
+whole_keys (IsConstant constant) = refl
+whole_keys (IsAlias before spec dimensions) = refl
+whole_keys (IsStruct struct) = refl
+whole_keys (IsEnumeration enumerators) = refl
+whole_keys IsEnumerator = refl
+whole_keys (IsAbstractType body) = refl
+whole_keys (IsConcreteType body) = refl
+whole_keys (IsCatalog provisions) = refl
+
+whole_factories : (what : What) → whole_in kinds.Factory what ≡ map whole_factory (factories what)
+whole_factories (IsAbstractHome (Some body)) = abstract_factories body.members
+whole_factories (IsAbstractHome None) = refl
+whole_factories (IsConcreteHome home) = concrete_factories home.members
+whole_factories IsModule = refl
+whole_factories (IsConstant constant) = refl
+whole_factories (IsAlias before spec dimensions) = refl
+whole_factories (IsStruct struct) = refl
+whole_factories (IsEnumeration enumerators) = refl
+whole_factories IsEnumerator = refl
+whole_factories (IsAbstractType body) = refl
+whole_factories (IsConcreteType body) = refl
+whole_factories (IsCatalog provisions) = refl
 
 pub keys_in : (what : What) → listed_in kinds.Key what ≡ lists_of kinds.Key what
-keys_in (IsAbstractHome (Some body)) = abstract_keys body.members
-keys_in (IsAbstractHome None) = refl
-keys_in (IsConcreteHome home) = concrete_keys home.members
-keys_in IsModule = refl
-keys_in (IsConstant constant) = refl
-keys_in (IsAlias before spec dimensions) = refl
-keys_in (IsStruct struct) = refl
-keys_in (IsEnumeration enumerators) = refl
-keys_in IsEnumerator = refl
-keys_in (IsAbstractType body) = refl
-keys_in (IsConcreteType body) = refl
-keys_in (IsCatalog provisions) = refl
+keys_in what = ap (map listed_of) (whole_keys what) ∙ map-map listed_of whole_key (keys what)
 
 pub factories_in : (what : What) → listed_in kinds.Factory what ≡ lists_of kinds.Factory what
-factories_in (IsAbstractHome (Some body)) = abstract_factories body.members
-factories_in (IsAbstractHome None) = refl
-factories_in (IsConcreteHome home) = concrete_factories home.members
-factories_in IsModule = refl
-factories_in (IsConstant constant) = refl
-factories_in (IsAlias before spec dimensions) = refl
-factories_in (IsStruct struct) = refl
-factories_in (IsEnumeration enumerators) = refl
-factories_in IsEnumerator = refl
-factories_in (IsAbstractType body) = refl
-factories_in (IsConcreteType body) = refl
-factories_in (IsCatalog provisions) = refl
+factories_in what = ap (map listed_of) (whole_factories what) ∙ map-map listed_of whole_factory (factories what)
+
+identifiers_by : (kind : ListKind) (what : What) → map (λ (w : Whole). w.identifiers) (whole_in kind what) ≡ identifiers_of kind what
+identifiers_by kinds.Key what = ap (map (λ (w : Whole). w.identifiers)) (whole_keys what) ∙ map-map (λ (w : Whole). w.identifiers) whole_key (keys what)
+identifiers_by kinds.Factory what = ap (map (λ (w : Whole). w.identifiers)) (whole_factories what) ∙ map-map (λ (w : Whole). w.identifiers) whole_factory (factories what)
+
+-- what is taken of each of more
+taken_of_more : {X : Type 0} (f : Whole → X) (old new : List ListedNode) (more : List Whole) → whole_views new ≡ whole_views old ++ more
+    → map (λ l. f (whole_view l)) new ≡ map (λ l. f (whole_view l)) old ++ map f more
+taken_of_more {X} f old new more is =
+    sym (map-map f whole_view new) ∙ ap (map f) is ∙ map-append f (whole_views old) more ∙ ap (λ (l : List X). l ++ map f more) (map-map f whole_view old)
+
+pub listed_more : (kind : ListKind) (what : What) (old new : List ListedNode) → whole_views new ≡ whole_views old ++ whole_in kind what → listed_views new ≡ listed_views old ++ listed_in kind what
+listed_more kind what old new is = taken_of_more listed_of old new (whole_in kind what) is
+
+pub identifiers_more : (kind : ListKind) (what : What) (old new : List ListedNode) → whole_views new ≡ whole_views old ++ whole_in kind what → identifiers_of_each new ≡ identifiers_of_each old ++ identifiers_of kind what
+identifiers_more kind what old new is =
+    taken_of_more (λ (w : Whole). w.identifiers) old new (whole_in kind what) is ∙ ap (λ (l : List (List Identifier)). identifiers_of_each old ++ l) (identifiers_by kind what)
 
 pub no_lists : (kind : ListKind) (all : List Declaration) (n : ℕ) → length all ≤ n → own_lists kind all n ≡ []
 no_lists kind all n past = ap (λ (d : Declaration). listed_in kind d.what) (get_or_past all n nothing past)

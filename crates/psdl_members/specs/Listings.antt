@@ -2,7 +2,7 @@
 use Rattle.std.specs.Prelude.{ℕ, List, map, ◌++◌}
 use Rattle.psdl_tree.specs.declared.names.Identifier.{Identifier}
 use Rattle.psdl_directory.specs.Declarations.{What, Declaration}
-use Rattle.psdl_directory.specs.Parts.{keys, factories}
+use Rattle.psdl_directory.specs.Parts.{keys, factories, key_list, factory_list}
 use Rattle.psdl_lineage.specs.Descent.{Listed, names_of, listed_key, listed_factory, home_keys, home_factories}
 use Rattle.psdl_members.specs.declared.listed.Listed.{Listed as ListedNode}
 use Rattle.psdl_members.specs.declared.list_kind.ListKind.{ListKind}
@@ -18,10 +18,19 @@ listed_view l = record { name = l.name.now.name; members = names_of (identifiers
 abbrev pub listed_views : List ListedNode → List Listed
 listed_views ls = map listed_view ls
 
+-- the list of each
+abbrev pub identifiers_of_each : List ListedNode → List (List Identifier)
+identifiers_of_each ls = map identifiers_in ls
+
 -- those in the body of a declaration
 abbrev pub lists_of : ListKind → What → List Listed
 lists_of kinds.Key what = map listed_key (keys what)
 lists_of kinds.Factory what = map listed_factory (factories what)
+
+-- their identifiers
+abbrev pub identifiers_of : ListKind → What → List (List Identifier)
+identifiers_of kinds.Key what = map key_list (keys what)
+identifiers_of kinds.Factory what = map factory_list (factories what)
 
 -- those of a home, its own and by descent
 abbrev pub home_lists : ListKind → List Declaration → ℕ → List Listed

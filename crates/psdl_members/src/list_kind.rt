@@ -13,12 +13,11 @@ impl ListKind {
     ghost use Rattle.std.specs.Prelude.{◌≡◌, option_map};
     ghost use Rattle.std.specs.Option.{option_to_list};
     ghost use Rattle.psdl_tree.specs.Views.{key_view, factory_view};
-    ghost use Rattle.psdl_members.specs.Listings.{listed_view};
-    ghost use Rattle.psdl_members.specs.inner.Listing.{of_key, of_factory};
+    ghost use Rattle.psdl_members.specs.inner.Listing.{whole_view, of_key, of_factory};
 
     /// A key, where keys are asked for.
     pub(crate) fn key<'d>(self, key: &'d Key) -> Option<Listed<'d>>
-        ensures { option_to_list (option_map listed_view result) ≡ of_key self (key_view key.now) }
+        ensures { option_to_list (option_map whole_view result) ≡ of_key self (key_view key.now) }
     {
         match self {
             ListKind::Key => Some(of_key(key)),
@@ -28,7 +27,7 @@ impl ListKind {
 
     /// A factory, where factories are asked for.
     pub(crate) fn factory<'d>(self, factory: &'d Factory) -> Option<Listed<'d>>
-        ensures { option_to_list (option_map listed_view result) ≡ of_factory self (factory_view factory.now) }
+        ensures { option_to_list (option_map whole_view result) ≡ of_factory self (factory_view factory.now) }
     {
         match self {
             ListKind::Key => None,

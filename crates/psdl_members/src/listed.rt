@@ -1,9 +1,7 @@
 // Keys and factories.
 ghost use Rattle.std.specs.Prelude.{◌≡◌};
 ghost use Rattle.psdl_tree.specs.Views.{key_view, factory_view};
-ghost use Rattle.psdl_directory.specs.Parts as parts;
-ghost use Rattle.psdl_lineage.specs.Descent as descent;
-ghost use Rattle.psdl_members.specs.Listings.{listed_view, identifiers_in};
+ghost use Rattle.psdl_members.specs.inner.Listing.{whole_view, whole_key, whole_factory};
 
 use psdl_tree::{Factory, Identifier, Key};
 use std::slice;
@@ -19,8 +17,7 @@ pub struct Listed<'d> {
 
 /// A key without a list has its own name as list.
 pub(crate) fn of_key(key: &Key) -> Listed<'_>
-    ensures listed { listed_view result ≡ descent.listed_key (key_view key.now) }
-    ensures list { identifiers_in result ≡ parts.key_list (key_view key.now) }
+    ensures { whole_view result ≡ whole_key (key_view key.now) }
 {
     match &key.members {
         Some(members) => Listed {
@@ -37,8 +34,7 @@ pub(crate) fn of_key(key: &Key) -> Listed<'_>
 }
 
 pub(crate) fn of_factory(factory: &Factory) -> Listed<'_>
-    ensures listed { listed_view result ≡ descent.listed_factory (factory_view factory.now) }
-    ensures list { identifiers_in result ≡ parts.factory_list (factory_view factory.now) }
+    ensures { whole_view result ≡ whole_factory (factory_view factory.now) }
 {
     match &factory.members {
         Some(members) => Listed {

@@ -4,8 +4,8 @@ ghost use Rattle.std.specs.List.{flat_map};
 ghost use Rattle.std.specs.Option.{option_to_list};
 ghost use Rattle.psdl_tree.specs.Views.{abstract_home_member_view, home_member_view};
 ghost use Rattle.psdl_directory.specs.inner.Nodes.{what_view};
-ghost use Rattle.psdl_members.specs.Listings.{listed_view, listed_views};
-ghost use Rattle.psdl_members.specs.inner.Listing.{of_abstract as of_abstract_member, of_concrete as of_concrete_member, listed_in};
+ghost use Rattle.psdl_members.specs.Listings.{listed_views, identifiers_of_each, identifiers_of};
+ghost use Rattle.psdl_members.specs.inner.Listing.{whole_view, whole_views, of_abstract as of_abstract_member, of_concrete as of_concrete_member, whole_in, listed_in};
 
 use crate::list_kind::ListKind;
 use crate::listed::Listed;
@@ -14,7 +14,7 @@ use psdl_tree::{AbstractHomeMember, HomeMember};
 use pss_base::NoMemory;
 
 fn add<'d>(found: &mut Vec<Listed<'d>>, listed: Option<Listed<'d>>) -> Result<(), NoMemory>
-    ensures { OnOk result (listed_views found.new.items ≡ listed_views found.old.items ++ option_to_list (option_map listed_view listed.entry)) }
+    ensures { OnOk result (whole_views found.new.items ≡ whole_views found.old.items ++ option_to_list (option_map whole_view listed.entry)) }
 {
     match listed {
         Some(one) => {
@@ -26,7 +26,7 @@ fn add<'d>(found: &mut Vec<Listed<'d>>, listed: Option<Listed<'d>>) -> Result<()
 }
 
 fn of_abstract<'d>(kind: ListKind, member: &'d AbstractHomeMember) -> Option<Listed<'d>>
-    ensures { option_to_list (option_map listed_view result) ≡ of_abstract_member kind (abstract_home_member_view member.now) }
+    ensures { option_to_list (option_map whole_view result) ≡ of_abstract_member kind (abstract_home_member_view member.now) }
 {
     match member {
         AbstractHomeMember::Key(key) => kind.key(key),
@@ -40,7 +40,7 @@ fn add_abstract<'d>(
     kind: ListKind,
     members: &'d [AbstractHomeMember],
 ) -> Result<(), NoMemory>
-    ensures { OnOk result (listed_views found.new.items ≡ listed_views found.old.items ++ flat_map (of_abstract_member kind) (map abstract_home_member_view members.now)) }
+    ensures { OnOk result (whole_views found.new.items ≡ whole_views found.old.items ++ flat_map (of_abstract_member kind) (map abstract_home_member_view members.now)) }
 {
     for member in members {
         add(found, of_abstract(kind, member))?;
@@ -49,7 +49,7 @@ fn add_abstract<'d>(
 }
 
 fn of_concrete<'d>(kind: ListKind, member: &'d HomeMember) -> Option<Listed<'d>>
-    ensures { option_to_list (option_map listed_view result) ≡ of_concrete_member kind (home_member_view member.now) }
+    ensures { option_to_list (option_map whole_view result) ≡ of_concrete_member kind (home_member_view member.now) }
 {
     match member {
         HomeMember::Key(key) => kind.key(key),
@@ -63,12 +63,26 @@ fn add_concrete<'d>(
     kind: ListKind,
     members: &'d [HomeMember],
 ) -> Result<(), NoMemory>
-    ensures { OnOk result (listed_views found.new.items ≡ listed_views found.old.items ++ flat_map (of_concrete_member kind) (map home_member_view members.now)) }
+    ensures { OnOk result (whole_views found.new.items ≡ whole_views found.old.items ++ flat_map (of_concrete_member kind) (map home_member_view members.now)) }
 {
     for member in members {
         add(found, of_concrete(kind, member))?;
     }
     Ok(())
+}
+
+fn add_of_home<'d>(
+    found: &mut Vec<Listed<'d>>,
+    kind: ListKind,
+    what: What<'d>,
+) -> Result<(), NoMemory>
+    ensures { OnOk result (whole_views found.new.items ≡ whole_views found.old.items ++ whole_in kind (what_view what.entry)) }
+{
+    match what {
+        What::AbstractHome(Some(body)) => add_abstract(found, kind, &body.members),
+        What::ConcreteHome(home) => add_concrete(found, kind, &home.members),
+        _ => Ok(()),
+    }
 }
 
 /// Adds the keys, or the factories, that a home has in its body. Without memory nothing is said of what was found.
@@ -77,11 +91,9 @@ pub fn add_lists<'d>(
     kind: ListKind,
     what: What<'d>,
 ) -> Result<(), NoMemory>
-    ensures { OnOk result (listed_views found.new.items ≡ listed_views found.old.items ++ listed_in kind (what_view what.entry)) }
+    ensures listed { OnOk result (listed_views found.new.items ≡ listed_views found.old.items ++ listed_in kind (what_view what.entry)) }
+    ensures identifiers { OnOk result (identifiers_of_each found.new.items ≡ identifiers_of_each found.old.items ++ identifiers_of kind (what_view what.entry)) }
 {
-    match what {
-        What::AbstractHome(Some(body)) => add_abstract(found, kind, &body.members),
-        What::ConcreteHome(home) => add_concrete(found, kind, &home.members),
-        _ => Ok(()),
-    }
+    add_of_home(found, kind, what)?;
+    Ok(())
 }

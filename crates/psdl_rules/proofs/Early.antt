@@ -2,7 +2,6 @@
 use Rattle.std.proofs.Common.{◌≡◌, List, [], ◌∷◌, ◌++◌, Bool, true, false, ◌||◌, not, Option, Some, None, refl, ap, ◌∙◌}
 use Rattle.std.specs.List.{flat_map, list_any, find}
 use Rattle.psdl_tree.specs.declared.names.Identifier.{Identifier}
-use Rattle.psdl_tree.specs.Trees.{Key, Factory}
 use Rattle.type_layout.specs.Schemas.{given}
 use Rattle.pss_base.specs.declared.place.Place.{Place}
 use Rattle.psdl_directory.specs.declared.fault.CheckFault.{CheckFault}
@@ -11,13 +10,12 @@ use Rattle.psdl_directory.specs.declared.fault.CheckKind.TheVariants.{KeyMember,
 use Rattle.psdl_directory.specs.Declarations.{Declaration}
 use Rattle.psdl_directory.specs.Fault.{is_before, fault, fault_if}
 use Rattle.psdl_directory.specs.Noting.{noting, comes_first}
-use Rattle.psdl_directory.specs.Parts.{key_list, factory_list}
 use Rattle.psdl_directory.proofs.Noting.{noting-append, late, not_after_both, not_after_alike}
 use Rattle.psdl_lineage.specs.Descent.{StateMember}
 use Rattle.psdl_standings.specs.Standings.{Standing}
 use Rattle.psdl_rules.specs.Words.{is_called, same_name, listed_wrong}
 use Rattle.psdl_rules.specs.Faults.KeyType.{is_compound, keyed_wrong}
-use Rattle.psdl_rules.specs.inner.Early.{is_early, key_early, factory_early}
+use Rattle.psdl_rules.specs.inner.Early.{is_early, list_early}
 use Rattle.psdl_rules.specs.inner.Listing.{listed_faults}
 
 -- the kinds of the faults of lists, in their order
@@ -76,25 +74,20 @@ pub late_keyed : (all : List Declaration) (done : List Standing) (first : Option
     → noting first (flat_map (keyed_wrong all done ms) is) ≡ first
 late_keyed all done first ms is h = late_all first (is_early first) (keyed_wrong all done ms) (late_keyed_one all done first ms) is h
 
-late_key_members : (first : Option CheckFault) (ms : List StateMember) (keys : List Key) → list_any (key_early first) keys ≡ false → noting first (flat_map (λ k. listed_wrong KeyMember ms [] (key_list k)) keys) ≡ first
-late_key_members first ms keys h = late_all first (key_early first) (λ k. listed_wrong KeyMember ms [] (key_list k)) (λ k e. late_listed first KeyMember ms [] (key_list k) no_key_members e) keys h
-
-late_key_types : (all : List Declaration) (done : List Standing) (first : Option CheckFault) (ms : List StateMember) (keys : List Key) → list_any (key_early first) keys ≡ false
-    → noting first (flat_map (λ k. flat_map (keyed_wrong all done ms) (key_list k)) keys) ≡ first
-late_key_types all done first ms keys h = late_all first (key_early first) (λ k. flat_map (keyed_wrong all done ms) (key_list k)) (λ k e. late_keyed all done first ms (key_list k) e) keys h
-
-late_factories : (first : Option CheckFault) (ms : List StateMember) (factories : List Factory) → list_any (factory_early first) factories ≡ false
-    → noting first (flat_map (λ f. listed_wrong FactoryMember ms [] (factory_list f)) factories) ≡ first
-late_factories first ms factories h = late_all first (factory_early first) (λ f. listed_wrong FactoryMember ms [] (factory_list f)) (λ f e. late_listed first FactoryMember ms [] (factory_list f) no_factory_members e) factories h
+late_lists_of : (first : Option CheckFault) (kind : CheckKind) (ms : List StateMember) (lists : List (List Identifier)) → is_before kind KeyMember ≡ false → list_any (list_early first) lists ≡ false
+    → noting first (flat_map (listed_wrong kind ms []) lists) ≡ first
+late_lists_of first kind ms lists behind h = late_all first (list_early first) (listed_wrong kind ms []) (λ list e. late_listed first kind ms [] list behind e) lists h
 
 -- the lists of a home
-pub late_lists : (all : List Declaration) (done : List Standing) (first : Option CheckFault) (ms : List StateMember) (keys : List Key) (factories : List Factory)
-    → (list_any (key_early first) keys || list_any (factory_early first) factories) ≡ false → noting first (listed_faults all done ms keys factories) ≡ first
+pub late_lists : (all : List Declaration) (done : List Standing) (first : Option CheckFault) (ms : List StateMember) (keys factories : List (List Identifier))
+    → (list_any (list_early first) keys || list_any (list_early first) factories) ≡ false → noting first (listed_faults all done ms keys factories) ≡ first
 late_lists all done first ms keys factories h =
-    let both = either (list_any (key_early first) keys) (list_any (factory_early first) factories) h in
-    let a = flat_map (λ k. listed_wrong KeyMember ms [] (key_list k)) keys in
-    let b = flat_map (λ k. flat_map (keyed_wrong all done ms) (key_list k)) keys in
-    let c = flat_map (λ f. listed_wrong FactoryMember ms [] (factory_list f)) factories in
+    let both = either (list_any (list_early first) keys) (list_any (list_early first) factories) h in
+    let a = flat_map (listed_wrong KeyMember ms []) keys in
+    let b = flat_map (flat_map (keyed_wrong all done ms)) keys in
+    let c = flat_map (listed_wrong FactoryMember ms []) factories in
     noting-append first (a ++ b) c
-    ∙ ap (λ (o : Option CheckFault). noting o c) (noting-append first a b ∙ ap (λ (o : Option CheckFault). noting o b) (late_key_members first ms keys both.0) ∙ late_key_types all done first ms keys both.0)
-    ∙ late_factories first ms factories both.1
+    ∙ ap (λ (o : Option CheckFault). noting o c)
+    (noting-append first a b ∙ ap (λ (o : Option CheckFault). noting o b) (late_lists_of first KeyMember ms keys no_key_members both.0)
+    ∙ late_all first (list_early first) (flat_map (keyed_wrong all done ms)) (λ list e. late_keyed all done first ms list e) keys both.0)
+    ∙ late_lists_of first FactoryMember ms factories no_factory_members both.1

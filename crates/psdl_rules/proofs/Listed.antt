@@ -1,8 +1,8 @@
 -- Lists of identifiers that name no member, or one twice, or one that may not be keyed.
-use Rattle.std.proofs.Common.{◌≡◌, ℕ, zero, suc, ◌+◌, ◌<◌, ◌≤◌, List, [], ◌∷◌, Bor, length, get_or, drop, map, Bool, true, false, cond, not, ◌||◌, Option, Some, None, refl, sym, ap, ◌∙◌, arith, add-one, drop-cons}
+use Rattle.std.proofs.Common.{◌≡◌, ℕ, zero, suc, ◌+◌, ◌<◌, ◌≤◌, List, [], ◌∷◌, ◌++◌, length, get_or, take, drop, map, Bool, true, false, cond, not, ◌||◌, Option, Some, None, refl, sym, ap, ◌∙◌, arith, add-one, drop-cons}
 use Rattle.std.specs.List.{list_any, find, position_from}
 use Rattle.std.specs.Str.{bytes_eq}
-use Rattle.std.proofs.lemmas.List.{drop_all, get_or-map}
+use Rattle.std.proofs.lemmas.List.{append_assoc, drop_all, take_all, get_or-map}
 use Rattle.psdl_tree.specs.declared.names.Identifier.{Identifier}
 use Rattle.type_layout.specs.Keys.{may_be_keyed}
 use Rattle.type_layout.specs.Schemas.{given}
@@ -22,37 +22,64 @@ use Rattle.psdl_rules.specs.Layouts.{member_type}
 use Rattle.psdl_rules.specs.Words.{is_called, same_name, listed_wrong}
 use Rattle.psdl_rules.specs.Faults.KeyType.{keyed_wrong}
 use Rattle.psdl_rules.specs.inner.Listing.{type_faults}
+use Rattle.psdl_rules.specs.inner.Scopes.{behind}
 use Rattle.psdl_rules.specs.inner.Typed.{AreTypes, default_types}
-use Rattle.psdl_rules.proofs.Noted.{before, before_more}
 
 -- ---- identifier by identifier
 
-pub spelled_step : (xs : List (Bor Identifier)) (i : ℕ) (x : Bor Identifier) (old new : List ℕ → Bool) → i < length xs → x ≡ get_or xs i x
-    → ((q : List ℕ) → old q ≡ list_any (λ (j : Identifier). bytes_eq q j.name) (before xs i)) → ((q : List ℕ) → new q ≡ bytes_eq q x.now.name || old q)
-    → (q : List ℕ) → new q ≡ list_any (λ (j : Identifier). bytes_eq q j.name) (before xs (i + 1))
-spelled_step xs i x old new lt at so_far more q =
-    more q ∙ ap (λ (b : Bool). bytes_eq q x.now.name || b) (so_far q) ∙ ap (λ (l : List Identifier). list_any (λ (j : Identifier). bytes_eq q j.name) l) (sym (before_more xs i x lt at))
+behind_more : (earlier xs : List Identifier) (i : ℕ) (x : Identifier) → i < length xs → x ≡ get_or xs i x → behind earlier (take (suc i) xs) ≡ x ∷ behind earlier (take i xs)
+behind_more earlier [] i x lt at = absurd (omega (arith, lt))
+behind_more earlier (y ∷ ys) zero x lt at = ap (λ (z : Identifier). z ∷ earlier) (sym at)
+behind_more earlier (y ∷ ys) (suc i) x lt at = behind_more (y ∷ earlier) ys i x (omega (arith, lt)) at
 
-pub listed_step : (kind : CheckKind) (ms : List StateMember) (xs : List (Bor Identifier)) (i : ℕ) (x : Bor Identifier) (old : List ℕ → Bool) (now new total : Option CheckFault) → i < length xs → x ≡ get_or xs i x
-    → ((q : List ℕ) → old q ≡ list_any (λ (j : Identifier). bytes_eq q j.name) (before xs i))
-    → noting now (listed_wrong kind ms (before xs i) (map (λ (y : Bor Identifier). y.now) (drop i xs))) ≡ total
-    → new ≡ noting now (fault_if (not (list_any (is_called x.now) ms) || old x.now.name) kind x.now.place)
-    → noting new (listed_wrong kind ms (before xs (i + 1)) (map (λ (y : Bor Identifier). y.now) (drop (i + 1) xs))) ≡ total
-listed_step kind ms xs i x old now new total lt at noted so_far is =
-    let view : Bor Identifier → Identifier = λ y. y.now in
-    let rest : List Identifier = map view (drop (i + 1) xs) in
-    let own : List CheckFault = fault_if (not (list_any (is_called x.now) ms) || list_any (same_name x.now) (before xs i)) kind x.now.place in
-    let cut : drop i xs ≡ x ∷ drop (i + 1) xs = rw (add-one, drop-cons xs i x) (ap (λ (y : Bor Identifier). y ∷ drop (suc i) xs) (sym at)) in
-    let test : new ≡ noting now own = is ∙ ap (λ (b : Bool). noting now (fault_if (not (list_any (is_called x.now) ms) || b) kind x.now.place)) (noted x.now.name) in
-    ap (λ (o : Option CheckFault). noting o (listed_wrong kind ms (before xs (i + 1)) rest)) test
-    ∙ ap (λ (l : List Identifier). noting (noting now own) (listed_wrong kind ms l rest)) (before_more xs i x lt at)
-    ∙ sym (noting-append now own (listed_wrong kind ms (x.now ∷ before xs i) rest))
-    ∙ sym (ap (λ (l : List (Bor Identifier)). noting now (listed_wrong kind ms (before xs i) (map view l))) cut)
+behind_next : (earlier xs : List Identifier) (i : ℕ) (x : Identifier) → i < length xs → x ≡ get_or xs i x → behind earlier (take (i + 1) xs) ≡ x ∷ behind earlier (take i xs)
+behind_next earlier xs i x lt at = rw add-one (behind_more earlier xs i x lt at)
+
+pub spelled_step : (earlier xs : List Identifier) (i : ℕ) (x : Identifier) (old new : List ℕ → Bool) → i < length xs → x ≡ get_or xs i x
+    → ((q : List ℕ) → old q ≡ list_any (λ (j : Identifier). bytes_eq q j.name) (behind earlier (take i xs))) → ((q : List ℕ) → new q ≡ bytes_eq q x.name || old q)
+    → (q : List ℕ) → new q ≡ list_any (λ (j : Identifier). bytes_eq q j.name) (behind earlier (take (i + 1) xs))
+spelled_step earlier xs i x old new lt at so_far more q =
+    more q ∙ ap (λ (b : Bool). bytes_eq q x.name || b) (so_far q) ∙ ap (λ (l : List Identifier). list_any (λ (j : Identifier). bytes_eq q j.name) l) (sym (behind_next earlier xs i x lt at))
+
+pub spelled_end : (earlier xs : List Identifier) (i : ℕ) (old : List ℕ → Bool) → length xs ≤ i → ((q : List ℕ) → old q ≡ list_any (λ (j : Identifier). bytes_eq q j.name) (behind earlier (take i xs)))
+    → (q : List ℕ) → old q ≡ list_any (λ (j : Identifier). bytes_eq q j.name) (behind earlier xs)
+spelled_end earlier xs i old le so_far q = so_far q ∙ ap (λ (l : List Identifier). list_any (λ (j : Identifier). bytes_eq q j.name) (behind earlier l)) (take_all i xs le)
+
+pub listed_step : (kind : CheckKind) (ms : List StateMember) (earlier xs : List Identifier) (i : ℕ) (x : Identifier) (old : List ℕ → Bool) (now new total : Option CheckFault) → i < length xs → x ≡ get_or xs i x
+    → ((q : List ℕ) → old q ≡ list_any (λ (j : Identifier). bytes_eq q j.name) (behind earlier (take i xs)))
+    → noting now (listed_wrong kind ms (behind earlier (take i xs)) (drop i xs)) ≡ total
+    → new ≡ noting now (fault_if (not (list_any (is_called x) ms) || old x.name) kind x.place)
+    → noting new (listed_wrong kind ms (behind earlier (take (i + 1) xs)) (drop (i + 1) xs)) ≡ total
+listed_step kind ms earlier xs i x old now new total lt at noted so_far is =
+    let front : List Identifier = behind earlier (take i xs) in
+    let rest : List Identifier = drop (i + 1) xs in
+    let own : List CheckFault = fault_if (not (list_any (is_called x) ms) || list_any (same_name x) front) kind x.place in
+    let cut : drop i xs ≡ x ∷ drop (i + 1) xs = rw (add-one, drop-cons xs i x) (ap (λ (y : Identifier). y ∷ drop (suc i) xs) (sym at)) in
+    let test : new ≡ noting now own = is ∙ ap (λ (b : Bool). noting now (fault_if (not (list_any (is_called x) ms) || b) kind x.place)) (noted x.name) in
+    ap (λ (o : Option CheckFault). noting o (listed_wrong kind ms (behind earlier (take (i + 1) xs)) rest)) test
+    ∙ ap (λ (l : List Identifier). noting (noting now own) (listed_wrong kind ms l rest)) (behind_next earlier xs i x lt at)
+    ∙ sym (noting-append now own (listed_wrong kind ms (x ∷ front) rest))
+    ∙ sym (ap (λ (l : List Identifier). noting now (listed_wrong kind ms front l)) cut)
     ∙ so_far
 
-pub listed_end : (kind : CheckKind) (ms : List StateMember) (xs : List (Bor Identifier)) (i : ℕ) (now total : Option CheckFault) → length xs ≤ i
-    → noting now (listed_wrong kind ms (before xs i) (map (λ (y : Bor Identifier). y.now) (drop i xs))) ≡ total → now ≡ total
-listed_end kind ms xs i now total le so_far = sym (ap (λ (l : List (Bor Identifier)). noting now (listed_wrong kind ms (before xs i) (map (λ (y : Bor Identifier). y.now) l))) (drop_all i xs le)) ∙ so_far
+pub listed_end : (kind : CheckKind) (ms : List StateMember) (front xs : List Identifier) (i : ℕ) (now total : Option CheckFault) → length xs ≤ i → noting now (listed_wrong kind ms front (drop i xs)) ≡ total → now ≡ total
+listed_end kind ms front xs i now total le so_far = sym (ap (λ (l : List Identifier). noting now (listed_wrong kind ms front l)) (drop_all i xs le)) ∙ so_far
+
+-- ---- a list in two parts
+
+two_parts : (kind : CheckKind) (ms : List StateMember) (earlier xs ys : List Identifier) → listed_wrong kind ms earlier (xs ++ ys) ≡ listed_wrong kind ms earlier xs ++ listed_wrong kind ms (behind earlier xs) ys
+two_parts kind ms earlier [] ys = refl
+two_parts kind ms earlier (x ∷ xs) ys =
+    let own : List CheckFault = fault_if (not (list_any (is_called x) ms) || list_any (same_name x) earlier) kind x.place in
+    ap (λ (l : List CheckFault). own ++ l) (two_parts kind ms (x ∷ earlier) xs ys)
+    ∙ sym (append_assoc own (listed_wrong kind ms (x ∷ earlier) xs) (listed_wrong kind ms (behind (x ∷ earlier) xs) ys))
+
+pub both_parts : (kind : CheckKind) (ms : List StateMember) (xs ys : List Identifier) (old middle new : Option CheckFault) → middle ≡ noting old (listed_wrong kind ms [] xs)
+    → new ≡ noting middle (listed_wrong kind ms (behind [] xs) ys) → new ≡ noting old (listed_wrong kind ms [] (xs ++ ys))
+both_parts kind ms xs ys old middle new first second =
+    second ∙ ap (λ (o : Option CheckFault). noting o (listed_wrong kind ms (behind [] xs) ys)) first
+    ∙ sym (noting-append old (listed_wrong kind ms [] xs) (listed_wrong kind ms (behind [] xs) ys))
+    ∙ sym (ap (λ (l : List CheckFault). noting old l) (two_parts kind ms [] xs ys))
 
 -- ---- what stands at the first place
 

@@ -1,6 +1,6 @@
 -- Names that are noted one after the other.
 use Rattle.std.proofs.Common.{◌≡◌, ℕ, zero, suc, arith, ◌+◌, ◌<◌, ◌≤◌, List, [], ◌∷◌, ◌++◌, Bor, length, get_or, take, drop, map, reverse, Bool, true, false, not, ◌||◌, Option, Ordering, refl, sym, ap, ◌∙◌, add-one, drop-cons}
-use Rattle.std.specs.BTreeSet.{BTreeSet, Updates}
+use Rattle.std.specs.BTreeSet.{BTreeSet, IsEmpty, Updates}
 use Rattle.std.specs.Cmp.Lexicographic.{slice_cmp}
 use Rattle.std.specs.List.{list_any}
 use Rattle.std.specs.Ordering.{is_eq, nat_cmp}
@@ -42,6 +42,11 @@ any_at test view [] i x lt at h = absurd (omega (arith, lt))
 any_at {X} test view (y ∷ ys) zero x lt at h = sym (ap (λ (b : Bool). b || list_any test (map view ys)) (ap (λ (z : X). test (view z)) (sym at) ∙ h))
 any_at test view (y ∷ ys) (suc i) x lt at h = or_is (test (view y)) (list_any test (map view ys)) (any_at test view ys i x (omega (arith, lt)) at h)
 
+pub any_there : {X : Type 0} (test : X → Bool) (xs : List X) (i : ℕ) (x : X) → i < length xs → x ≡ get_or xs i x → test x ≡ true → true ≡ list_any test xs
+any_there test [] i x lt at h = absurd (omega (arith, lt))
+any_there {X} test (y ∷ ys) zero x lt at h = sym (ap (λ (b : Bool). b || list_any test ys) (ap test (sym at) ∙ h))
+any_there test (y ∷ ys) (suc i) x lt at h = or_is (test y) (list_any test ys) (any_there test ys i x (omega (arith, lt)) at h)
+
 pub not_not : (b : Bool) → not (not b) ≡ b
 not_not true = refl
 not_not false = refl
@@ -60,6 +65,9 @@ by_test P false f g = g refl
 
 abbrev by_items : {Z : Type 0} → Vec ℕ Z → Vec ℕ Z → Ordering
 by_items x y = slice_cmp nat_cmp x.items y.items
+
+pub none_named : {Z : Type 0} (names : BTreeSet (Vec ℕ Z)) → IsEmpty names → (q : List ℕ) → has_name names q ≡ false
+none_named {Z} names empty q = ap (λ (ks : List (Vec ℕ Z)). list_any (λ k. is_eq (slice_cmp nat_cmp q k.items)) ks) empty
 
 -- a name is there, or it was
 pub entered : {Z : Type 0} (old new : BTreeSet (Vec ℕ Z)) (key : Vec ℕ Z) → Updates by_items old new key true → (q : List ℕ) → has_name new q ≡ bytes_eq q key.items || has_name old q

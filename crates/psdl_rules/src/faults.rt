@@ -11,14 +11,13 @@ ghost use Rattle.psdl_standings.specs.Standings.{standings as standings_of};
 ghost use Rattle.psdl_standings.specs.Texts.{text_of as told_of};
 
 mod cycle;
-mod factory_member;
 mod family_type;
 mod home_lists;
 mod home_type;
 mod incomplete;
-mod key_member;
 mod key_type;
 mod limit;
+mod list_member;
 mod member_clash;
 mod not_implemented;
 mod provides;

@@ -2,13 +2,10 @@
 #![tactic(auto)]
 
 mod early_lists;
-mod factories;
 mod faults;
 mod found_apart;
 mod home_types;
-mod keys;
 mod listed_members;
-mod lists;
 mod long_type;
 mod member_types;
 mod operations;

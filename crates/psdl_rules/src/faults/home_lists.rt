@@ -1,46 +1,42 @@
 // C8, C9 and C10 in one pass over the homes: the members of a home's type are listed once, and not at all where no fault of
 // its keys and factories could be the least.
-ghost use Rattle.std.specs.Prelude.{◌≡◌, ◌||◌, map, IfOk, OnOk};
+ghost use Rattle.std.specs.Prelude.{◌≡◌, ◌||◌, IfOk, OnOk};
 ghost use Rattle.std.specs.List.{list_any};
-ghost use Rattle.psdl_tree.specs.Views.{key_view, factory_view};
 ghost use Rattle.psdl_directory.specs.Fault.{each};
 ghost use Rattle.psdl_directory.specs.Lookup.{at};
 ghost use Rattle.psdl_directory.specs.Noting.{noting};
-ghost use Rattle.psdl_directory.specs.Parts as parts;
 ghost use Rattle.psdl_directory.specs.inner.Nodes.{what_view};
 ghost use Rattle.psdl_lineage.specs.Descent as descent;
 ghost use Rattle.psdl_members.specs.Bodies.{member_views};
+ghost use Rattle.psdl_members.specs.Listings.{identifiers_of_each, identifiers_of};
+ghost use Rattle.psdl_members.specs.declared.list_kind.ListKind.TheVariants as kinds;
 ghost use Rattle.psdl_members.specs.Texts.{inherited_in};
 ghost use Rattle.psdl_rules.specs.Faults as faults;
 ghost use Rattle.psdl_rules.specs.Texts.{judged};
-ghost use Rattle.psdl_rules.specs.inner.Early.{key_early, factory_early};
+ghost use Rattle.psdl_rules.specs.inner.Early.{list_early};
 ghost use Rattle.psdl_rules.specs.inner.Listing.{listed_faults};
 ghost use Rattle.psdl_rules.specs.inner.Tables.{AreTables};
 ghost use Rattle.psdl_rules.specs.inner.Typed.{AreTypes};
 ghost use Rattle.psdl_standings.specs.Standings.{standings as standings_of};
 ghost use Rattle.psdl_standings.specs.Texts.{text_of as told_of, types_in};
 
-use crate::early_lists::{factories_early, keys_early};
-use crate::factories::factories;
-use crate::faults::factory_member::all_factory_members;
-use crate::faults::key_member::all_key_members;
+use crate::early_lists::any_list_early;
 use crate::faults::key_type::all_key_types;
-use crate::keys::keys;
+use crate::faults::list_member::all_list_members;
 use crate::member_types::{member_sources, types_of_members};
 use crate::text::Text;
-use psdl_directory::{DeclarationNo, Least, What};
+use psdl_directory::{CheckKind, DeclarationNo, Least, What};
 use psdl_lineage::Sources;
-use psdl_members::{Inherited, Member};
+use psdl_members::{Inherited, ListKind, Listed, Member, add_lists};
 use psdl_standings::{Standings, StateEntry};
-use psdl_tree::{Factory, Key};
 use pss_base::NoMemory;
 use std::alloc::Global;
 
 /// The keys and the factories in the body of a home.
 #[derive(Drop)]
 pub(crate) struct Lists<'a> {
-    pub keys: Vec<&'a Key>,
-    pub factories: Vec<&'a Factory>,
+    pub keys: Vec<Listed<'a>>,
+    pub factories: Vec<Listed<'a>>,
 }
 
 /// The members of a type, and the types of these.
@@ -57,12 +53,20 @@ pub(crate) struct MemberTables<'t, 'd> {
     pub sources: Sources<'t>,
 }
 
-fn lists_of<'a>(alloc: Global, what: What<'a>) -> Result<Lists<'a>, NoMemory>
-    ensures keys { IfOk result (λ l. map (λ k. key_view k.now) l.keys.items ≡ parts.keys (what_view what.entry)) }
-    ensures factories { IfOk result (λ l. map (λ f. factory_view f.now) l.factories.items ≡ parts.factories (what_view what.entry)) }
+fn lists_in<'a>(alloc: Global, kind: ListKind, what: What<'a>) -> Result<Vec<Listed<'a>>, NoMemory>
+    ensures { IfOk result (λ v. identifiers_of_each v.items ≡ identifiers_of kind (what_view what.entry)) }
 {
-    let keys = keys(alloc, what)?;
-    let factories = factories(alloc, what)?;
+    let mut found = Vec::new(alloc);
+    add_lists(&mut found, kind, what)?;
+    Ok(found)
+}
+
+fn lists_of<'a>(alloc: Global, what: What<'a>) -> Result<Lists<'a>, NoMemory>
+    ensures keys { IfOk result (λ l. identifiers_of_each l.keys.items ≡ identifiers_of kinds.Key (what_view what.entry)) }
+    ensures factories { IfOk result (λ l. identifiers_of_each l.factories.items ≡ identifiers_of kinds.Factory (what_view what.entry)) }
+{
+    let keys = lists_in(alloc, ListKind::Key, what)?;
+    let factories = lists_in(alloc, ListKind::Factory, what)?;
     Ok(Lists { keys, factories })
 }
 
@@ -83,15 +87,14 @@ fn members_of<'d>(
 }
 
 // Whether a fault of one of these lists may be the least.
-fn lists_early(alloc: Global, least: &Least, lists: &Lists<'_>) -> Result<bool, NoMemory>
-    ensures { IfOk result (λ r. r ≡ (list_any (key_early least.now) (map (λ k. key_view k.now) lists.now.keys.items) || list_any (factory_early least.now) (map (λ f. factory_view f.now) lists.now.factories.items))) }
+fn lists_early(least: &Least, lists: &Lists<'_>) -> bool
+    ensures { result ≡ (list_any (list_early least.now) (identifiers_of_each lists.now.keys.items) || list_any (list_early least.now) (identifiers_of_each lists.now.factories.items)) }
 {
-    let keys = keys_early(alloc, least, &lists.keys)?;
+    let keys = any_list_early(least, &lists.keys);
     if keys {
-        return Ok(true);
+        return true;
     }
-    let factories = factories_early(alloc, least, &lists.factories)?;
-    Ok(factories)
+    any_list_early(least, &lists.factories)
 }
 
 // Notes what is wrong in lists, by the members of the home's type.
@@ -104,11 +107,23 @@ fn note_lists(
     least: &mut Least,
 ) -> Result<(), NoMemory>
     requires { AreTypes (told_of standings.now) (types_in standings.now) (member_views members.now.members.items) members.now.types.items }
-    ensures { OnOk result (least.new ≡ noting least.old (listed_faults (told_of standings.now) (standings_of (told_of standings.now)) (member_views members.now.members.items) (map (λ k. key_view k.now) lists.now.keys.items) (map (λ f. factory_view f.now) lists.now.factories.items))) }
+    ensures { OnOk result (least.new ≡ noting least.old (listed_faults (told_of standings.now) (standings_of (told_of standings.now)) (member_views members.now.members.items) (identifiers_of_each lists.now.keys.items) (identifiers_of_each lists.now.factories.items))) }
 {
-    all_key_members(alloc, &members.members, &lists.keys, least)?;
-    all_key_types(alloc, standings, members, &lists.keys, least)?;
-    all_factory_members(alloc, &members.members, &lists.factories, least)?;
+    all_list_members(
+        alloc,
+        CheckKind::KeyMember,
+        &members.members,
+        &lists.keys,
+        least,
+    )?;
+    all_key_types(standings, members, &lists.keys, least);
+    all_list_members(
+        alloc,
+        CheckKind::FactoryMember,
+        &members.members,
+        &lists.factories,
+        least,
+    )?;
     Ok(())
 }
 
@@ -123,9 +138,9 @@ fn lists_wrong(
 ) -> Result<(), NoMemory>
     requires { AreTables (told_of standings.now) tables.old }
     ensures same { AreTables (told_of standings.now) tables.new }
-    ensures noted { OnOk result (least.new ≡ noting least.old (listed_faults (told_of standings.now) (standings_of (told_of standings.now)) (descent.members (told_of standings.now) home_type) (map (λ k. key_view k.now) lists.now.keys.items) (map (λ f. factory_view f.now) lists.now.factories.items))) }
+    ensures noted { OnOk result (least.new ≡ noting least.old (listed_faults (told_of standings.now) (standings_of (told_of standings.now)) (descent.members (told_of standings.now) home_type) (identifiers_of_each lists.now.keys.items) (identifiers_of_each lists.now.factories.items))) }
 {
-    let early = lists_early(alloc, least, lists)?;
+    let early = lists_early(least, lists);
     if !early {
         return Ok(());
     }

@@ -1,11 +1,10 @@
 // C9: keys whose members are structs, sequences, arrays or references.
-ghost use Rattle.std.specs.Prelude.{◌≡◌, ◌<◌, None, length, map, OnOk};
+ghost use Rattle.std.specs.Prelude.{◌≡◌, ◌<◌, None, length};
 ghost use Rattle.std.specs.List.{flat_map, position_from};
 ghost use Rattle.std.proofs.Common.{get_or};
-ghost use Rattle.psdl_tree.specs.Views.{key_view};
-ghost use Rattle.psdl_directory.specs.Parts as parts;
 ghost use Rattle.psdl_directory.specs.Noting.{noting};
 ghost use Rattle.psdl_members.specs.Bodies.{member_views};
+ghost use Rattle.psdl_members.specs.Listings.{identifiers_in, identifiers_of_each};
 ghost use Rattle.psdl_rules.specs.Words.{is_called};
 ghost use Rattle.psdl_rules.specs.Faults.KeyType.{keyed_wrong};
 ghost use Rattle.psdl_rules.specs.inner.Listing.{type_faults};
@@ -15,13 +14,10 @@ ghost use Rattle.psdl_standings.specs.Texts.{text_of as told_of, types_in};
 
 use crate::faults::home_lists::TypeMembers;
 use crate::listed_members::is_called;
-use crate::lists::key_list;
 use psdl_directory::{CheckKind, Least};
-use psdl_members::Member;
+use psdl_members::{Listed, Member};
 use psdl_standings::{Standings, StateEntry};
-use psdl_tree::{Identifier, Key};
-use pss_base::NoMemory;
-use std::alloc::Global;
+use psdl_tree::Identifier;
 
 // The place of the first member with that name.
 fn place_of(members: &[Member<'_>], identifier: &Identifier) -> Option<usize>
@@ -76,46 +72,55 @@ fn keyed_wrong(
     standings: &Standings,
     members: &[Member<'_>],
     kept: &[StateEntry],
-    identifiers: &[&Identifier],
+    identifiers: &[Identifier],
     least: &mut Least,
 )
     requires { AreTypes (told_of standings.now) (types_in standings.now) (member_views members.now) kept.now }
-    ensures { least.new ≡ noting least.old (flat_map (keyed_wrong (told_of standings.now) (standings_of (told_of standings.now)) (member_views members.now)) (map (λ i. i.now) identifiers.now)) }
+    ensures { least.new ≡ noting least.old (flat_map (keyed_wrong (told_of standings.now) (standings_of (told_of standings.now)) (member_views members.now)) identifiers.now) }
 {
     for identifier in identifiers {
         keyed_identifier(standings, members, kept, identifier, least);
     }
 }
 
+#[tactic(auto, using(crate::proofs::Parts::by_parts))]
 fn key_types(
-    alloc: Global,
     standings: &Standings,
     members: &TypeMembers<'_>,
-    key: &Key,
+    listed: &Listed<'_>,
     least: &mut Least,
-) -> Result<(), NoMemory>
+)
     requires { AreTypes (told_of standings.now) (types_in standings.now) (member_views members.now.members.items) members.now.types.items }
-    ensures { OnOk result (least.new ≡ noting least.old (flat_map (keyed_wrong (told_of standings.now) (standings_of (told_of standings.now)) (member_views members.now.members.items)) (parts.key_list (key_view key.now)))) }
+    ensures { least.new ≡ noting least.old (flat_map (keyed_wrong (told_of standings.now) (standings_of (told_of standings.now)) (member_views members.now.members.items)) (identifiers_in listed.now)) }
 {
-    let list = key_list(alloc, key)?;
-    keyed_wrong(standings, &members.members, &members.types, &list, least);
-    Ok(())
+    keyed_wrong(
+        standings,
+        &members.members,
+        &members.types,
+        listed.first,
+        least,
+    );
+    keyed_wrong(
+        standings,
+        &members.members,
+        &members.types,
+        listed.others,
+        least,
+    );
 }
 
 /// C9: a member in a key is a struct, a sequence, an array or a reference.
 #[tactic(auto, using(crate::proofs::Parts::by_parts))]
 pub(crate) fn all_key_types(
-    alloc: Global,
     standings: &Standings,
     members: &TypeMembers<'_>,
-    keys: &[&Key],
+    keys: &[Listed<'_>],
     least: &mut Least,
-) -> Result<(), NoMemory>
+)
     requires { AreTypes (told_of standings.now) (types_in standings.now) (member_views members.now.members.items) members.now.types.items }
-    ensures { OnOk result (least.new ≡ noting least.old (flat_map (λ k. flat_map (keyed_wrong (told_of standings.now) (standings_of (told_of standings.now)) (member_views members.now.members.items)) (parts.key_list k)) (map (λ k. key_view k.now) keys.now))) }
+    ensures { least.new ≡ noting least.old (flat_map (flat_map (keyed_wrong (told_of standings.now) (standings_of (told_of standings.now)) (member_views members.now.members.items))) (identifiers_of_each keys.now)) }
 {
     for key in keys {
-        key_types(alloc, standings, members, key, least)?;
+        key_types(standings, members, key, least);
     }
-    Ok(())
 }

@@ -20,7 +20,7 @@ loop-index-preserved c =
     ap (λ (w : What). listed_in c.args.kind w) (c.what.ensures ∙ ap (λ (n : ℕ). (at all n).what) c.new.ensures) in
     record {
       within = omega (arith, c.loop-index-test.true, c.len-index-end.ensures);
-      items = items_next own (listed_views c.loop-index.lists.items) (listed_in c.args.kind (what_view c.what.result)) (listed_views c.add_lists.new.found.items) c.loop-index.index c.loop-index.invariant.items here c.in_ok-add_lists.ensures;
+      items = items_next own (listed_views c.loop-index.lists.items) (listed_in c.args.kind (what_view c.what.result)) (listed_views c.add_lists.new.found.items) c.loop-index.index c.loop-index.invariant.items here c.in_ok-add_lists.ensures.listed;
       starts = starts_next own (listed_views c.loop-index.lists.items) c.loop-index.starts.items c.push.new.self.items c.len.result c.loop-index.index c.loop-index.invariant.items many c.in_ok-push.ensures.items c.loop-index.invariant.starts;
     }
 

@@ -1,9 +1,8 @@
-use Rattle.std.proofs.Common.{◌≡◌, take, map}
+use Rattle.std.proofs.Common.{◌≡◌, take}
 use Rattle.std.specs.List.{flat_map}
-use Rattle.psdl_tree.specs.Views.{key_view}
 use Rattle.psdl_directory.specs.Noting.{noting}
-use Rattle.psdl_directory.specs.Parts.{key_list}
 use Rattle.psdl_members.specs.Bodies.{member_views}
+use Rattle.psdl_members.specs.Listings.{identifiers_of_each}
 use Rattle.psdl_standings.specs.Standings.{standings}
 use Rattle.psdl_standings.specs.Texts.{text_of}
 use Rattle.psdl_rules.specs.Faults.KeyType.{keyed_wrong}
@@ -11,4 +10,4 @@ use Rattle.psdl_rules.proofs.faults.key_type.all_key_types.Given as goal
 
 abbrev pub invariant-loop-key : goal.invariant-loop-key
 invariant-loop-key l =
-    l.least ≡ noting l.initial.least (flat_map (λ k. flat_map (keyed_wrong (text_of l.standings) (standings (text_of l.standings)) (member_views l.members.members.items)) (key_list k)) (map (λ k. key_view k.now) (take l.key-index l.keys)))
+    l.least ≡ noting l.initial.least (flat_map (flat_map (keyed_wrong (text_of l.standings) (standings (text_of l.standings)) (member_views l.members.members.items))) (identifiers_of_each (take l.key-index l.keys)))

@@ -1,4 +1,4 @@
-use Rattle.std.proofs.Common.{◌≡◌, take, map}
+use Rattle.std.proofs.Common.{◌≡◌, take}
 use Rattle.std.specs.List.{flat_map}
 use Rattle.psdl_directory.specs.Noting.{noting}
 use Rattle.psdl_members.specs.Bodies.{member_views}
@@ -9,4 +9,4 @@ use Rattle.psdl_rules.proofs.faults.key_type.keyed_wrong.Given as goal
 
 abbrev pub invariant-loop-identifier : goal.invariant-loop-identifier
 invariant-loop-identifier l =
-    l.least ≡ noting l.initial.least (flat_map (keyed_wrong (text_of l.standings) (standings (text_of l.standings)) (member_views l.members)) (map (λ i. i.now) (take l.identifier-index l.identifiers)))
+    l.least ≡ noting l.initial.least (flat_map (keyed_wrong (text_of l.standings) (standings (text_of l.standings)) (member_views l.members)) (take l.identifier-index l.identifiers))

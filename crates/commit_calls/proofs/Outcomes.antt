@@ -25,7 +25,7 @@ use Rattle.pss_machine.proofs.Logic.{none_some, same_some, true_false}
 use Rattle.pss_session.specs.Meaning.{Meaning}
 use Rattle.pss_session.specs.Meaning as standing
 use Rattle.connector_parts.specs.declared.parts.Parts.{Parts}
-use Rattle.connector_parts.specs.declared.finding.Found.{Found}
+use Rattle.pss_session.specs.declared.register.Found.{Found}
 use Rattle.connector_parts.specs.Stands.{Stands, IsAt, StayAs, Comes}
 use Rattle.connector_parts.specs.Found.{IsFound}
 use Rattle.connector_parts.proofs.Decisions.{in_state, for_found, only_told, comes}
@@ -133,14 +133,14 @@ module _ (c : Parts) (k : Kept) (at : IsAt c k) (name : List ℕ) where
     rolled_back d stay closed marked stands = comes c d k (command.Commit name) (RollsBack n) reply.RolledBack (closed_is closed true marked) stay stands
 
   module _ (found : Found) (is : IsFound k name found) where
-    pub flush_of_other : found.kind ≡ Transactional → Comes c k (command.Flush name) reply.Kind c
-    flush_of_other kind = only_told c k at (command.Flush name) reply.Kind (in_state k name found is (λ s session. flushing c.schema c.limits k session) Transactional found.association kind refl)
+    pub flush_of_other : found.standing.kind ≡ Transactional → Comes c k (command.Flush name) reply.Kind c
+    flush_of_other kind = only_told c k at (command.Flush name) reply.Kind (in_state k name found is (λ s session. flushing c.schema c.limits k session) Transactional found.standing.association kind refl)
 
-    pub basic_is : (n : OwnerNo) → found.kind ≡ Basic n → decision c.schema c.limits k (command.Flush name) ≡ unless_full c.schema c.limits k n (Flushes n)
-    basic_is n kind = in_state k name found is (λ s session. flushing c.schema c.limits k session) (Basic n) found.association kind refl
+    pub basic_is : (n : OwnerNo) → found.standing.kind ≡ Basic n → decision c.schema c.limits k (command.Flush name) ≡ unless_full c.schema c.limits k n (Flushes n)
+    basic_is n kind = in_state k name found is (λ s session. flushing c.schema c.limits k session) (Basic n) found.standing.association kind refl
 
     -- the owner of the session is there
-    abbrev pub flush_ready : (n : OwnerNo) → found.kind ≡ Basic n → MayMakeReady c n
+    abbrev pub flush_ready : (n : OwnerNo) → found.standing.kind ≡ Basic n → MayMakeReady c n
     flush_ready n kind =
         let o = (own_at c k at).each found.number.0 is.session n is.there (ap (λ (q : Kind). owner_of (record { name = is.session.name; kind = q; access = is.session.access; association = is.session.association })) (sym is.kind_is ∙ kind)) in
         record { kept = k; at = at; owner = o.owner; there = o.there }

@@ -48,7 +48,7 @@ pub fn flush<L: Ledger, W: Station>(
     let Some(found) = parts.session(name.as_slice()) else {
         return Ok(Reply::NoSession);
     };
-    match found.kind {
+    match found.standing.kind {
         Kind::Basic(owner) => settle(parts, store, station, owner, Way::Flush, steps),
         Kind::Transactional => Ok(Reply::Kind),
     }

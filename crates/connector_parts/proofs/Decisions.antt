@@ -14,7 +14,7 @@ use Rattle.pss_machine.specs.Effects.{Effect, Decision, does, says}
 use Rattle.pss_machine.specs.Deciding.{decision, in_session, for_transaction}
 use Rattle.pss_machine.specs.Moving.{moved}
 use Rattle.connector_parts.specs.declared.parts.Parts.{Parts}
-use Rattle.connector_parts.specs.declared.finding.Found.{Found}
+use Rattle.pss_session.specs.declared.register.Found.{Found}
 use Rattle.connector_parts.specs.Stands.{Stands, IsAt, StayAs, Comes}
 use Rattle.connector_parts.specs.Found.{IsFound}
 
@@ -29,7 +29,7 @@ abbrev pub with_state : Session → Kind → Association → Session
 with_state session kind association = record { name = session.name; kind = kind; access = session.access; association = association }
 
 -- in the session that is found, by its kind and its association
-pub in_state : (k : Kept) (name : List ℕ) (found : Found) (is : IsFound k name found) (f : SessionNo → Session → Decision) (kind : Kind) (association : Association) → found.kind ≡ kind → found.association ≡ association
+pub in_state : (k : Kept) (name : List ℕ) (found : Found) (is : IsFound k name found) (f : SessionNo → Session → Decision) (kind : Kind) (association : Association) → found.standing.kind ≡ kind → found.standing.association ≡ association
     → in_session k name f ≡ f found.number (with_state is.session kind association)
 in_state k name found is f kind association kind_is association_is =
     in_found k name found is f

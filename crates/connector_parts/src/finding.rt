@@ -6,17 +6,7 @@ ghost use Rattle.connector_parts.specs.Stands.{Stands};
 ghost use Rattle.connector_parts.specs.Found.{IsFound};
 
 use crate::parts::Parts;
-use pss_base::SessionNo;
-use pss_machine::{Access, Association, Kind};
-
-/// A session that a command names.
-#[derive(Clone, Copy, Drop)]
-pub struct Found {
-    pub number: SessionNo,
-    pub kind: Kind,
-    pub access: Access,
-    pub association: Association,
-}
+use pss_session::Found;
 
 impl Parts {
     /// The session of a name. None exactly where no session has it.
@@ -24,13 +14,6 @@ impl Parts {
     pub fn session(&self, name: &[u8]) -> Option<Found>
         ensures { (k : Kept) → Stands self.now k → MatchOption result (session_named k.sessions name.now ≡ None) (IsFound k name.now) }
     {
-        let sessions = self.attended.sessions();
-        let found = sessions.find_standing(name)?;
-        Some(Found {
-            number: found.number,
-            kind: found.standing.kind,
-            access: found.standing.access,
-            association: found.standing.association,
-        })
+        self.attended.sessions().find_standing(name)
     }
 }

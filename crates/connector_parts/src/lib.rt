@@ -10,5 +10,4 @@ mod naming;
 mod parts;
 
 pub use entries::entry_number;
-pub use finding::Found;
 pub use parts::Parts;

@@ -7,7 +7,7 @@ use Rattle.pss_machine.specs.Sessions.{acts_for}
 use Rattle.pss_machine.specs.Kept.{Kept}
 use Rattle.pss_copies.specs.Ruled.{IsOwned}
 use Rattle.connector_parts.specs.declared.parts.Parts.{Parts}
-use Rattle.connector_parts.specs.declared.finding.Found.{Found}
+use Rattle.pss_session.specs.declared.register.Found.{Found}
 use Rattle.connector_parts.specs.Stands.{IsAt}
 use Rattle.connector_parts.specs.Found.{IsFound}
 use Rattle.connector_parts.proofs.Bounds.{own_at}

@@ -12,13 +12,13 @@ use Rattle.pss_machine.specs.Effects.{says}
 use Rattle.pss_machine.specs.Stepping.{data_command}
 use Rattle.pss_machine.specs.Deciding.{in_session}
 use Rattle.connector_parts.specs.declared.parts.Parts.{Parts}
-use Rattle.connector_parts.specs.declared.finding.Found.{Found}
+use Rattle.pss_session.specs.declared.register.Found.{Found}
 use Rattle.data_calls.specs.declared.acting.Acting.{Acting}
 
 -- a session that was found acts for the owner
 pub record ActsFor (session : Session) (found : Found) (acting : Acting) : Type 0 where
   pub number : acting.session ≡ found.number
-  pub access_is : acting.access ≡ found.access
+  pub access_is : acting.access ≡ found.standing.access
   pub acts : acts_for session ≡ Some acting.owner
   pub basic_is : is_basic_session session ≡ acting.basic
 

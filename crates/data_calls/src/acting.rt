@@ -5,9 +5,10 @@ ghost use Rattle.pss_machine.specs.Sessions.{Session, acts_for as machine_acts_f
 ghost use Rattle.connector_parts.specs.Stands.{IsAt};
 ghost use Rattle.data_calls.specs.Acting.{ActsFor, IsNamed, IsIdle};
 
-use connector_parts::{Found, Parts};
+use connector_parts::Parts;
 use pss_base::{OwnerNo, SessionNo};
 use pss_machine::{Access, Kind, Reply};
+use pss_session::Found;
 
 /// A session in which a data command is done, and the owner that it acts for.
 #[derive(Clone, Copy, Drop)]
@@ -21,20 +22,20 @@ pub struct Acting {
 // The session as it acts for an owner. None: it acts for nobody.
 #[inline(always)]
 fn acting_for(found: Found) -> Option<Acting>
-    ensures { (session : Session) → session.kind ≡ found.kind → session.association ≡ found.association → MatchOption result (machine_acts_for session ≡ None) (ActsFor session found) }
+    ensures { (session : Session) → session.kind ≡ found.standing.kind → session.association ≡ found.standing.association → MatchOption result (machine_acts_for session ≡ None) (ActsFor session found) }
 {
-    match found.kind {
+    match found.standing.kind {
         Kind::Basic(owner) => Some(Acting {
             session: found.number,
-            access: found.access,
+            access: found.standing.access,
             owner,
             basic: true,
         }),
         Kind::Transactional => {
-            let owner = found.association.active()?;
+            let owner = found.standing.association.active()?;
             Some(Acting {
                 session: found.number,
-                access: found.access,
+                access: found.standing.access,
                 owner,
                 basic: false,
             })

@@ -23,7 +23,7 @@ use Rattle.owner_accounts.specs.Steps.{IsOwner}
 use Rattle.pss_copies.specs.declared.parts.Parts.{Parts as Attending}
 use Rattle.pss_copies.specs.Seats.{Attends}
 use Rattle.connector_parts.specs.declared.parts.Parts.{Parts}
-use Rattle.connector_parts.specs.declared.finding.Found.{Found}
+use Rattle.pss_session.specs.declared.register.Found.{Found}
 use Rattle.connector_parts.specs.Stands.{Stands, IsAt, StayAs, Comes}
 use Rattle.connector_parts.specs.Found.{IsFound}
 use Rattle.connector_parts.proofs.Decisions.{with_state, in_found, in_state, for_found, for_none, only_told, comes}
@@ -74,60 +74,60 @@ free_to_start n (Ending m) e = absurd (cc)
 
 -- ---- start, suspend
 
-module _ (c : Parts) (k : Kept) (at : IsAt c k) (name : List ℕ) (found : Found) (is : IsFound k name found) (tx : found.kind ≡ Transactional) where
-  pub may_start : (n : OwnerNo) → held_by n found.association ≡ None → IsSomeAnd (session_at c.attended.sessions found.number) (MayStart n)
+module _ (c : Parts) (k : Kept) (at : IsAt c k) (name : List ℕ) (found : Found) (is : IsFound k name found) (tx : found.standing.kind ≡ Transactional) where
+  pub may_start : (n : OwnerNo) → held_by n found.standing.association ≡ None → IsSomeAnd (session_at c.attended.sessions found.number) (MayStart n)
   may_start n free =
       subst (λ (o : Option Session). IsSomeAnd o (MayStart n)) (sym (in_attended c k at.stands name found is))
       (sym is.kind_is ∙ tx, free_to_start n is.session.association (ap (held_by n) (sym is.association_is) ∙ free))
 
-  pub may_be : (f : Association → Option OwnerNo) (n : OwnerNo) → f found.association ≡ Some n → IsSomeAnd (session_at c.attended.sessions found.number) (λ x. IsSome (f x.association))
+  pub may_be : (f : Association → Option OwnerNo) (n : OwnerNo) → f found.standing.association ≡ Some n → IsSomeAnd (session_at c.attended.sessions found.number) (λ x. IsSome (f x.association))
   may_be f n with_it =
       subst (λ (o : Option Session). IsSomeAnd o (λ x. IsSome (f x.association))) (sym (in_attended c k at.stands name found is))
       (subst (λ (o : Option OwnerNo). IsSome o) (sym (ap f (sym is.association_is) ∙ with_it)) refl)
 
-  starting_as : (t : List ℕ) (n : OwnerNo) → Some n ≡ transaction_named k t → (o : Option OwnerNo) → held_by n found.association ≡ o
+  starting_as : (t : List ℕ) (n : OwnerNo) → Some n ≡ transaction_named k t → (o : Option OwnerNo) → held_by n found.standing.association ≡ o
       → decision c.schema c.limits k (command.Start name t) ≡ given o (does (Associates found.number (Active n)) reply.Done) (associated k)
   starting_as t n named o held =
-      in_state k name found is (λ s session. for_transaction k t (starting k s session)) Transactional found.association tx refl
-      ∙ for_found k t n named (starting k found.number (with_state is.session Transactional found.association))
-      ∙ started k found.number is.session n found.association
+      in_state k name found is (λ s session. for_transaction k t (starting k s session)) Transactional found.standing.association tx refl
+      ∙ for_found k t n named (starting k found.number (with_state is.session Transactional found.standing.association))
+      ∙ started k found.number is.session n found.standing.association
       ∙ ap (λ (x : Option OwnerNo). given x (does (Associates found.number (Active n)) reply.Done) (associated k)) held
 
-  pub start_done : (t : List ℕ) (n : OwnerNo) → Some n ≡ transaction_named k t → held_by n found.association ≡ None → (a : Attending) → Attends (moved k (Associates found.number (Active n))) a → Comes c k (command.Start name t) reply.Done (with_attended c a)
+  pub start_done : (t : List ℕ) (n : OwnerNo) → Some n ≡ transaction_named k t → held_by n found.standing.association ≡ None → (a : Attending) → Attends (moved k (Associates found.number (Active n))) a → Comes c k (command.Start name t) reply.Done (with_attended c a)
   start_done t n named held a attends =
       comes c (with_attended c a) k (command.Start name t) (Associates found.number (Active n)) reply.Done (starting_as t n named None held) (stays_as c a)
       (sessions_move c k at.stands a (moved k (Associates found.number (Active n))).sessions k.copies attends)
 
-  pub start_held : (t : List ℕ) (n : OwnerNo) → Some n ≡ transaction_named k t → (m : OwnerNo) → held_by n found.association ≡ Some m → Comes c k (command.Start name t) (reply.Assoc (name_of k m)) c
+  pub start_held : (t : List ℕ) (n : OwnerNo) → Some n ≡ transaction_named k t → (m : OwnerNo) → held_by n found.standing.association ≡ Some m → Comes c k (command.Start name t) (reply.Assoc (name_of k m)) c
   start_held t n named m held = only_told c k at (command.Start name t) (reply.Assoc (name_of k m)) (starting_as t n named (Some m) held)
 
-  suspending_as : (o : Option OwnerNo) → active_in found.association ≡ o → decision c.schema c.limits k (command.Suspend name) ≡ given o (says reply.NoTx) (λ n. does (Associates found.number (Suspended n)) reply.Done)
+  suspending_as : (o : Option OwnerNo) → active_in found.standing.association ≡ o → decision c.schema c.limits k (command.Suspend name) ≡ given o (says reply.NoTx) (λ n. does (Associates found.number (Suspended n)) reply.Done)
   suspending_as o active =
-      in_state k name found is suspending Transactional found.association tx refl
-      ∙ suspended found.number is.session found.association
+      in_state k name found is suspending Transactional found.standing.association tx refl
+      ∙ suspended found.number is.session found.standing.association
       ∙ ap (λ (x : Option OwnerNo). given x (says reply.NoTx) (λ n. does (Associates found.number (Suspended n)) reply.Done)) active
 
-  pub suspend_done : (n : OwnerNo) → active_in found.association ≡ Some n → (a : Attending) → Attends (moved k (Associates found.number (Suspended n))) a → Comes c k (command.Suspend name) reply.Done (with_attended c a)
+  pub suspend_done : (n : OwnerNo) → active_in found.standing.association ≡ Some n → (a : Attending) → Attends (moved k (Associates found.number (Suspended n))) a → Comes c k (command.Suspend name) reply.Done (with_attended c a)
   suspend_done n active a attends =
       comes c (with_attended c a) k (command.Suspend name) (Associates found.number (Suspended n)) reply.Done (suspending_as (Some n) active) (stays_as c a)
       (sessions_move c k at.stands a (moved k (Associates found.number (Suspended n))).sessions k.copies attends)
 
-  pub suspend_not : active_in found.association ≡ None → Comes c k (command.Suspend name) reply.NoTx c
+  pub suspend_not : active_in found.standing.association ≡ None → Comes c k (command.Suspend name) reply.NoTx c
   suspend_not active = only_told c k at (command.Suspend name) reply.NoTx (suspending_as None active)
 
-  ending_as : (ok : Bool) (o : Option OwnerNo) → open_in found.association ≡ o → decision c.schema c.limits k (command.End name ok) ≡ given o (says reply.NoTx) (λ n. does (Ends found.number n (not ok)) reply.Done)
+  ending_as : (ok : Bool) (o : Option OwnerNo) → open_in found.standing.association ≡ o → decision c.schema c.limits k (command.End name ok) ≡ given o (says reply.NoTx) (λ n. does (Ends found.number n (not ok)) reply.Done)
   ending_as ok o open_with =
-      in_state k name found is (λ s session. ending s session ok) Transactional found.association tx refl
-      ∙ part_done found.number is.session ok found.association
+      in_state k name found is (λ s session. ending s session ok) Transactional found.standing.association tx refl
+      ∙ part_done found.number is.session ok found.standing.association
       ∙ ap (λ (x : Option OwnerNo). given x (says reply.NoTx) (λ n. does (Ends found.number n (not ok)) reply.Done)) open_with
 
-  pub end_done : (ok : Bool) (n : OwnerNo) → open_in found.association ≡ Some n → (d : Parts) → StayAs c d → Stands d (ended k found.number n (not ok)) → Comes c k (command.End name ok) reply.Done d
+  pub end_done : (ok : Bool) (n : OwnerNo) → open_in found.standing.association ≡ Some n → (d : Parts) → StayAs c d → Stands d (ended k found.number n (not ok)) → Comes c k (command.End name ok) reply.Done d
   end_done ok n open_with d stay stands = comes c d k (command.End name ok) (Ends found.number n (not ok)) reply.Done (ending_as ok (Some n) open_with) stay stands
 
-  pub end_not : (ok : Bool) → open_in found.association ≡ None → Comes c k (command.End name ok) reply.NoTx c
+  pub end_not : (ok : Bool) → open_in found.standing.association ≡ None → Comes c k (command.End name ok) reply.NoTx c
   end_not ok open_with = only_told c k at (command.End name ok) reply.NoTx (ending_as ok None open_with)
 
-  pub may_end : (n : OwnerNo) → open_in found.association ≡ Some n → MayEnd c found.number n
+  pub may_end : (n : OwnerNo) → open_in found.standing.association ≡ Some n → MayEnd c found.number n
   may_end n open_with = record {
     kept = k;
     at = at;
@@ -145,16 +145,16 @@ module _ (c : Parts) (k : Kept) (at : IsAt c k) (name : List ℕ) (found : Found
       only_told c k at (command.Start name t) reply.NoTransaction
       (in_found k name found is (λ s session. for_transaction k t (starting k s session)) ∙ for_none k t none (starting k found.number is.session))
 
-  pub start_basic : (t : List ℕ) (n m : OwnerNo) → Some n ≡ transaction_named k t → found.kind ≡ Basic m → Comes c k (command.Start name t) reply.Kind c
+  pub start_basic : (t : List ℕ) (n m : OwnerNo) → Some n ≡ transaction_named k t → found.standing.kind ≡ Basic m → Comes c k (command.Start name t) reply.Kind c
   start_basic t n m named basic =
       only_told c k at (command.Start name t) reply.Kind
-      (in_state k name found is (λ s session. for_transaction k t (starting k s session)) (Basic m) found.association basic refl ∙ for_found k t n named (starting k found.number (with_state is.session (Basic m) found.association)))
+      (in_state k name found is (λ s session. for_transaction k t (starting k s session)) (Basic m) found.standing.association basic refl ∙ for_found k t n named (starting k found.number (with_state is.session (Basic m) found.standing.association)))
 
-  pub suspend_basic : (m : OwnerNo) → found.kind ≡ Basic m → Comes c k (command.Suspend name) reply.Kind c
-  suspend_basic m basic = only_told c k at (command.Suspend name) reply.Kind (in_state k name found is suspending (Basic m) found.association basic refl)
+  pub suspend_basic : (m : OwnerNo) → found.standing.kind ≡ Basic m → Comes c k (command.Suspend name) reply.Kind c
+  suspend_basic m basic = only_told c k at (command.Suspend name) reply.Kind (in_state k name found is suspending (Basic m) found.standing.association basic refl)
 
-  pub end_basic : (ok : Bool) (m : OwnerNo) → found.kind ≡ Basic m → Comes c k (command.End name ok) reply.Kind c
-  end_basic ok m basic = only_told c k at (command.End name ok) reply.Kind (in_state k name found is (λ s session. ending s session ok) (Basic m) found.association basic refl)
+  pub end_basic : (ok : Bool) (m : OwnerNo) → found.standing.kind ≡ Basic m → Comes c k (command.End name ok) reply.Kind c
+  end_basic ok m basic = only_told c k at (command.End name ok) reply.Kind (in_state k name found is (λ s session. ending s session ok) (Basic m) found.standing.association basic refl)
 
 -- ---- a part that ends
 

@@ -27,7 +27,7 @@ use Rattle.pss_copies.specs.Seats.{Attends}
 use Rattle.pss_copies.specs.Ruled.{AreOwned}
 use Rattle.pss_copies.specs.Stepped.{OwnsNone}
 use Rattle.connector_parts.specs.declared.parts.Parts.{Parts}
-use Rattle.connector_parts.specs.declared.finding.Found.{Found}
+use Rattle.pss_session.specs.declared.register.Found.{Found}
 use Rattle.connector_parts.specs.Stands.{Stands, IsAt, StayAs, Comes}
 use Rattle.connector_parts.specs.Found.{IsFound}
 use Rattle.connector_parts.proofs.Decisions.{with_state, in_state, for_found, for_none, only_told, comes}
@@ -77,19 +77,19 @@ closed_by s kind k session (Suspended n) = refl
 closed_by s kind k session (Ending n) = refl
 
 module _ (c : Parts) (k : Kept) (at : IsAt c k) (name : List ℕ) (found : Found) (is : IsFound k name found) where
-  closing_as : (o : Option OwnerNo) → transaction_of found.association ≡ o → decision c.schema c.limits k (command.Close name) ≡ given o (does (closes found.number found.kind) reply.Done) (associated k)
+  closing_as : (o : Option OwnerNo) → transaction_of found.standing.association ≡ o → decision c.schema c.limits k (command.Close name) ≡ given o (does (closes found.number found.standing.kind) reply.Done) (associated k)
   closing_as o in_it =
-      in_state k name found is (closing k) found.kind found.association refl refl
-      ∙ closed_by found.number found.kind k is.session found.association
-      ∙ ap (λ (x : Option OwnerNo). given x (does (closes found.number found.kind) reply.Done) (associated k)) in_it
+      in_state k name found is (closing k) found.standing.kind found.standing.association refl refl
+      ∙ closed_by found.number found.standing.kind k is.session found.standing.association
+      ∙ ap (λ (x : Option OwnerNo). given x (does (closes found.number found.standing.kind) reply.Done) (associated k)) in_it
 
-  pub close_done : transaction_of found.association ≡ None → (d : Parts) → StayAs c d → Stands d (moved k (closes found.number found.kind)) → Comes c k (command.Close name) reply.Done d
-  close_done in_it d stay stands = comes c d k (command.Close name) (closes found.number found.kind) reply.Done (closing_as None in_it) stay stands
+  pub close_done : transaction_of found.standing.association ≡ None → (d : Parts) → StayAs c d → Stands d (moved k (closes found.number found.standing.kind)) → Comes c k (command.Close name) reply.Done d
+  close_done in_it d stay stands = comes c d k (command.Close name) (closes found.number found.standing.kind) reply.Done (closing_as None in_it) stay stands
 
-  pub close_held : (n : OwnerNo) → transaction_of found.association ≡ Some n → Comes c k (command.Close name) (reply.Assoc (name_of k n)) c
+  pub close_held : (n : OwnerNo) → transaction_of found.standing.association ≡ Some n → Comes c k (command.Close name) (reply.Assoc (name_of k n)) c
   close_held n in_it = only_told c k at (command.Close name) (reply.Assoc (name_of k n)) (closing_as (Some n) in_it)
 
-  pub may_close : MayClose c found.number found.kind
+  pub may_close : MayClose c found.number found.standing.kind
   may_close = record { kept = k; at = at; session = is.session; there = is.there; kind_is = is.kind_is }
 
 pub close_requires : (c : Parts) (s : SessionNo) (kind : Kind) (may : MayClose c s kind) → IsSome (session_at c.attended.sessions s)

@@ -24,7 +24,7 @@ use Rattle.pss_copies.specs.Told.{entry_told}
 use Rattle.pss_copies.specs.Seats.{Attends}
 use Rattle.pss_copies.proofs.Held.{told_at}
 use Rattle.connector_parts.specs.declared.parts.Parts.{Parts}
-use Rattle.connector_parts.specs.declared.finding.Found.{Found}
+use Rattle.pss_session.specs.declared.register.Found.{Found}
 use Rattle.connector_parts.specs.Stands.{Stands, IsAt, Comes}
 use Rattle.connector_parts.specs.Found.{IsFound}
 use Rattle.connector_parts.proofs.Decisions.{with_state, in_found, in_state, only_told, comes}
@@ -86,16 +86,16 @@ module _ (c : Parts) (k : Kept) (at : IsAt c k) (name : List ℕ) (found : Found
       comes c (with_attended c a) k (command.FreeAll name) (Holds found.number (record { last = (copies_of k found.number).last; entries = [] })) reply.Done (in_found k name found is (λ s session. freeing k s)) (stays_as c a)
       (held_move (record { last = (copies_of k found.number).last; entries = [] }) a attends)
 
-  pub may_refresh : (n : OwnerNo) → found.kind ≡ Basic n → IsSomeAnd (session_at c.attended.sessions found.number) (λ x. IsTrue (is_basic x))
+  pub may_refresh : (n : OwnerNo) → found.standing.kind ≡ Basic n → IsSomeAnd (session_at c.attended.sessions found.number) (λ x. IsTrue (is_basic x))
   may_refresh n kind =
       subst (λ (o : Option Session). IsSomeAnd o (λ x. IsTrue (is_basic x))) (sym (in_attended c k at.stands name found is))
       (subst (λ (q : Kind). IsTrue (is_basic (with_state is.session q is.session.association))) (sym (sym is.kind_is ∙ kind)) refl)
 
-  pub refresh_done : (n : OwnerNo) → found.kind ≡ Basic n → (a : Attending) → Attends (moved k (Holds found.number (refreshed k found.number is.session))) a → Comes c k (command.Refresh name) reply.Done (with_attended c a)
+  pub refresh_done : (n : OwnerNo) → found.standing.kind ≡ Basic n → (a : Attending) → Attends (moved k (Holds found.number (refreshed k found.number is.session))) a → Comes c k (command.Refresh name) reply.Done (with_attended c a)
   refresh_done n kind a attends =
       comes c (with_attended c a) k (command.Refresh name) (Holds found.number (refreshed k found.number is.session)) reply.Done
       (in_found k name found is (refreshing k) ∙ refreshing_is k found.number is.session n (sym is.kind_is ∙ kind)) (stays_as c a)
       (held_move (refreshed k found.number is.session) a attends)
 
-  pub refresh_not : found.kind ≡ Transactional → Comes c k (command.Refresh name) reply.Kind c
-  refresh_not kind = only_told c k at (command.Refresh name) reply.Kind (in_state k name found is (refreshing k) Transactional found.association kind refl)
+  pub refresh_not : found.standing.kind ≡ Transactional → Comes c k (command.Refresh name) reply.Kind c
+  refresh_not kind = only_told c k at (command.Refresh name) reply.Kind (in_state k name found is (refreshing k) Transactional found.standing.association kind refl)

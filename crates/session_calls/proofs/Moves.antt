@@ -12,7 +12,7 @@ use Rattle.owner_titles.proofs.Tables.{passes}
 use Rattle.pss_copies.specs.declared.parts.Parts.{Parts as Attending}
 use Rattle.pss_copies.specs.Seats.{Attends}
 use Rattle.connector_parts.specs.declared.parts.Parts.{Parts}
-use Rattle.connector_parts.specs.declared.finding.Found.{Found}
+use Rattle.pss_session.specs.declared.register.Found.{Found}
 use Rattle.connector_parts.specs.Stands.{Stands, StayAs}
 use Rattle.connector_parts.specs.Found.{IsFound}
 use Rattle.connector_parts.proofs.Goings.{accounts_alike}
@@ -37,7 +37,7 @@ module _ (c : Parts) (k : Kept) (stands : Stands c k) (name : List ℕ) (found :
   in_attended = ap (λ (s : Sessions). get s found.number.0) stands.attended.sessions ∙ is.there
 
   -- what is said of its transaction
-  pub of_found : (f : Association → Option OwnerNo) (P : OwnerNo → Type 0) (n : OwnerNo) → f found.association ≡ Some n → IsSomeAnd (session_at c.attended.sessions found.number) (λ x. IsSomeAnd (f x.association) P) → P n
+  pub of_found : (f : Association → Option OwnerNo) (P : OwnerNo → Type 0) (n : OwnerNo) → f found.standing.association ≡ Some n → IsSomeAnd (session_at c.attended.sessions found.number) (λ x. IsSomeAnd (f x.association) P) → P n
   of_found f P n with_it h =
       passes P (f is.session.association) n (ap f (sym is.association_is) ∙ with_it)
       (passes (λ (x : Session). IsSomeAnd (f x.association) P) (session_at c.attended.sessions found.number) is.session in_attended h)

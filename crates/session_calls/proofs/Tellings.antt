@@ -19,7 +19,7 @@ use Rattle.pss_machine.specs.Deciding.{telling_state, telling_pid, telling_home,
 use Rattle.owner_titles.specs.History.{History}
 use Rattle.owner_accounts.specs.Accounts.{IsHistory}
 use Rattle.connector_parts.specs.declared.parts.Parts.{Parts}
-use Rattle.connector_parts.specs.declared.finding.Found.{Found}
+use Rattle.pss_session.specs.declared.register.Found.{Found}
 use Rattle.connector_parts.specs.Stands.{IsAt, Comes}
 use Rattle.connector_parts.specs.Found.{IsFound}
 use Rattle.connector_parts.proofs.Decisions.{in_found, in_state, only_told, replied}
@@ -29,11 +29,11 @@ given_map None = refl
 given_map (Some e) = refl
 
 module _ (c : Parts) (k : Kept) (at : IsAt c k) (name : List ℕ) (found : Found) (is : IsFound k name found) where
-  pub status_of_basic : (n : OwnerNo) → found.kind ≡ Basic n → Comes c k (command.Status name) reply.Kind c
-  status_of_basic n kind = only_told c k at (command.Status name) reply.Kind (in_state k name found is (λ s session. telling_state session) (Basic n) found.association kind refl)
+  pub status_of_basic : (n : OwnerNo) → found.standing.kind ≡ Basic n → Comes c k (command.Status name) reply.Kind c
+  status_of_basic n kind = only_told c k at (command.Status name) reply.Kind (in_state k name found is (λ s session. telling_state session) (Basic n) found.standing.association kind refl)
 
-  pub status_of_other : found.kind ≡ Transactional → Comes c k (command.Status name) (reply.State (state_of found.association)) c
-  status_of_other kind = only_told c k at (command.Status name) (reply.State (state_of found.association)) (in_state k name found is (λ s session. telling_state session) Transactional found.association kind refl)
+  pub status_of_other : found.standing.kind ≡ Transactional → Comes c k (command.Status name) (reply.State (state_of found.standing.association)) c
+  status_of_other kind = only_told c k at (command.Status name) (reply.State (state_of found.standing.association)) (in_state k name found is (λ s session. telling_state session) Transactional found.standing.association kind refl)
 
   -- the object of an entry, where there is one
   pub told_pid : (n : ℕ) (pid : Option Pid) → pid ≡ option_map (λ e. e.pid) (entry_numbered (copies_of k found.number) n) → Comes c k (command.PidOf name n) (given pid reply.NoEntry reply.PidAndShort) c

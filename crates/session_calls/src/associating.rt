@@ -31,9 +31,9 @@ pub fn start(parts: &mut Parts, name: &Text<'_>, transaction: &Text<'_>) -> Resu
     let Some(owner) = parts.accounts.titles().find(transaction.as_slice()) else {
         return Ok(Reply::NoTransaction);
     };
-    match found.kind {
+    match found.standing.kind {
         Kind::Basic(_) => Ok(Reply::Kind),
-        Kind::Transactional => match held_by(found.association, owner) {
+        Kind::Transactional => match held_by(found.standing.association, owner) {
             Some(other) => associated(parts, other),
             None => {
                 parts.attended.start(found.number, owner);
@@ -51,9 +51,9 @@ pub fn suspend(parts: &mut Parts, name: &Text<'_>) -> Reply
     let Some(found) = parts.session(name.as_slice()) else {
         return Reply::NoSession;
     };
-    match found.kind {
+    match found.standing.kind {
         Kind::Basic(_) => Reply::Kind,
-        Kind::Transactional => match found.association.active() {
+        Kind::Transactional => match found.standing.association.active() {
             Some(_) => {
                 parts.attended.suspend(found.number);
                 Reply::Done
@@ -87,9 +87,9 @@ pub fn end<L: Ledger>(parts: &mut Parts, name: &Text<'_>, ok: bool, steps: &mut 
     let Some(found) = parts.session(name.as_slice()) else {
         return Reply::NoSession;
     };
-    match found.kind {
+    match found.standing.kind {
         Kind::Basic(_) => Reply::Kind,
-        Kind::Transactional => match found.association.open() {
+        Kind::Transactional => match found.standing.association.open() {
             Some(owner) => {
                 end_part(parts, found.number, owner, !ok, steps);
                 Reply::Done

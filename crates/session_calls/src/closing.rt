@@ -42,10 +42,10 @@ pub fn close<L: Ledger>(
     let Some(found) = parts.session(name.as_slice()) else {
         return Ok(Reply::NoSession);
     };
-    match found.association.transaction() {
+    match found.standing.association.transaction() {
         Some(owner) => associated(parts, owner),
         None => {
-            close_session(parts, found.number, found.kind, steps);
+            close_session(parts, found.number, found.standing.kind, steps);
             Ok(Reply::Done)
         }
     }

@@ -70,7 +70,7 @@ pub fn refresh<L: Ledger>(parts: &mut Parts, name: &Text<'_>, steps: &mut Steps<
     let Some(found) = parts.session(name.as_slice()) else {
         return Reply::NoSession;
     };
-    match found.kind {
+    match found.standing.kind {
         Kind::Basic(_) => {
             parts.attended.refresh(found.number, steps);
             Reply::Done

@@ -17,9 +17,9 @@ pub fn status(parts: &Parts, name: &Text<'_>) -> Reply
     let Some(found) = parts.session(name.as_slice()) else {
         return Reply::NoSession;
     };
-    match found.kind {
+    match found.standing.kind {
         Kind::Basic(_) => Reply::Kind,
-        Kind::Transactional => Reply::State(found.association.state()),
+        Kind::Transactional => Reply::State(found.standing.association.state()),
     }
 }
 

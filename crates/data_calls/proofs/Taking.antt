@@ -57,6 +57,10 @@ stepped_same S a k n s x y asked needs own next are =
     (ap (λ w. owners_after k n (record { op = x.op; answer = x.answer; needs = w; own = x.own })) needs ∙ ap (λ w. owners_after k n (record { op = x.op; answer = x.answer; needs = y.needs; own = w })) own)
     refl refl next refl refl
 
+-- the parts with other accounts
+abbrev pub with_accounts : Parts → Accounts → Parts
+with_accounts c a = record c { accounts = a }
+
 -- who is held up by nobody
 pub none_where : (o : Option OwnerNo) → ((b : OwnerNo) → o ≡ Some b → ⊥) → o ≡ None
 none_where None h = refl

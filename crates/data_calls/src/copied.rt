@@ -13,6 +13,7 @@ ghost use Rattle.data_calls.specs.Acting.{IsActing};
 ghost use Rattle.data_calls.specs.Copied.{told_as, copy_tells};
 
 use crate::acting::Acting;
+use crate::looking::value_in;
 use connector_parts::{Parts, entry_number};
 use pss_asking::Asked;
 use pss_base::{NoMemory, Pid, SessionNo};
@@ -80,11 +81,11 @@ fn told_by(alloc: Global, values: &Record, op: &Op) -> Result<Told, NoMemory>
     ensures { IfOk result (λ told. (M : Catalog) → told_as M told ≡ told_by_copy M values.now (plain_op op.now)) }
 {
     match op {
-        Op::Get { member, .. } => match values.0.as_slice().get(*member as usize) {
+        Op::Get { member, .. } => match value_in(values, *member) {
             Some(value) => Ok(Told::Answer(Answer::Val(value.copy(alloc)?))),
             None => Ok(Told::Nothing),
         },
-        Op::Follow { pid, member } => match values.0.as_slice().get(*member as usize) {
+        Op::Follow { pid, member } => match value_in(values, *member) {
             Some(value) => Ok(led(*pid, value)),
             None => Ok(Told::Nothing),
         },

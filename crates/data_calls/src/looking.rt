@@ -54,7 +54,7 @@ pub fn values_of(parts: &Parts, session: SessionNo, entry: Option<u64>) -> Optio
 pub fn value_at(alloc: Global, values: &Record, member: u32) -> Result<Option<Value>, NoMemory>
     ensures { IfOk result (λ found. option_map plain_value found ≡ slice_get values.now member) }
 {
-    match values.0.as_slice().get(member as usize) {
+    match value_in(values, member) {
         Some(value) => Ok(Some(value.copy(alloc)?)),
         None => Ok(None),
     }
@@ -82,7 +82,7 @@ fn referred(value: &Value) -> Option<Option<Pid>>
 fn referred_at(values: &Record, member: u32) -> Option<Option<Pid>>
     ensures { IfSome result (λ to. slice_get values.now member ≡ Some (Ref to)) }
 {
-    match values.0.as_slice().get(member as usize) {
+    match value_in(values, member) {
         Some(value) => referred(value),
         None => None,
     }

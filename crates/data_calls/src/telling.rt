@@ -36,10 +36,7 @@ fn shown_by(parts: &Parts, acting: Acting, entry: u64) -> Option<Shown<'_>>
     let copies = parts.attended.copies();
     copies.copies_hold();
     match entry_number(entry) {
-        Some(number) => match copies.shown(acting.session, number) {
-            Some(shown) => Some(shown),
-            None => None,
-        },
+        Some(number) => copies.shown(acting.session, number),
         None => None,
     }
 }

@@ -7,15 +7,14 @@ use Rattle.pss_machine.specs.Asking.{Asked}
 use Rattle.pss_machine.specs.Moving.{after_step}
 use Rattle.owner_accounts.specs.Accounts.{AreAccounts}
 use Rattle.owner_accounts.specs.Steps.{MayStep, step_in}
-use Rattle.pss_asking.specs.Telling.{plain_asked}
 use Rattle.data_calls.proofs.Taking.{may_look, look_free, look_takes, lead_found, lead_gone, plain_found}
 use Rattle.data_calls.proofs.stepping.lead.Goals as goal
 
 pub act-requires : goal.act-requires
-act-requires c = subst (λ (S : Schema). MayStep S c.args.parts.now.accounts c.args.acting.owner (Ask (FindPid c.args.pid))) (sym c.schema-schema.ensures) (may_look c.requires.take c.args.pid)
+act-requires c = subst (λ (S : Schema). MayStep S c.args.parts.now.accounts c.args.acting.owner (Ask (FindPid c.args.pid))) (sym c.schema-schema.ensures) (may_look c.requires.1.take c.args.pid)
 
 pub returns-in-Found : goal.returns-in-Found
-returns-in-Found c m =
+returns-in-Found c asked m =
     let a = c.args.parts.now.accounts in
     let n = c.args.acting.owner in
     let q = c.args.pid in
@@ -24,10 +23,10 @@ returns-in-Found c m =
     let V = view m.take.asks.kept.catalog m.take.asks.is.owner in
     let free = look_free m.take _ m.told q in
     let found = lead_found V q _ (sym (ap plain_answer c.in-Found.is) ∙ answered (may_look m.take q) free) in
-    look_takes m.take (Found q) (m.told ∙ ap Some found) q _ (record { schema = refl; limits = refl }) refl (stepped (may_look m.take q) c.args.acting.session (plain_asked c.args.asked.now) free)
+    look_takes m.take (Found q) (m.told ∙ ap Some found) q _ (record { schema = refl; limits = refl }) refl (stepped (may_look m.take q) c.args.acting.session asked free)
 
 pub returns : goal.returns
-returns c m =
+returns c asked m =
     let a = c.args.parts.now.accounts in
     let n = c.args.acting.owner in
     let q = c.args.pid in
@@ -36,4 +35,4 @@ returns c m =
     let V = view m.take.asks.kept.catalog m.take.asks.is.owner in
     let free = look_free m.take _ m.told q in
     let gone = lead_gone V q (plain_answer c.in_ok-act.field-0) (λ p is. c.in_default.not-Found p (plain_found c.in_ok-act.field-0 p is)) (answered (may_look m.take q) free) in
-    look_takes m.take (Gone q) (m.told ∙ ap Some gone) q _ (record { schema = refl; limits = refl }) refl (stepped (may_look m.take q) c.args.acting.session (plain_asked c.args.asked.now) free)
+    look_takes m.take (Gone q) (m.told ∙ ap Some gone) q _ (record { schema = refl; limits = refl }) refl (stepped (may_look m.take q) c.args.acting.session asked free)

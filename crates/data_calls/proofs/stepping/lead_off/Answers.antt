@@ -10,17 +10,27 @@ use Rattle.pss_machine.specs.Asking.{Asked}
 use Rattle.pss_machine.specs.Moving.{after_step}
 use Rattle.owner_accounts.specs.Accounts.{AreAccounts}
 use Rattle.owner_accounts.specs.Steps.{MayFollow, step_in}
-use Rattle.pss_asking.specs.Telling.{plain_asked}
-use Rattle.data_calls.proofs.Taking.{none_where, some_there}
+use Rattle.pss_machine.specs.declared.reply.Reply.TheVariants as reply
+use Rattle.pss_machine.specs.Kept.{Kept, name_of}
+use Rattle.connector_parts.specs.Stands.{Stands}
+use Rattle.connector_parts.proofs.Tellings.{if_ok}
+use Rattle.data_calls.specs.declared.granting.Grant.{Grant}
+use Rattle.data_calls.specs.declared.granting.Grant.TheVariants.{Refused}
+use Rattle.data_calls.specs.Asking.{decision_on, IsGranted}
+use Rattle.data_calls.specs.Copied.{MayFollow as MayBeFollowed}
+use Rattle.data_calls.proofs.Taking.{with_accounts, none_where, some_there}
 use Rattle.data_calls.proofs.Bodies.{may_follow, follow_busy, follow_takes}
 use Rattle.data_calls.proofs.stepping.lead_off.Goals as goal
 
 pub follow-requires : goal.follow-requires
-follow-requires c = subst (λ (S : Schema). MayFollow S c.args.parts.now.accounts c.args.acting.owner c.args.followed.pid c.args.followed.to) (sym c.schema.ensures) (may_follow c.requires)
+follow-requires c = subst (λ (S : Schema). MayFollow S c.args.parts.now.accounts c.args.acting.owner c.args.followed.pid c.args.followed.to) (sym c.schema.ensures) (may_follow c.requires.1)
 
-pub returns-in_ok-name_of-in-Busy : goal.returns-in_ok-name_of-in-Busy
-returns-in_ok-name_of-in-Busy c m =
-    let a = c.args.parts.now.accounts in
+pub returns-in-Busy : goal.returns-in-Busy
+returns-in-Busy c =
+    if_ok (λ (grant : Grant). (k : Kept) → Stands (with_accounts c.args.parts.now c.follow.new.self) k → grant ≡ Refused (reply.Busy (name_of k c.in-Busy.other)))
+    (λ (grant : Grant). (asked : Asked) (m : MayBeFollowed c.args.parts.now c.args.acting asked c.args.followed.pid c.args.followed.to) → IsGranted c.args.parts.now m.act.take.asks.kept (decision_on m.act.take.asks) c.args.acting asked grant (with_accounts c.args.parts.now c.follow.new.self)) c.held_up.result
+    (λ grant said asked m.
+    (let a = c.args.parts.now.accounts in
     let n = c.args.acting.owner in
     let p = c.args.followed.pid in
     let to = c.args.followed.to in
@@ -28,10 +38,12 @@ returns-in_ok-name_of-in-Busy c m =
     let held = subst (λ (S : Schema). (m : MayFollow S a n p to) → IsSome (blocker m.step.by.kept.owners n (step_in m.step).needs) → AreAccounts S c.follow.new.self m.step.by.kept) c.schema.ensures c.in_ok-told.ensures.held_up in
     let is = (busy (may_follow m) c.in-Busy.other).0 c.in-Busy.is in
     let accounts = held (may_follow m) (some_there is) in
-    follow_busy m c.in-Busy.other _ is (c.in_ok-name_of-in-Busy.ensures m.act.take.asks.kept (record { accounts = accounts; attended = m.act.take.asks.at.stands.attended })) _ (record { schema = refl; limits = refl }) refl accounts
+    subst (λ (g : Grant). IsGranted c.args.parts.now m.act.take.asks.kept (decision_on m.act.take.asks) c.args.acting asked g (with_accounts c.args.parts.now c.follow.new.self)) (sym (said m.act.take.asks.kept (record { accounts = accounts; attended = m.act.take.asks.at.stands.attended })))
+    (follow_busy m c.in-Busy.other _ is refl (with_accounts c.args.parts.now c.follow.new.self) (record { schema = refl; limits = refl }) refl accounts)))
+    c.held_up.ensures
 
 pub returns-in_default : goal.returns-in_default
-returns-in_default c m =
+returns-in_default c asked m =
     let a = c.args.parts.now.accounts in
     let n = c.args.acting.owner in
     let p = c.args.followed.pid in
@@ -40,4 +52,4 @@ returns-in_default c m =
     let answered = subst (λ (S : Schema). (m : MayFollow S a n p to) → blocker m.step.by.kept.owners n (step_in m.step).needs ≡ None → plain_answer c.in_ok-told.told ≡ (step_in m.step).answer) c.schema.ensures c.in_ok-told.ensures.answer in
     let stepped = subst (λ (S : Schema). (m : MayFollow S a n p to) (s : SessionNo) (asked : Asked) → blocker m.step.by.kept.owners n (step_in m.step).needs ≡ None → AreAccounts S c.follow.new.self (after_step m.step.by.kept n s (step_in m.step) asked)) c.schema.ensures c.in_ok-told.ensures.stepped in
     let none = none_where (blocker m.act.take.asks.kept.owners n (step_in (may_follow m).step).needs) (λ b is. c.in_default.not-Busy b ((busy (may_follow m) b).1 is)) in
-    follow_takes m (plain_answer c.in_ok-told.told) none (answered (may_follow m) none) _ (record { schema = refl; limits = refl }) refl (stepped (may_follow m) c.args.acting.session (plain_asked c.args.asked.now) none)
+    follow_takes m (plain_answer c.in_ok-told.told) none (answered (may_follow m) none) _ (record { schema = refl; limits = refl }) refl (stepped (may_follow m) c.args.acting.session asked none)

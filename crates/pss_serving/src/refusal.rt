@@ -65,7 +65,7 @@ fn print_check(alloc: Global, fault: CheckFault) -> Result<Bytes, NoMemory>
 }
 
 /// The line that is spoken for a fault, with its line feed: the place by line and column, both from 1, and the kind.
-pub fn print_refusal(alloc: Global, fault: &SchemaFault) -> Result<Bytes, NoMemory>
+pub fn print_schema_fault(alloc: Global, fault: &SchemaFault) -> Result<Bytes, NoMemory>
     ensures { IfOk result (λ bytes. bytes ≡ refusal_line fault.now) }
 {
     match fault {

@@ -9,7 +9,7 @@ ghost use Rattle.pss_serving.specs.Unread.{IsUnknown, TellsUnread};
 ghost use Rattle.pss_serving.specs.declared.reading.Unread.TheVariants as unread;
 
 use crate::reading::Unread;
-use crate::refusal::print_refusal;
+use crate::refusal::print_schema_fault;
 use crate::schema_fault::SchemaFault;
 use crate::status::Status;
 use line_service::speak;
@@ -26,7 +26,7 @@ fn refuse<W: Station>(alloc: Global, fault: SchemaFault, station: &mut W) -> Sta
     ensures speech { HasCauseIf (W.speak_faults station.old) (W.speak_faults station.new) (has_speech_failed result) }
     ensures other { W.disk_faults station.new ≡ W.disk_faults station.old }
 {
-    match print_refusal(alloc, &fault) {
+    match print_schema_fault(alloc, &fault) {
         Ok(line) => match speak(station, line.as_slice()) {
             Ok(()) => Status::SchemaRefused,
             Err(_) => Status::SpeakFault,

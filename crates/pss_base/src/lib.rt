@@ -1,5 +1,5 @@
-//! What all layers stand on: bytes, identifiers of objects and their texts, stored records, sources of bytes, and
-//! the lines of a source.
+//! What all layers stand on: bytes, identifiers of objects and their texts, stored records and the limits of what
+//! is stored, sources of bytes, and the lines of a source.
 #![tactic(auto)]
 
 mod ahead;

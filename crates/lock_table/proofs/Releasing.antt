@@ -16,7 +16,7 @@ use Rattle.link_pool.specs.Meaning.{col_in}
 use Rattle.link_pool.specs.declared.names.Col.{Col}
 use Rattle.link_pool.specs.declared.names.Node.{Node}
 use Rattle.lock_table.specs.declared.links.Lock.{Lock}
-use Rattle.lock_table.specs.declared.places.Found.{Found}
+use Rattle.lock_table.specs.declared.places.FoundPlace.{FoundPlace}
 use Rattle.lock_table.specs.declared.links.Links.{Links}
 use Rattle.lock_table.specs.Locks.{Held, held_by, with_locks, released}
 use Rattle.lock_table.specs.Standing.{need_of}
@@ -82,7 +82,7 @@ len_less s need there =
 
 -- ---- of what a call unlinked
 
-module _ (old new : Links) (owner : OwnerNo) (col : Col) (lock : Lock) (left : Found) (was : IsReleasing old owner col) (linked : IsLinked new) (u : Unlinks old new col lock left) where
+module _ (old new : Links) (owner : OwnerNo) (col : Col) (lock : Lock) (left : FoundPlace) (was : IsReleasing old owner col) (linked : IsLinked new) (u : Unlinks old new col lock left) where
   same_one : lock.owner ≡ owner
   same_one = was.linked.cols.apart lock.owner owner col u.own was.at
 

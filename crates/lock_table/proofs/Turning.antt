@@ -16,7 +16,7 @@ use Rattle.pss_machine.specs.contracts.lock.ResourcePartialEq.TheImpl as derived
 use Rattle.lock_table.specs.inner.Tables.{Turns, entry_at, key_at}
 use Rattle.lock_table.specs.declared.places.Place.{Place}
 use Rattle.lock_table.specs.declared.links.Links.{Links}
-use Rattle.lock_table.specs.declared.places.Found.{Found}
+use Rattle.lock_table.specs.declared.places.FoundPlace.{FoundPlace}
 use Rattle.lock_table.specs.inner.Links.{IsAt, IsFound, IsLookedUp, Recounts, place_at}
 use Rattle.lock_table.proofs.Keyed.{no_value, one_value}
 
@@ -113,15 +113,15 @@ module _ {V : Type 0} where
   none_there (e ∷ es) (suc at) key is none = none_there es at key is none
 
 -- what was not found is not there
-pub found_none : (links : Links) (r : Resource) (o : Option Found) → IsLookedUp links r o → o ≡ None → place_at links r ≡ None
+pub found_none : (links : Links) (r : Resource) (o : Option FoundPlace) → IsLookedUp links r o → o ≡ None → place_at links r ≡ None
 found_none links r o looked is = (subst (IsLookedUp links r) is looked).none
 
 -- what was found stands there
-pub found_one : (links : Links) (r : Resource) (o : Option Found) (found : Found) → IsLookedUp links r o → o ≡ Some found → IsFound links r found
+pub found_one : (links : Links) (r : Resource) (o : Option FoundPlace) (found : FoundPlace) → IsLookedUp links r o → o ≡ Some found → IsFound links r found
 found_one links r o found looked is = (subst (IsLookedUp links r) is looked).some
 
 -- what was found holds while no place changes
-pub looked_same : (old new : Links) → new.places.table.entries ≡ old.places.table.entries → (r : Resource) (o : Option Found) → IsLookedUp old r o → IsLookedUp new r o
+pub looked_same : (old new : Links) → new.places.table.entries ≡ old.places.table.entries → (r : Resource) (o : Option FoundPlace) → IsLookedUp old r o → IsLookedUp new r o
 looked_same old new same r o looked = record {
   some = subst (λ es. IfSome o (IsAt es r)) (sym same) looked.some;
   none = subst (λ es. IfNone o (entry_at same_resource es r ≡ None)) (sym same) looked.none;

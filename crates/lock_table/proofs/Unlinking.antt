@@ -16,7 +16,7 @@ use Rattle.link_pool.specs.declared.names.Seat.{Seat}
 use Rattle.link_pool.proofs.RingChanges.{TakesFirst, bare, row_stays-unlinked, col_stays-unlinked, seat-unlinked, seat-unlinked_other, row_length-unlinked}
 use Rattle.lock_table.specs.declared.links.Lock.{Lock}
 use Rattle.lock_table.specs.declared.places.Place.{Place}
-use Rattle.lock_table.specs.declared.places.Found.{Found}
+use Rattle.lock_table.specs.declared.places.FoundPlace.{FoundPlace}
 use Rattle.lock_table.specs.declared.links.Links.{Links}
 use Rattle.lock_table.specs.inner.Tables.{entry_at, key_at}
 use Rattle.lock_table.specs.inner.Links.{IsLinked, IsFound, Recounts, Unlinks, same_owner, resource_in, owner_in, place_at, row_at, col_at}
@@ -149,7 +149,7 @@ module _ (old new : Links) (linked : IsLinked old) (node : Node) (seat : Seat Lo
     held = held ∙ ap (λ n. n - 1) linked.held ∙ sym (ap (λ p. map.len p.nodes) pool ∙ map.len-remove node_cmp_total old.pool.nodes node ∙ ap (λ o. cond (is_some o) (map.len old.pool.nodes - 1) (map.len old.pool.nodes)) at);
   }
 
-  pub unlink_unlinks : (col : Col) (left : Found) → seat.col ≡ col → IsFound new seat.item.resource left → Unlinks old new col seat.item left
+  pub unlink_unlinks : (col : Col) (left : FoundPlace) → seat.col ≡ col → IsFound new seat.item.resource left → Unlinks old new col seat.item left
   unlink_unlinks col left own now = record {
     own = seat_col old linked node seat at ∙ ap (λ c. Some c) own;
     had = node_held old.pool node seat.item item_here;
@@ -192,7 +192,7 @@ module _ (old mid : Links) (linked : IsLinked old) (col : Col) (row : Row) (lock
   pub took_place : IsSome (place_at mid lock.resource)
   took_place = some_is (place_at mid lock.resource) taken_from.place (mid_place lock.resource ∙ ap (λ (l : Lock). place_at old l.resource) (sym lock_is) ∙ taken_from.at)
 
-  module _ (counted new : Links) (left : Found) (counts : Recounts mid counted lock.resource (λ n. n - 1)) (now : IsFound counted lock.resource left) where
+  module _ (counted new : Links) (left : FoundPlace) (counts : Recounts mid counted lock.resource (λ n. n - 1)) (now : IsFound counted lock.resource left) where
     pub took_some : 1 ≤ counted.held
     took_some = omega (arith, counts.held, mid_held, linked.held, some_nodes old.pool took.node took.seat took.at)
 
@@ -221,7 +221,7 @@ module _ (old mid : Links) (linked : IsLinked old) (col : Col) (row : Row) (lock
           }))
 
 -- an empty column stays as it was
-pub took_nothing : (old : Links) (pool : Meaning Lock) (col : Col) (o : Option (Lock × Found)) → o ≡ None → IsSome (map.get old.pool.cols col) → (list_in old.pool.cols col ≡ []) × (pool ≡ old.pool)
+pub took_nothing : (old : Links) (pool : Meaning Lock) (col : Col) (o : Option (Lock × FoundPlace)) → o ≡ None → IsSome (map.get old.pool.cols col) → (list_in old.pool.cols col ≡ []) × (pool ≡ old.pool)
     → MatchOption o ((record old { pool = pool } ≡ old) × (map.get pool.cols col ≡ Some [])) (λ r. Unlinks old (record old { pool = pool }) col r.0 r.1)
 took_nothing old pool col None e there n = (ap (λ p. record old { pool = p }) n.1, ap (λ p. map.get p.cols col) n.1 ∙ bare old.pool.cols col there n.0)
 took_nothing old pool col (Some r) e there n = no_value r (sym e)

@@ -8,20 +8,20 @@ ghost use Rattle.lock_table.specs.inner.Nodes.{held_in};
 ghost use Rattle.lock_table.specs.inner.Links.{IsLinked, IsLookedUp, IsAlone, place_at};
 
 use crate::links::Links;
-use crate::places::{self, Found, Place};
+use crate::places::{self, FoundPlace, Place};
 use crate::walks::{is_in_row, least_against, lesser};
 use pss_base::OwnerNo;
 use pss_machine::{Mode, Need, Resource};
 
 /// Where the locks on a resource stand, if it has a row.
-pub fn look_up(links: &Links, resource: &Resource) -> Option<Found>
+pub fn look_up(links: &Links, resource: &Resource) -> Option<FoundPlace>
     ensures { IsLookedUp links.now resource.now result }
 {
     places::find(&links.places, resource)
 }
 
 /// Whether an owner has locked what it needs, where this was found of its resource.
-pub fn is_held(links: &Links, owner: OwnerNo, need: &Need, found: Option<Found>) -> bool
+pub fn is_held(links: &Links, owner: OwnerNo, need: &Need, found: Option<FoundPlace>) -> bool
     requires linked { IsLinked links.now }
     requires found { IsLookedUp links.now need.now.resource found }
     ensures { result ≡ set.contains (held_by (held_in links.now.pool) owner) need.now }

@@ -12,7 +12,7 @@ ghost use Rattle.lock_table.specs.inner.Links.{IsLinked, IsReady, IsWhole, HaveR
 use crate::asks::{is_held, is_held_at, look_up};
 use crate::copies::{copy, lock_for};
 use crate::links::{Links, Lock};
-use crate::places::{self, Found, Place};
+use crate::places::{self, FoundPlace, Place};
 use crate::rings::{drop_empty_column, drop_empty_place};
 use crate::tables;
 use link_pool::Col;
@@ -27,13 +27,13 @@ struct Missing<'a> {
     /// The needs behind it.
     behind: &'a [Need],
     /// What was found of its resource, which is not looked for again.
-    found: Option<Found>,
+    found: Option<FoundPlace>,
 }
 
 /// Where a lock is linked: a row, whose resource was found, and a column.
 #[derive(Clone, Copy, Drop)]
 struct Crossing {
-    found: Found,
+    found: FoundPlace,
     col: Col,
 }
 
@@ -89,7 +89,7 @@ fn missing_locks(
 }
 
 // Adds an empty row for a resource that has none, and answers where it stands.
-fn add_place(links: &mut Links, resource: Resource) -> Result<Found, NoMemory>
+fn add_place(links: &mut Links, resource: Resource) -> Result<FoundPlace, NoMemory>
     requires { place_at links.old resource ≡ None }
     ensures grows { Grows links.old links.new }
     ensures ready { (locks : List Lock) → Contains (resources locks) resource → IsReady links.old locks → IsReady links.new locks }
@@ -99,7 +99,7 @@ fn add_place(links: &mut Links, resource: Resource) -> Result<Found, NoMemory>
     let row = links.pool.add_row()?;
     let place = Place { row, locks: 0 };
     let at = places::put(&mut links.places, resource, place);
-    Ok(Found { at, place })
+    Ok(FoundPlace { at, place })
 }
 
 // Adds an empty column for an owner that has none.
@@ -120,8 +120,8 @@ fn add_column(links: &mut Links, owner: OwnerNo) -> Result<Col, NoMemory>
 fn make_place(
     links: &mut Links,
     resource: &Resource,
-    found: Option<Found>,
-) -> Result<Found, NoMemory>
+    found: Option<FoundPlace>,
+) -> Result<FoundPlace, NoMemory>
     requires { IsLookedUp links.old resource.now found }
     ensures grows { Grows links.old links.new }
     ensures ready { (locks : List Lock) → Contains (resources locks) resource.now → IsReady links.old locks → IsReady links.new locks }
@@ -147,7 +147,7 @@ fn make_column(links: &mut Links, owner: OwnerNo) -> Result<Col, NoMemory>
 }
 
 // Sees to it that each lock has its row, where this was found of the first one's resource.
-fn make_places(links: &mut Links, locks: &[Lock], found: Option<Found>) -> Result<(), NoMemory>
+fn make_places(links: &mut Links, locks: &[Lock], found: Option<FoundPlace>) -> Result<(), NoMemory>
     requires ready { IsReady links.old locks.now }
     requires some { 0 < length locks.now }
     requires found { IsFirst links.old locks.now found }
@@ -170,7 +170,7 @@ fn make_rings(
     links: &mut Links,
     owner: OwnerNo,
     locks: &[Lock],
-    found: Option<Found>,
+    found: Option<FoundPlace>,
 ) -> Result<Col, NoMemory>
     requires ready { IsReady links.old locks.now }
     requires own { (lock : Lock) → Contains locks.now lock → lock.owner ≡ owner }
@@ -188,7 +188,11 @@ fn make_rings(
 }
 
 // Makes rings and room for a lock, where this was found of its resource. Also without memory there may be empty rings.
-fn make_crossing(links: &mut Links, lock: &Lock, found: Option<Found>) -> Result<Crossing, NoMemory>
+fn make_crossing(
+    links: &mut Links,
+    lock: &Lock,
+    found: Option<FoundPlace>,
+) -> Result<Crossing, NoMemory>
     requires whole { IsWhole links.old }
     requires found { IsLookedUp links.old lock.now.resource found }
     ensures nodes { SameNodes links.old links.new }
@@ -227,7 +231,7 @@ fn drop_empty_places(links: &mut Links, locks: &[Lock])
 }
 
 // Counts one lock more on the resource that was found.
-fn count_up(links: &mut Links, found: Found)
+fn count_up(links: &mut Links, found: FoundPlace)
     ensures { (resource : Resource) → IsFound links.old resource found → Recounts links.old links.new resource (λ n. min (n + 1) (2 ^ 64 - 1)) }
 {
     let counted = Place {
@@ -299,7 +303,7 @@ fn grant_one(links: &mut Links, owner: OwnerNo, only: &Missing<'_>) -> Result<()
 }
 
 // Makes rings for a lock that its owner has not, where this was found of its resource, and links it there.
-fn link_one(links: &mut Links, lock: Lock, found: Option<Found>) -> Result<(), NoMemory>
+fn link_one(links: &mut Links, lock: Lock, found: Option<FoundPlace>) -> Result<(), NoMemory>
     requires whole { IsWhole links.old }
     requires missing { IsMissing links.old lock.owner (need_of lock) found }
     ensures whole { IsWhole links.new }

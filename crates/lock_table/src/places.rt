@@ -22,7 +22,7 @@ pub struct Place {
 
 /// A place, and where in the table it stands.
 #[derive(Clone, Copy, Drop)]
-pub struct Found {
+pub struct FoundPlace {
     pub at: usize,
     pub place: Place,
 }
@@ -50,7 +50,7 @@ pub fn none(alloc: Global) -> Places
 }
 
 /// The place of a resource and where it stands, where it has one. What is written there needs no look-up more.
-pub fn find(places: &Places, resource: &Resource) -> Option<Found>
+pub fn find(places: &Places, resource: &Resource) -> Option<FoundPlace>
     ensures some { IfSome result (IsAt places.now.table.entries resource.now) }
     ensures none { IfNone result (entry_at same_resource places.now.table.entries resource.now ≡ None) }
 {
@@ -118,7 +118,7 @@ fn last_of<'a>(
 }
 
 // What stands where the last one was found, or beside it, where that is the resource. It is not hashed.
-fn near(table: &Table<Resource, Place>, last: usize, resource: &Resource) -> Option<Found>
+fn near(table: &Table<Resource, Place>, last: usize, resource: &Resource) -> Option<FoundPlace>
     ensures { IfSome result (IsAt table.now.entries resource.now) }
 {
     if let Some(found) = found_at(table, last, resource) {
@@ -131,17 +131,21 @@ fn near(table: &Table<Resource, Place>, last: usize, resource: &Resource) -> Opt
 }
 
 // What stands there, where that is the resource.
-fn found_at(table: &Table<Resource, Place>, at: usize, resource: &Resource) -> Option<Found>
+fn found_at(table: &Table<Resource, Place>, at: usize, resource: &Resource) -> Option<FoundPlace>
     ensures { IfSome result (IsAt table.now.entries resource.now) }
 {
     match table.get_index(at) {
-        Some((there, place)) if *there == *resource => Some(Found { at, place: *place }),
+        Some((there, place)) if *there == *resource => Some(FoundPlace { at, place: *place }),
         _ => None,
     }
 }
 
 // The place of a resource by its hash, for which nothing is hashed where nothing is locked. The next one is looked for near it.
-fn look_up(table: &Table<Resource, Place>, last: &Cell<usize>, resource: &Resource) -> Option<Found>
+fn look_up(
+    table: &Table<Resource, Place>,
+    last: &Cell<usize>,
+    resource: &Resource,
+) -> Option<FoundPlace>
     ensures some { IfSome result (IsAt table.now.entries resource.now) }
     ensures none { IfNone result (entry_at same_resource table.now.entries resource.now ≡ None) }
 {
@@ -151,7 +155,7 @@ fn look_up(table: &Table<Resource, Place>, last: &Cell<usize>, resource: &Resour
     match table.get_full(resource) {
         Some((at, _, place)) => {
             last.set(at);
-            Some(Found { at, place: *place })
+            Some(FoundPlace { at, place: *place })
         }
         None => None,
     }

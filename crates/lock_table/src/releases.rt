@@ -8,7 +8,7 @@ ghost use Rattle.lock_table.specs.inner.Nodes.{held_in};
 ghost use Rattle.lock_table.specs.inner.Links.{IsLinked, IsWhole, IsReleasing, IsFound, Recounts, Unlinks, place_at};
 
 use crate::links::{Links, Lock};
-use crate::places::{self, Found, Place};
+use crate::places::{self, FoundPlace, Place};
 use crate::rings::{drop_empty_row, remove_column};
 use crate::tables;
 use link_pool::Col;
@@ -17,7 +17,7 @@ use pss_machine::Resource;
 use std::sync::ledger::Ledger;
 
 // Counts one lock fewer on a resource that has a row, and answers what is left.
-fn count_down(links: &mut Links, resource: &Resource) -> Found
+fn count_down(links: &mut Links, resource: &Resource) -> FoundPlace
     requires { IsSome (place_at links.old resource.now) }
     ensures found { IsFound links.new resource.now result }
     ensures recounts { Recounts links.old links.new resource.now (λ n. n - 1) }
@@ -29,7 +29,7 @@ fn count_down(links: &mut Links, resource: &Resource) -> Found
                 locks: found.place.locks.saturating_sub(1),
             };
             places::write(&mut links.places, found.at, left);
-            Found {
+            FoundPlace {
                 at: found.at,
                 place: left,
             }
@@ -44,7 +44,7 @@ fn unlink_first<L: Ledger>(
     links: &mut Links,
     col: Col,
     steps: &mut Steps<L>,
-) -> Option<(Lock, Found)>
+) -> Option<(Lock, FoundPlace)>
     requires linked { IsLinked links.old }
     requires col { IsSome (map.get links.old.pool.cols col) }
     ensures linked { IsLinked links.new }

@@ -7,14 +7,14 @@ ghost use Rattle.lock_table.specs.inner.Links.{IsLinked, IsFound, IsThere, SameN
 
 use crate::asks::look_up;
 use crate::links::Links;
-use crate::places::{self, Found};
+use crate::places::{self, FoundPlace};
 use crate::tables;
 use link_pool::Col;
 use pss_base::OwnerNo;
 use pss_machine::Resource;
 
 // Takes the row of a resource away, which was found and is empty.
-fn remove_place(links: &mut Links, found: Found)
+fn remove_place(links: &mut Links, found: FoundPlace)
     requires { map.get links.old.pool.rows found.place.row ≡ Some [] }
     ensures nodes { SameNodes links.old links.new }
     ensures columns { links.new.columns.entries ≡ links.old.columns.entries }
@@ -39,7 +39,7 @@ pub fn remove_column(links: &mut Links, owner: OwnerNo, col: Col)
 }
 
 /// Takes the row of a resource that was found away if it is empty, which its place tells.
-pub fn drop_empty_row(links: &mut Links, found: Found)
+pub fn drop_empty_row(links: &mut Links, found: FoundPlace)
     requires linked { IsLinked links.old }
     requires there { IsThere links.old found }
     ensures nodes { SameNodes links.old links.new }

@@ -12,7 +12,7 @@ use Rattle.link_pool.specs.declared.names.Col.{Col}
 use Rattle.link_pool.specs.declared.names.Node.{Node}
 use Rattle.lock_table.specs.declared.links.Lock.{Lock}
 use Rattle.lock_table.specs.declared.places.Place.{Place}
-use Rattle.lock_table.specs.declared.places.Found.{Found}
+use Rattle.lock_table.specs.declared.places.FoundPlace.{FoundPlace}
 use Rattle.lock_table.specs.declared.grants.Crossing.{Crossing}
 use Rattle.pss_machine.specs.declared.lock.Need.{Need}
 use Rattle.lock_table.specs.declared.links.Links.{Links}
@@ -61,26 +61,26 @@ abbrev pub IsAlone : Links → OwnerNo → Type 0
 IsAlone links owner = (n : OwnerNo) (col : Col) → col_at links n ≡ Some col → n ≡ owner
 
 -- a resource stands there, with this place
-pub record IsAt (places : List (Resource × Place)) (r : Resource) (found : Found) : Type 0 where
+pub record IsAt (places : List (Resource × Place)) (r : Resource) (found : FoundPlace) : Type 0 where
   pub at : key_at found.at places ≡ Some r
   pub place : entry_at same_resource places r ≡ Some found.place
 
 -- a resource was found there
-abbrev pub IsFound : Links → Resource → Found → Type 0
+abbrev pub IsFound : Links → Resource → FoundPlace → Type 0
 IsFound links r found = IsAt links.places.table.entries r found
 
 -- a resource was found there, whichever that is
-pub record IsThere (links : Links) (found : Found) : Type 0 where
+pub record IsThere (links : Links) (found : FoundPlace) : Type 0 where
   pub resource : Resource
   pub is : IsFound links resource found
 
 -- this was found of a resource
-pub record IsLookedUp (links : Links) (r : Resource) (found : Option Found) : Type 0 where
+pub record IsLookedUp (links : Links) (r : Resource) (found : Option FoundPlace) : Type 0 where
   pub some : IfSome found (IsFound links r)
   pub none : IfNone found (place_at links r ≡ None)
 
 -- this was found of the first lock's resource
-abbrev pub IsFirst : Links → List Lock → Option Found → Type 0
+abbrev pub IsFirst : Links → List Lock → Option FoundPlace → Type 0
 IsFirst links locks found = (lock : Lock) → get_or locks 0 lock ≡ lock → IsLookedUp links lock.resource found
 
 -- what holds whenever a lock is linked or unlinked
@@ -141,7 +141,7 @@ pub record DropsRow (old new : Links) (r : Resource) : Type 0 where
   pub cols : (keys : List OwnerNo) → EmptyCols old keys → EmptyCols new keys
 
 -- a lock went out of its rings, and its row may be empty now
-pub record Unlinks (old new : Links) (col : Col) (lock : Lock) (left : Found) : Type 0 where
+pub record Unlinks (old new : Links) (col : Col) (lock : Lock) (left : FoundPlace) : Type 0 where
   pub own : col_at old lock.owner ≡ Some col
   pub had : set.contains (held_by (held_in old.pool) lock.owner) (need_of lock) ≡ true
   pub held : held_in new.pool ≡ without_lock lock (held_in old.pool)
@@ -159,7 +159,7 @@ pub record Recounts (old new : Links) (r : Resource) (locks : ℕ → ℕ) : Typ
   pub held : new.held ≡ old.held
 
 -- an owner has not locked what it needs, and this was found of its resource
-pub record IsMissing (links : Links) (owner : OwnerNo) (need : Need) (found : Option Found) : Type 0 where
+pub record IsMissing (links : Links) (owner : OwnerNo) (need : Need) (found : Option FoundPlace) : Type 0 where
   pub new : set.contains (held_by (held_in links.pool) owner) need ≡ false
   pub looked : IsLookedUp links need.resource found
 

@@ -9,11 +9,12 @@ use pss_base::{NoMemory, OwnerNo};
 use recent_table::RecentTable;
 use std::alloc::Global;
 use std::marker::Model;
+use table_hash::NumberHasher;
 
 /// A finite map from the numbers of owners to how they are called.
 #[derive(Drop)]
 pub struct TitleTable {
-    table: RecentTable<OwnerNo, Called>,
+    table: RecentTable<OwnerNo, Called, NumberHasher>,
 }
 
 impl Model for TitleTable {

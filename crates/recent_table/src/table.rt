@@ -1,33 +1,34 @@
 // Values by key, the one found last first.
-ghost use Rattle.std.specs.Prelude.{◌≡◌, ◌<◌, ◌^◌, [], true, Some, None, IsSome, IfSome, IfNone, OnOk, OnErr, length, option_copied};
+ghost use Rattle.std.specs.Prelude.{◌≡◌, ◌<◌, ◌↔◌, ◌^◌, [], true, Some, None, IsSome, IfSome, IfNone, OnOk, OnErr, length, option_copied, slice_get};
 ghost use Rattle.std.specs.List.{IsDistinct};
 ghost use Rattle.std.specs.Map.{lookup, keys_of};
 ghost use Rattle.std.specs.Borrow.{sem};
-ghost use Rattle.std.specs.Option.{option_copied_mut};
+ghost use Rattle.std.specs.Map.Iter.{ShowsInOrder, deref_pair};
+ghost use Rattle.std.specs.Option.{option_map, option_copied_mut};
 ghost use Rattle.recent_table.specs.Turned.{IsTurned, StandsAt};
 ghost use Rattle.recent_table.specs.Lends.{lends_value};
 
 use indexmap::IndexMap;
+use indexmap::map::Iter;
 use pss_base::NoMemory;
 use std::alloc::Global;
 use std::cell::Cell;
-use std::hash::{BuildHasherDefault, Hash};
+use std::hash::{BuildHasherDefault, Hash, Hasher};
 use std::marker::Model;
-use table_hash::NumberHasher;
 
-type Table<K, V> = IndexMap<K, V, BuildHasherDefault<NumberHasher>>;
+type Table<K, V, H> = IndexMap<K, V, BuildHasherDefault<H>>;
 
-/// Values by key, as a list of entries in which no key stands twice. The hash is one multiplication, so it is for keys that no
-/// stranger chooses.
+/// Values by key, as a list of entries in which no key stands twice. `H` hashes the keys: `NumberHasher` of `table_hash` where no
+/// stranger chooses them, else `ByteHasher`.
 #[derive(Drop)]
-pub struct RecentTable<K: Eq + Hash, V> {
-    table: Table<K, V>,
-    // The place of the entry found last, where the next one is looked for first: a command asks for its own several times. It may
-    // be any number.
+pub struct RecentTable<K: Eq + Hash, V, H: Copy + Default + Hasher> {
+    table: Table<K, V, H>,
+    // The place of the entry found last, where the next one is looked for first, and then behind it: a command asks for its own
+    // several times, and one command for what stands behind that of another. It may be any number.
     last: Cell<usize>,
 }
 
-impl<K: Eq + Hash, V> Model for RecentTable<K, V> {
+impl<K: Eq + Hash, V, H: Copy + Default + Hasher> Model for RecentTable<K, V, H> {
     ghost use Rattle.std.specs.Prelude.{List};
 
     ghost Value = { List (K × V) };
@@ -37,7 +38,11 @@ impl<K: Eq + Hash, V> Model for RecentTable<K, V> {
 
 // The value at a place, where this key stands there.
 #[inline(always)]
-fn value_there<K: Copy + Eq + Hash, V>(table: &Table<K, V>, place: usize, key: K) -> Option<&V>
+fn value_there<K: Copy + Eq + Hash, V, H: Copy + Default + Hasher>(
+    table: &Table<K, V, H>,
+    place: usize,
+    key: K,
+) -> Option<&V>
     ensures { IfSome (option_copied result) (λ value. lookup (K.eq key) table.now.entries ≡ Some value) }
 {
     match table.get_index(place) {
@@ -46,10 +51,28 @@ fn value_there<K: Copy + Eq + Hash, V>(table: &Table<K, V>, place: usize, key: K
     }
 }
 
-// The value of a key by its hash. The next one is looked for at its place.
+// The value of a key that is not where the last one was found. Where it stands behind that it is not hashed.
 #[inline(never)]
-fn look_up<'a, K: Copy + Eq + Hash, V>(
-    table: &'a Table<K, V>,
+fn look_ahead<'a, K: Copy + Eq + Hash, V, H: Copy + Default + Hasher>(
+    table: &'a Table<K, V, H>,
+    last: &Cell<usize>,
+    key: K,
+) -> Option<&'a V>
+    ensures { option_copied result ≡ lookup (K.eq key) table.now.entries }
+{
+    let next = last.get().wrapping_add(1);
+    match value_there(table, next, key) {
+        Some(value) => {
+            last.set(next);
+            Some(value)
+        }
+        None => look_up(table, last, key),
+    }
+}
+
+// The value of a key by its hash. The next one is looked for at its place.
+fn look_up<'a, K: Copy + Eq + Hash, V, H: Copy + Default + Hasher>(
+    table: &'a Table<K, V, H>,
     last: &Cell<usize>,
     key: K,
 ) -> Option<&'a V>
@@ -66,7 +89,11 @@ fn look_up<'a, K: Copy + Eq + Hash, V>(
 
 // Whether a key stands at a place.
 #[inline(always)]
-fn stands_at<K: Copy + Eq + Hash, V>(table: &Table<K, V>, place: usize, key: K) -> bool
+fn stands_at<K: Copy + Eq + Hash, V, H: Copy + Default + Hasher>(
+    table: &Table<K, V, H>,
+    place: usize,
+    key: K,
+) -> bool
     ensures { result ≡ true → StandsAt K.eq table.now.entries place key }
 {
     match table.get_index(place) {
@@ -75,35 +102,64 @@ fn stands_at<K: Copy + Eq + Hash, V>(table: &Table<K, V>, place: usize, key: K) 
     }
 }
 
-// The place of a key by its hash.
+// The place of a key. Where it is the last one or the next, it is not hashed.
+#[inline(always)]
+fn place_of<K: Copy + Eq + Hash, V, H: Copy + Default + Hasher>(
+    table: &Table<K, V, H>,
+    last: &Cell<usize>,
+    key: K,
+) -> Option<usize>
+    ensures some { IfSome result (λ place. StandsAt K.eq table.now.entries place key) }
+    ensures none { IfNone result (lookup (K.eq key) table.now.entries ≡ None) }
+{
+    let place = last.get();
+    if stands_at(table, place, key) {
+        Some(place)
+    } else {
+        place_ahead(table, last, key)
+    }
+}
+
+// The place of a key that is not where the last one was found.
 #[inline(never)]
-fn find_place<K: Copy + Eq + Hash, V>(table: &Table<K, V>, key: K) -> Option<usize>
+fn place_ahead<K: Copy + Eq + Hash, V, H: Copy + Default + Hasher>(
+    table: &Table<K, V, H>,
+    last: &Cell<usize>,
+    key: K,
+) -> Option<usize>
+    ensures some { IfSome result (λ place. StandsAt K.eq table.now.entries place key) }
+    ensures none { IfNone result (lookup (K.eq key) table.now.entries ≡ None) }
+{
+    let next = last.get().wrapping_add(1);
+    if stands_at(table, next, key) {
+        last.set(next);
+        return Some(next);
+    }
+    find_place(table, last, key)
+}
+
+// The place of a key by its hash. The next one is looked for there.
+fn find_place<K: Copy + Eq + Hash, V, H: Copy + Default + Hasher>(
+    table: &Table<K, V, H>,
+    last: &Cell<usize>,
+    key: K,
+) -> Option<usize>
     ensures some { IfSome result (λ place. StandsAt K.eq table.now.entries place key) }
     ensures none { IfNone result (lookup (K.eq key) table.now.entries ≡ None) }
 {
     match table.get_full(&key) {
-        Some((place, _, _)) => Some(place),
+        Some((place, _, _)) => {
+            last.set(place);
+            Some(place)
+        }
         None => None,
-    }
-}
-
-// The place of a key, looked for first at this one.
-#[inline(always)]
-fn place_of<K: Copy + Eq + Hash, V>(table: &Table<K, V>, last: usize, key: K) -> Option<usize>
-    ensures some { IfSome result (λ place. StandsAt K.eq table.now.entries place key) }
-    ensures none { IfNone result (lookup (K.eq key) table.now.entries ≡ None) }
-{
-    if stands_at(table, last, key) {
-        Some(last)
-    } else {
-        find_place(table, key)
     }
 }
 
 // Takes the entry at a place away, where this key stands.
 #[inline(always)]
-fn remove_at<K: Copy + Eq + Hash + Drop, V>(
-    table: &mut Table<K, V>,
+fn remove_at<K: Copy + Eq + Hash + Drop, V, H: Copy + Default + Hasher>(
+    table: &mut Table<K, V, H>,
     place: usize,
     key: K,
 ) -> Option<V>
@@ -117,9 +173,9 @@ fn remove_at<K: Copy + Eq + Hash + Drop, V>(
     }
 }
 
-impl<K: Copy + Eq + Hash + Drop, V: Drop> RecentTable<K, V> {
+impl<K: Copy + Eq + Hash + Drop, V: Drop, H: Copy + Default + Hasher> RecentTable<K, V, H> {
     /// A table with no entry. It takes no memory.
-    pub fn new(alloc: Global) -> RecentTable<K, V>
+    pub fn new(alloc: Global) -> RecentTable<K, V, H>
         ensures { result ≡ [] }
     {
         RecentTable {
@@ -137,14 +193,33 @@ impl<K: Copy + Eq + Hash + Drop, V: Drop> RecentTable<K, V> {
         self.table.len()
     }
 
-    /// The value of a key, which is hashed only where it was not the one found last.
+    /// The entry at a place, where there is one.
+    pub fn at(&self, place: usize) -> Option<(&K, &V)>
+        ensures entry { option_map deref_pair result ≡ slice_get self.now place }
+        ensures found { IsSome result ↔ (place < length self.now) }
+        ensures value { IfSome result (λ e. lookup (K.eq e.0.now) self.now ≡ Some e.1.now) }
+    {
+        self.table.get_index(place)
+    }
+
+    /// The entries, in their order.
+    pub fn iter(&self) -> Iter<'_, K, V>
+        ensures rest { result ≡ self.now }
+        ensures len { length result ≡ length self.now }
+        ensures runs { ShowsInOrder (deref_pair {K = K} {X = V}) }
+        ensures once { IsDistinct K.eq (keys_of self.now) }
+    {
+        self.table.iter()
+    }
+
+    /// The value of a key. Where it is the one found last, or stands behind it, it is not hashed.
     #[inline(always)]
     pub fn get(&self, key: K) -> Option<&V>
         ensures { option_copied result ≡ lookup (K.eq key) self.now }
     {
         match value_there(&self.table, self.last.get(), key) {
             Some(value) => Some(value),
-            None => look_up(&self.table, &self.last, key),
+            None => look_ahead(&self.table, &self.last, key),
         }
     }
 
@@ -159,19 +234,19 @@ impl<K: Copy + Eq + Hash + Drop, V: Drop> RecentTable<K, V> {
         Ok(())
     }
 
-    /// The value of a key, to write. It is hashed only where it was not the one found last.
+    /// The value of a key, to write. It is looked for as `get` does.
     #[inline(always)]
     pub fn get_mut(&mut self, key: K) -> Option<&mut V>
-        ensures* writes_back { sem 𝓛 (lends_value K.row V.row K.Hash self.entry key result) }
+        ensures* writes_back { sem 𝓛 (lends_value K.row V.row H.row K.Hash H.Clone H.Default H.Hasher self.entry key result) }
         ensures value { option_copied_mut result ≡ lookup (K.eq key) self.old }
     {
-        match place_of(&self.table, self.last.get(), key) {
+        match place_of(&self.table, &self.last, key) {
             Some(place) => self.table.get_index_mut(place),
             None => None,
         }
     }
 
-    /// Sets the value of a key that has one, which is hashed only where it was not the one found last.
+    /// Sets the value of a key that has one, which is looked for as `get` does.
     pub fn set(&mut self, key: K, value: V)
         requires { IsSome (lookup (K.eq key) self.old) }
         ensures { IsTurned K.eq self.old self.new key (Some value) }
@@ -192,6 +267,17 @@ impl<K: Copy + Eq + Hash + Drop, V: Drop> RecentTable<K, V> {
             remove_at(&mut self.table, last, key)
         } else {
             self.table.swap_remove(&key)
+        }
+    }
+
+    /// Takes all entries away. The memory of so many stays for those that come next, and no more.
+    pub fn clear(&mut self, alloc: Global, most_kept: usize)
+        ensures { self.new ≡ [] }
+    {
+        if self.table.capacity() <= most_kept {
+            self.table.clear();
+        } else {
+            *self = RecentTable::new(alloc);
         }
     }
 }

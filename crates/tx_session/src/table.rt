@@ -7,8 +7,9 @@ use owner_view::Owned;
 use pss_base::{NoMemory, OwnerNo};
 use recent_table::RecentTable;
 use std::alloc::Global;
+use table_hash::NumberHasher;
 
-pub type Table = RecentTable<OwnerNo, Owned>;
+pub type Table = RecentTable<OwnerNo, Owned, NumberHasher>;
 
 pub fn empty(alloc: Global) -> Table
     ensures { result ≡ [] }
@@ -16,7 +17,7 @@ pub fn empty(alloc: Global) -> Table
     RecentTable::new(alloc)
 }
 
-/// The owner of a number, where there is one. It is hashed only where it is not the one found last.
+/// The owner of a number, where there is one. It is hashed only where it was neither the one found last nor the next.
 pub fn find(table: &Table, owner: OwnerNo) -> Option<&Owned>
     ensures { option_map (λ owned. owned.now) result ≡ owned_at owner.0 table.now }
 {

@@ -10,12 +10,13 @@ use pss_base::NoMemory;
 use recent_table::RecentTable;
 use std::alloc::Global;
 use std::marker::Model;
+use table_hash::NumberHasher;
 use type_layout::Record;
 
 /// A finite map from names of bodies to bodies.
 #[derive(Drop)]
 pub struct BodyTable {
-    table: RecentTable<BodyName, BodyRecord>,
+    table: RecentTable<BodyName, BodyRecord, NumberHasher>,
 }
 
 impl Model for BodyTable {
@@ -77,7 +78,8 @@ impl BodyTable {
         Ok(())
     }
 
-    /// A body has this many entries now. Its name is hashed only where it was not the one found last.
+    /// A body has this many entries now. Its name is hashed only where it was neither the one found last nor
+    /// the next.
     pub fn set_entries(&mut self, name: BodyName, entries: u64)
         requires { IsSome (map.get self.old name) }
         ensures { IsWith self.old self.new name (with_entries entries) }
@@ -88,7 +90,7 @@ impl BodyTable {
         }
     }
 
-    /// A body has this value now. Its name is hashed only where it was not the one found last.
+    /// A body has this value now. Its name is hashed only where it was neither the one found last nor the next.
     pub fn set_value(&mut self, name: BodyName, value: Record)
         requires { IsSome (map.get self.old name) }
         ensures { IsWith self.old self.new name (with_value value) }

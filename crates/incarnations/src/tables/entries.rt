@@ -7,11 +7,12 @@ use pss_base::NoMemory;
 use recent_table::RecentTable;
 use std::alloc::Global;
 use std::marker::Model;
+use table_hash::NumberHasher;
 
 /// A finite map from slots to records of entries.
 #[derive(Drop)]
 pub struct EntryTable {
-    table: RecentTable<Slot, EntryRecord>,
+    table: RecentTable<Slot, EntryRecord, NumberHasher>,
 }
 
 impl Model for EntryTable {
@@ -67,7 +68,7 @@ impl EntryTable {
         Ok(())
     }
 
-    /// Puts another record at a slot that has one, which is hashed only where it was not the one found last.
+    /// Puts another record at a slot that has one, which is hashed only where it was neither the one found last nor the next.
     pub fn set(&mut self, slot: Slot, put: EntryRecord)
         requires { IsSome (map.get self.old slot) }
         ensures { self.new ≡ map.insert self.old slot put }

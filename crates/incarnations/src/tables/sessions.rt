@@ -9,11 +9,12 @@ use pss_base::{NoMemory, SessionNo};
 use recent_table::RecentTable;
 use std::alloc::Global;
 use std::marker::Model;
+use table_hash::NumberHasher;
 
 /// A finite map from sessions to their records.
 #[derive(Drop)]
 pub struct SessionTable {
-    table: RecentTable<SessionNo, SessionRecord>,
+    table: RecentTable<SessionNo, SessionRecord, NumberHasher>,
 }
 
 impl Model for SessionTable {
@@ -53,7 +54,8 @@ impl SessionTable {
         Ok(())
     }
 
-    /// Puts another record at a session that has one, which is hashed only where it was not the one found last.
+    /// Puts another record at a session that has one, which is hashed only where it was neither the one found last nor the
+    /// next.
     pub fn set(&mut self, session: SessionNo, put: SessionRecord)
         requires { IsSome (map.get self.old session) }
         ensures { self.new ≡ map.insert self.old session put }

@@ -23,7 +23,6 @@ pub mod Roots
 pub mod Merging
 pub mod Told
 pub mod Ordered
-pub mod Places
 pub mod Putting
 pub mod OneOwner
 pub mod Outcomes

@@ -1,5 +1,5 @@
 -- Slots by the order of their serials.
-use Rattle.std.proofs.Common.{ℕ, suc, ◌≡◌, ◌<◌, ◌≤◌, ◌+◌, ◌==◌, Bool, true, false, cond, List, [], ◌∷◌, length, drop, get_or, Option, Some, None, refl, sym, ap, subst, ◌∙◌, arith, zero, add-one}
+use Rattle.std.proofs.Common.{ℕ, suc, ◌≡◌, ◌<◌, ◌≤◌, ◌+◌, ◌==◌, Bool, true, false, cond, List, [], ◌∷◌, length, drop, get_or, Option, Some, None, IsSome, refl, eq-eqb, sym, ap, subst, ◌∙◌, arith, zero, add-one}
 use Rattle.std.specs.Prelude.{is_some, nat_eq, ◌||◌, slice_get}
 use Rattle.std.specs.List.{list_any, IsDistinct}
 use Rattle.std.specs.List.Sorted.{IsPermutation, IsSorted, IsNonDecreasing}
@@ -150,3 +150,7 @@ reserved_keeps old new s none put q = ap (λ (o : Option Slot). given o None slo
     by : (b : Bool) → (s == q) ≡ b → given (cond b (Some slot.Reserved) (slot_at q old)) None slot_state ≡ state_at q old
     by true is = sym (ap (λ (o : Option Slot). given o None slot_state) (ap (λ (t : ℕ). slot_at t old) (sym (is_it s q is)) ∙ none))
     by false is = refl
+
+-- a serial that was reserved has a slot
+pub slot_reserved : (old new : List (ℕ × Slot)) (s : ℕ) → ((q : ℕ) → slot_at q new ≡ cond (s == q) (Some slot.Reserved) (slot_at q old)) → IsSome (slot_at s new)
+slot_reserved old new s put = subst IsSome (sym (put s ∙ ap (λ (b : Bool). cond b (Some slot.Reserved) (slot_at s old)) (eq-eqb s s refl))) refl

@@ -11,7 +11,7 @@ use Rattle.owner_view.specs.Keyed.{Pair}
 use Rattle.owner_view.specs.Views.{IsOwnHolder}
 
 abbrev pub slots_in : Overlay → List (ℕ × Slot)
-slots_in overlay = overlay.states.table.entries
+slots_in overlay = overlay.states
 
 abbrev pub changes_in : Overlay → Changes
 changes_in overlay = changes_of (slots_in overlay)
@@ -21,7 +21,7 @@ indexes_in overlay = overlay.indexes.entries
 
 -- a state may be put at the serial, and each of the keys
 pub record IsReady (serial : ℕ) (pairs : List Pair) (overlay : Overlay) : Type 0 where
-  pub there : IsSome (slot_at serial overlay.states.table.entries)
+  pub there : IsSome (slot_at serial overlay.states)
   pub reserved : (key : ℕ) (bytes : List ℕ) → IsTrue (lists pairs key bytes) → is_key_reserved (indexes_in overlay) key bytes ≡ true
 
 -- the keys that an object had have no holder, but those that it has have it

@@ -44,7 +44,7 @@ fn first_with<C: Committed>(
 ) -> Result<Pids, NoMemory>
     requires sees { Sees C.shows view.now }
     requires few { length serials.now < 2 ^ 63 }
-    requires order { AreInOrder view.now.overlay.now.states.table.entries serials.now }
+    requires order { AreInOrder view.now.overlay.now.states serials.now }
     ensures { IfOk result (λ pids. (v : Sees C.shows view.now) → pids ≡ take 256 (extent view.now.schema.now (seen_with v.catalog (changes_in view.now.overlay.now)) home)) }
 {
     let asked = most_asked(serials.len())?;
@@ -72,7 +72,7 @@ fn first_merged<C: Committed>(
     committed: &[Pid],
 ) -> Result<Pids, NoMemory>
     requires sees { Sees C.shows view.now }
-    requires order { AreInOrder view.now.overlay.now.states.table.entries serials.now }
+    requires order { AreInOrder view.now.overlay.now.states serials.now }
     ensures { IfOk result (λ pids. pids ≡ take 256 (merged (is_of view.now.schema.now home) (listed (changes_in view.now.overlay.now)) committed.now)) }
 {
     let mut pids = Pids::new(alloc);
@@ -88,7 +88,7 @@ fn put_merged<C: Committed>(
     committed: &[Pid],
 ) -> Result<(), NoMemory>
     requires sees { Sees C.shows view.now }
-    requires order { AreInOrder view.now.overlay.now.states.table.entries serials.now }
+    requires order { AreInOrder view.now.overlay.now.states serials.now }
     requires none { pids.old ≡ [] }
     ensures { OnOk result (pids.new ≡ take 256 (merged (is_of view.now.schema.now home) (listed (changes_in view.now.overlay.now)) committed.now)) }
 {

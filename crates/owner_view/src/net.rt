@@ -57,7 +57,7 @@ fn net_at<C: Committed>(
     serials: &[u64],
 ) -> Result<Changes, NoMemory>
     requires shows { Shows C.shows view.now }
-    requires order { AreInOrder view.now.overlay.now.states.table.entries serials.now }
+    requires order { AreInOrder view.now.overlay.now.states serials.now }
     ensures { IfOk result (λ changes. (v : Shows C.shows view.now) → AreNet view.now.schema.now v.catalog (net_of v.catalog (changes_in view.now.overlay.now)) changes) }
 {
     let mut changes = Changes::with_room(alloc, serials.len())?;
@@ -72,7 +72,7 @@ fn put_net<C: Committed>(
     serials: &[u64],
 ) -> Result<(), NoMemory>
     requires shows { Shows C.shows view.now }
-    requires order { AreInOrder view.now.overlay.now.states.table.entries serials.now }
+    requires order { AreInOrder view.now.overlay.now.states serials.now }
     requires none { changes.old ≡ [] }
     ensures { OnOk result ((v : Shows C.shows view.now) → AreNet view.now.schema.now v.catalog (net_of v.catalog (changes_in view.now.overlay.now)) changes.new) }
 {

@@ -31,7 +31,7 @@ impl Overlay {
     {
         Overlay {
             alloc,
-            states: states::none(alloc),
+            states: States::new(alloc),
             indexes: indexes::none(alloc),
         }
     }
@@ -47,14 +47,14 @@ impl Overlay {
 
     /// The serial of the only state, or of the only one that is reserved.
     pub fn only(&self) -> Option<u64>
-        ensures { IfSome result (λ serial. AreInOrder self.now.states.table.entries (serial ∷ [])) }
+        ensures { IfSome result (λ serial. AreInOrder self.now.states (serial ∷ [])) }
     {
         states::only(&self.states)
     }
 
     /// The serials of the states in their order, with those that are only reserved.
     pub fn in_order(&self) -> Result<Vec<u64>, NoMemory>
-        ensures { IfOk result (λ serials. AreInOrder self.now.states.table.entries serials.items) }
+        ensures { IfOk result (λ serials. AreInOrder self.now.states serials.items) }
     {
         states::in_order(self.alloc, &self.states)
     }
@@ -68,16 +68,16 @@ impl Overlay {
 
     /// How many serials have a state, with those that are only reserved.
     pub fn count(&self) -> usize
-        ensures count { result ≡ length self.now.states.table.entries }
+        ensures count { result ≡ length self.now.states }
         ensures few { result < 2 ^ 63 }
-        ensures apart { IsDistinct nat_eq (keys_of self.now.states.table.entries) }
+        ensures apart { IsDistinct nat_eq (keys_of self.now.states) }
     {
-        states::count(&self.states)
+        self.states.len()
     }
 
     /// One of these serials by its place, and what was made of its object.
     pub fn slot_in(&self, place: usize) -> (u64, Told<'_>)
-        requires { place < length self.now.states.table.entries }
+        requires { place < length self.now.states }
         ensures slot { IsSlot (slots_in self.now) place result.0 (told_state result.1) }
         ensures sized { (S : Schema) → AreSized S (slots_in self.now) → IsToldSized S result.1 }
     {
@@ -119,7 +119,7 @@ impl Overlay {
         had: &[(KeyNo, Bytes)],
         has: &[(KeyNo, Bytes)],
     ) -> bool
-        requires there { IsSome (slot_at serial self.old.states.table.entries) }
+        requires there { IsSome (slot_at serial self.old.states) }
         requires has { (between : Table) → TurnsFound (indexes_in self.old) between had.now None → KeepsKeysReserved (indexes_in self.old) between → MayPut between has.now }
         ensures before { result ≡ map.contains_key (changes_in self.old) serial }
         ensures changes { changes_in self.new ≡ with_told (slot_state slot) serial (changes_in self.old) }

@@ -1,16 +1,10 @@
 -- The row of one serial changes with that of its place in its chunk.
-use Rattle.std.proofs.Common.{ℕ, zero, suc, ◌≡◌, ◌==◌, ◌/◌, ◌%◌, List, [], ◌∷◌, Option, Some, None, IsSome, false, cond, get_or, slice_get, subst, refl, sym, ap, ◌∙◌, arith, eq-eqb, eqb-true}
+use Rattle.std.proofs.Common.{ℕ, ◌≡◌, ◌==◌, ◌/◌, ◌%◌, List, Option, Some, None, IsSome, true, false, cond, get_or, subst, refl, sym, ap, ◌∙◌, arith, eq-eqb}
 use Rattle.std.specs.Prelude.{nat_eq}
-use Rattle.std.specs.Cmp.{nat_eq_equiv}
-use Rattle.std.specs.Option.{option_map, unwrap_or}
-use Rattle.std.specs.Map.{values_of, lookup_key}
-use Rattle.std.proofs.lemmas.Map.Entries.{lookup_from_place}
-use Rattle.std.proofs.lemmas.Map.Made.{lookup_key_passes}
-use Rattle.indexmap.specs.IndexMap.{IndexMap, IsUnique, values, with_value_at}
-use Rattle.indexmap.proofs.CallerLemmas.{updates-with_value_at}
+use Rattle.recent_table.specs.Turned.{IsTurned}
 use Rattle.storage_home.specs.declared.rows.Row.{Row}
 use Rattle.storage_home.specs.Cells.{TurnsCell}
-use Rattle.storage_home.specs.Rows.{Chunks, number_at, chunk_at, cell_in, row_at, TurnsRow, KeepsRows}
+use Rattle.storage_home.specs.Rows.{Chunks, chunk_at, cell_in, row_at, object_in, is_reserved_in, reserved_in, object_at, is_reserved_at, TurnsRow, KeepsRows, KeepsObjects, TurnsReserved}
 use Rattle.storage_home.proofs.Places.{by_test, same_number}
 
 -- two serials of one chunk are one where they have one place
@@ -67,41 +61,37 @@ chunk_same old new number before after is same turns q =
     (λ _ _. refl)
     refl
 
--- what stands at a place has its number
-stands : {X : Type 0} (es : List (ℕ × X)) (place number : ℕ) (x : X) → option_map (λ e. e.0) (slice_get es place) ≡ Some number → slice_get (values_of es) place ≡ Some x → slice_get es place ≡ Some (number, x)
-stands [] place number x at is = cc
-stands (e ∷ es) zero number x at is = λ i. Some (unwrap_or (at i) number, unwrap_or (is i) x)
-stands (e ∷ es) (suc place) number x at is = stands es place number x at is
+-- a chunk that was found, and what was written into it
+module _ (old : Chunks) (s : ℕ) (before : List (Option Row)) (is : Some before ≡ chunk_at (s / 64) old) where
+  pub chunk_there : IsSome (chunk_at (s / 64) old)
+  chunk_there = subst IsSome is refl
 
--- a chunk that is written at its place
-module _ {S : Type 0} (m : IndexMap ℕ (List (Option Row)) S) (place s : ℕ) (before : List (Option Row)) (unique : IsUnique nat_eq m) (at : number_at place m.entries ≡ Some (s / 64)) (is : Some before ≡ slice_get (values m) place) where
-  here : slice_get m.entries place ≡ Some (s / 64, before)
-  here = stands m.entries place (s / 64) before at (sym is)
+  pub cell_is : get_or before (s % 64) None ≡ row_at s old
+  cell_is = ap (λ o. cell_in o (s % 64)) is
 
-  chunk_is : Some before ≡ chunk_at (s / 64) m.entries
-  chunk_is = sym (lookup_from_place nat_eq_equiv m.entries place (s / 64) before unique here)
-
-  turns : (after : List (Option Row)) (n : ℕ) → chunk_at n (with_value_at m place after).entries ≡ cond (s / 64 == n) (Some after) (chunk_at n m.entries)
-  turns after = (updates-with_value_at m place after nat_eq_equiv unique (s / 64) before here).0
-
-  pub cell_is : get_or before (s % 64) None ≡ row_at s m.entries
-  cell_is = ap (λ o. cell_in o (s % 64)) chunk_is
-
-  pub cell_there : IsSome (row_at s m.entries) → IsSome (get_or before (s % 64) None)
+  pub cell_there : IsSome (row_at s old) → IsSome (get_or before (s % 64) None)
   cell_there = subst IsSome (sym cell_is)
 
-  pub row_put : (after : List (Option Row)) (row : Option Row) → TurnsCell before after (s % 64) row → TurnsRow m.entries (with_value_at m place after).entries s row
-  row_put after row = chunk_turned m.entries _ s row before after chunk_is (turns after)
+  module _ (new : Chunks) (after : List (Option Row)) (turned : IsTurned nat_eq old new (s / 64) (Some after)) where
+    pub row_put : (row : Option Row) → TurnsCell before after (s % 64) row → TurnsRow old new s row
+    row_put row = chunk_turned old new s row before after is turned
 
-  pub row_kept : (after : List (Option Row)) → after ≡ before → KeepsRows m.entries (with_value_at m place after).entries
-  row_kept after same = chunk_same m.entries _ (s / 64) before after chunk_is same (turns after)
+    pub row_reserved : TurnsCell before after (s % 64) (Some (reserved_in (get_or before (s % 64) None))) → TurnsRow old new s (Some (reserved_in (row_at s old)))
+    row_reserved cells = subst (λ (r : Option Row). TurnsRow old new s (Some (reserved_in r))) cell_is (row_put _ cells)
 
--- where a number stands, there is a chunk
-pub none_stands : {X : Type 0} (es : List (ℕ × X)) (place number : ℕ) → option_map (λ e. e.0) (slice_get es place) ≡ Some number → None ≡ slice_get (values_of es) place → ⊥
-none_stands [] place number at none = cc
-none_stands (e ∷ es) zero number at none = cc
-none_stands (e ∷ es) (suc place) number at none = none_stands es place number at none
+    pub row_kept : after ≡ before → KeepsRows old new
+    row_kept same = chunk_same old new (s / 64) before after is same turned
 
--- the number that was found is the one that was looked for
-pub found_number : {X : Type 0} (es : List (ℕ × X)) (place number there : ℕ) (x : X) → Some there ≡ lookup_key (nat_eq number) es → slice_get es place ≡ Some (there, x) → option_map (λ e. e.0) (slice_get es place) ≡ Some number
-found_number es place number there x key at = ap (option_map (λ e. e.0)) at ∙ ap Some (sym (eqb-true number there (lookup_key_passes (nat_eq number) es there (sym key))))
+-- the chunk of a row that is there is there
+pub never_none : (es : Chunks) (s : ℕ) → IsSome (row_at s es) → None ≡ chunk_at (s / 64) es → ⊥
+never_none es s there none = let no : IsSome (cell_in None (s % 64)) = subst (λ o. IsSome (cell_in o (s % 64))) (sym none) there in cc
+
+-- a row that is reserved keeps its object
+module _ (old new : Chunks) (s : ℕ) (turned : TurnsRow old new s (Some (reserved_in (row_at s old)))) where
+  pub objects_stay : KeepsObjects old new
+  objects_stay q =
+      ap object_in (turned q)
+      ∙ by_test (λ b. (s == q) ≡ b → object_in (cond b (Some (reserved_in (row_at s old))) (row_at q old)) ≡ object_at q old) (s == q) (λ _ same. ap (λ (n : ℕ). object_at n old) (same_number s q same)) (λ _ _. refl) refl
+
+  pub one_reserved : TurnsReserved old new s true
+  one_reserved q = ap is_reserved_in (turned q) ∙ by_test (λ b. is_reserved_in (cond b (Some (reserved_in (row_at s old))) (row_at q old)) ≡ cond b true (is_reserved_at q old)) (s == q) (λ _. refl) (λ _. refl)

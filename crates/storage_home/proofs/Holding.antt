@@ -67,3 +67,7 @@ on_either (Err e) p q f g = g q
 pub if_ok : {A E : Type 0} {P Q : A → Type 0} (r : Result A E) → ((a : A) → P a → Q a) → IfOk r P → IfOk r Q
 if_ok (Ok a) f p = f a p
 if_ok (Err e) f p = p
+
+pub on_both : {A E P : Type 0} (r : Result A E) → OnOk r P → OnErr r P → P
+on_both (Ok a) p q = p
+on_both (Err e) p q = q

@@ -38,7 +38,7 @@ starting_number (suc n) (suc zero) = refl
 starting_number (suc n) (suc (suc h)) = starting_number n (suc h)
 
 pub nothing_kept :
-    (S : Schema) → IsSoundSchema S → (homes : Parts) → homes.families ≡ bases_of S → homes.rows.chunks.entries ≡ [] → homes.total ≡ 0 → homes.objects ≡ 0
+    (S : Schema) → IsSoundSchema S → (homes : Parts) → homes.families ≡ bases_of S → homes.rows.chunks ≡ [] → homes.total ≡ 0 → homes.objects ≡ 0
     → ((h s : ℕ) → is_held_in homes.extents.items h s ≡ false) → length homes.extents.items ≡ length S.homes
     → homes.counts.items ≡ replicate (length S.homes) 0
     → ((key : ℕ) (bytes : List ℕ) → found_at homes.keys.entries key bytes ≡ None) → IsKept S empty homes

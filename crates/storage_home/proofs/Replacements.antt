@@ -49,7 +49,7 @@ module _ (homes : Parts) (s : ℕ) (row : Stored) (had has : List (KeyNo × List
       let same = ap (total S) same_map_after in
       omega (arith, less, more, same)
 
-  module _ (old : Stored) (is : object_at s homes.rows.chunks.entries ≡ Some old) where
+  module _ (old : Stored) (is : object_at s homes.rows.chunks ≡ Some old) where
     pub old_is : old ≡ stored S may.before
     old_is =
         let behind = object_behind S M homes may.kept s old is in
@@ -94,14 +94,14 @@ module _ (homes : Parts) (s : ℕ) (row : Stored) (had has : List (KeyNo × List
       omega (arith, less, more, same, one)
 
   pub kept_replaced :
-      (new : Parts) (old : Stored) → object_at s homes.rows.chunks.entries ≡ Some old → (between : KeyIndexes) → new.families ≡ homes.families → TurnsObject homes.rows.chunks.entries new.rows.chunks.entries s (Some row)
+      (new : Parts) (old : Stored) → object_at s homes.rows.chunks ≡ Some old → (between : KeyIndexes) → new.families ≡ homes.families → TurnsObject homes.rows.chunks new.rows.chunks s (Some row)
       → new.total ≡ homes.total - length old.bytes + length row.bytes → new.objects ≡ homes.objects → new.extents.items ≡ homes.extents.items → new.counts.items ≡ homes.counts.items
       → TurnsFound homes.keys.entries between had None → TurnsFound between new.keys.entries has (Some s) → IsKept S (insert M s may.object) new
   kept_replaced new old is between families rows sum number extents counts taken put = record {
     sound = may.kept.sound;
     each = λ t x found. sound_at t x found (same_or_not t s);
     families = families ∙ may.kept.families;
-    objects = rows_with S M s may.object _ new.rows.chunks.entries may.kept.objects (subst (λ (r : Stored). TurnsObject homes.rows.chunks.entries new.rows.chunks.entries s (Some r)) may.is rows);
+    objects = rows_with S M s may.object _ new.rows.chunks may.kept.objects (subst (λ (r : Stored). TurnsObject homes.rows.chunks new.rows.chunks s (Some r)) may.is rows);
     total_is = (
         let change = sum_replaced in
         let whole = may.kept.total_is in

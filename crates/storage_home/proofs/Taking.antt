@@ -49,14 +49,14 @@ held_entered extents h s held = by (nth extents h) held
 
 module _ (S : Schema) (M : Catalog) (homes : Parts) (kept : IsKept S M homes) where
   -- the object behind a row
-  pub object_behind : (s : ℕ) (row : Stored) → object_at s homes.rows.chunks.entries ≡ Some row → (object : Object) × (get M s ≡ Some object) × (row ≡ stored S object)
+  pub object_behind : (s : ℕ) (row : Stored) → object_at s homes.rows.chunks ≡ Some row → (object : Object) × (get M s ≡ Some object) × (row ≡ stored S object)
   object_behind s row is = by (get M s) refl (sym (kept.objects s) ∙ is)
     where
       by : (o : Option Object) → get M s ≡ o → option_map (stored S) o ≡ Some row → (object : Object) × (get M s ≡ Some object) × (row ≡ stored S object)
       by None there e = cc
       by (Some object) there e = (object, there, cc)
 
-  pub nothing_behind : (s : ℕ) → object_at s homes.rows.chunks.entries ≡ None → get M s ≡ None
+  pub nothing_behind : (s : ℕ) → object_at s homes.rows.chunks ≡ None → get M s ≡ None
   nothing_behind s is = by (get M s) refl (sym (kept.objects s) ∙ is)
     where
       by : (o : Option Object) → get M s ≡ o → option_map (stored S) o ≡ None → get M s ≡ None
@@ -87,7 +87,7 @@ module _ (S : Schema) (M : Catalog) (homes : Parts) (kept : IsKept S M homes) wh
 
     -- the object is gone, and all else is as it was
     pub kept_without :
-        (new : Parts) (pairs : List (KeyNo × List ℕ)) → AreKeysOf S (Some object) pairs → new.families ≡ homes.families → TurnsObject homes.rows.chunks.entries new.rows.chunks.entries s None
+        (new : Parts) (pairs : List (KeyNo × List ℕ)) → AreKeysOf S (Some object) pairs → new.families ≡ homes.families → TurnsObject homes.rows.chunks new.rows.chunks s None
         → new.total ≡ homes.total - weight S object → new.objects ≡ homes.objects - 1
         → TurnsHeldIn homes.extents.items new.extents.items object.home.0 s false → length new.extents.items ≡ length homes.extents.items
         → IsRaised new.counts.items homes.counts.items object.home.0 → length new.counts.items ≡ length homes.counts.items
@@ -97,7 +97,7 @@ module _ (S : Schema) (M : Catalog) (homes : Parts) (kept : IsKept S M homes) wh
       sound = kept.sound;
       each = λ t x found. kept.each t x (was_there M s t x found).0;
       families = families ∙ kept.families;
-      objects = rows_without S M s _ new.rows.chunks.entries kept.objects rows;
+      objects = rows_without S M s _ new.rows.chunks kept.objects rows;
       total_is = (let whole = kept.total_is in let less = sum_without S M s object is in omega (arith, sum, whole, less));
       bounded = (let before = kept.bounded in let less = sum_without S M s object is in omega (arith, before, less));
       count_is = (let whole = kept.count_is in let less = number_without M s object is in omega (arith, number, whole, less));
@@ -135,7 +135,7 @@ module _ (S : Schema) (M : Catalog) (homes : Parts) (kept : IsKept S M homes) wh
 
     -- the object is there, and all else is as it was
     pub kept_with :
-        (new : Parts) (pairs : List (KeyNo × List ℕ)) → AreKeysOf S (Some object) pairs → IsUnique S (insert M s object) → new.families ≡ homes.families → TurnsObject homes.rows.chunks.entries new.rows.chunks.entries s (Some (stored S object))
+        (new : Parts) (pairs : List (KeyNo × List ℕ)) → AreKeysOf S (Some object) pairs → IsUnique S (insert M s object) → new.families ≡ homes.families → TurnsObject homes.rows.chunks new.rows.chunks s (Some (stored S object))
         → new.total ≡ homes.total + weight S object → new.objects ≡ homes.objects + 1
         → TurnsHeldIn homes.extents.items new.extents.items object.home.0 s true → length new.extents.items ≡ length homes.extents.items
         → IsRaised homes.counts.items new.counts.items object.home.0 → length new.counts.items ≡ length homes.counts.items
@@ -145,7 +145,7 @@ module _ (S : Schema) (M : Catalog) (homes : Parts) (kept : IsKept S M homes) wh
       sound = kept.sound;
       each = λ t x found. by t x found (same_or_not t s);
       families = families ∙ kept.families;
-      objects = rows_with S M s object _ new.rows.chunks.entries kept.objects rows;
+      objects = rows_with S M s object _ new.rows.chunks kept.objects rows;
       total_is = (let whole = kept.total_is in let more = sum_with S M s object none in omega (arith, sum, whole, more));
       bounded = bounded;
       count_is = (let whole = kept.count_is in let more = number_with M s object none in omega (arith, number, whole, more));
@@ -198,7 +198,7 @@ module _ (S : Schema) (M : Catalog) (indexes : KeyIndexes) (are : KeysAre S M in
 
 -- ---- the object behind a row
 
-module _ (S : Schema) (M : Catalog) (homes : Parts) (kept : IsKept S M homes) (s : ℕ) (row : Stored) (is : object_at s homes.rows.chunks.entries ≡ Some row) where
+module _ (S : Schema) (M : Catalog) (homes : Parts) (kept : IsKept S M homes) (s : ℕ) (row : Stored) (is : object_at s homes.rows.chunks ≡ Some row) where
   behind : (object : Object) × (get M s ≡ Some object) × (row ≡ stored S object)
   behind = object_behind S M homes kept s row is
 
@@ -218,7 +218,7 @@ module _ (S : Schema) (M : Catalog) (homes : Parts) (kept : IsKept S M homes) (s
   row_entered = subst (λ (r : Stored). is_entered_in homes.extents.items r.home.0 s ≡ true) (sym behind.2) (entered_there S M homes kept s behind.0 behind.1)
 
   pub row_without :
-      (new : Parts) (pairs : List (KeyNo × List ℕ)) → AreKeysOf S (get M s) pairs → new.families ≡ homes.families → TurnsObject homes.rows.chunks.entries new.rows.chunks.entries s None
+      (new : Parts) (pairs : List (KeyNo × List ℕ)) → AreKeysOf S (get M s) pairs → new.families ≡ homes.families → TurnsObject homes.rows.chunks new.rows.chunks s None
       → new.total ≡ homes.total - (16 + length row.bytes) → new.objects ≡ homes.objects - 1
       → TurnsHeldIn homes.extents.items new.extents.items row.home.0 s false → length new.extents.items ≡ length homes.extents.items
       → IsRaised new.counts.items homes.counts.items row.home.0 → length new.counts.items ≡ length homes.counts.items
@@ -252,7 +252,7 @@ module _ (homes : Parts) (s : ℕ) (row : Stored) (pairs : List (KeyNo × List �
   may_put_row = may_put_keys may.schema may.catalog homes.keys.entries may.kept.keys s may.object may.none may.unique pairs may.keys may.keys_reserved
 
   pub row_with :
-      (new : Parts) → new.families ≡ homes.families → TurnsObject homes.rows.chunks.entries new.rows.chunks.entries s (Some row)
+      (new : Parts) → new.families ≡ homes.families → TurnsObject homes.rows.chunks new.rows.chunks s (Some row)
       → new.total ≡ homes.total + (16 + length row.bytes) → new.objects ≡ homes.objects + 1
       → TurnsHeldIn homes.extents.items new.extents.items row.home.0 s true → length new.extents.items ≡ length homes.extents.items
       → IsRaised homes.counts.items new.counts.items row.home.0 → length new.counts.items ≡ length homes.counts.items
@@ -260,7 +260,7 @@ module _ (homes : Parts) (s : ℕ) (row : Stored) (pairs : List (KeyNo × List �
       → IsKept may.schema (insert may.catalog s may.object) new
   row_with new families rows sum number held size counted long found =
       kept_with may.schema may.catalog homes may.kept s may.object may.none may.is_sound may.bounded new pairs may.keys may.unique families
-      (subst (λ (r : Stored). TurnsObject homes.rows.chunks.entries new.rows.chunks.entries s (Some r)) may.is rows)
+      (subst (λ (r : Stored). TurnsObject homes.rows.chunks new.rows.chunks s (Some r)) may.is rows)
       (sum ∙ ap (λ (r : Stored). homes.total + (16 + length r.bytes)) may.is) number
       (subst (λ (r : Stored). TurnsHeldIn homes.extents.items new.extents.items r.home.0 s true) may.is held) size
       (subst (λ (r : Stored). IsRaised homes.counts.items new.counts.items r.home.0) may.is counted) long found
@@ -273,7 +273,7 @@ lent_items v old new is same = with_items_is v new (same ∙ ap length is ∙ sy
 
 -- what is kept is seen by what is there alone, and not by what is reserved
 pub kept_same :
-    (S : Schema) (M : Catalog) (old new : Parts) → new.families ≡ old.families → KeepsObjects old.rows.chunks.entries new.rows.chunks.entries → new.total ≡ old.total → new.objects ≡ old.objects
+    (S : Schema) (M : Catalog) (old new : Parts) → new.families ≡ old.families → KeepsObjects old.rows.chunks new.rows.chunks → new.total ≡ old.total → new.objects ≡ old.objects
     → KeepsHeldIn old.extents.items new.extents.items → length new.extents.items ≡ length old.extents.items → new.counts.items ≡ old.counts.items
     → KeepsFound old.keys.entries new.keys.entries → IsKept S M old → IsKept S M new
 kept_same S M old new families rows sum number held size counts found kept = record {

@@ -51,7 +51,7 @@ pub record IsKept (S : Schema) (M : Catalog) (homes : Parts) : Type 0 where
   pub sound : IsSoundSchema S
   pub each : EachObject M (λ serial object. IsSound S object)
   pub families : homes.families ≡ bases_of S
-  pub objects : (serial : ℕ) → object_at serial homes.rows.chunks.entries ≡ option_map (stored S) (get M serial)
+  pub objects : (serial : ℕ) → object_at serial homes.rows.chunks ≡ option_map (stored S) (get M serial)
   pub total_is : homes.total ≡ total S M
   pub bounded : total S M ≤ most
   pub count_is : homes.objects ≡ length (entries M)
@@ -63,7 +63,7 @@ pub record IsKept (S : Schema) (M : Catalog) (homes : Parts) : Type 0 where
 
 -- room is kept for an object of this home with this serial
 abbrev pub IsReserved : Parts → HomeNo → ℕ → Type 0
-IsReserved homes home serial = (is_reserved_at serial homes.rows.chunks.entries ≡ true) × (is_entered_in homes.extents.items home.0 serial ≡ true)
+IsReserved homes home serial = (is_reserved_at serial homes.rows.chunks ≡ true) × (is_entered_in homes.extents.items home.0 serial ≡ true)
 
 -- what holds of each catalog that these homes keep
 abbrev pub Keeping : Parts → (Schema → Catalog → Type 0) → Type 0

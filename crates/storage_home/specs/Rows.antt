@@ -1,6 +1,5 @@
 -- The objects and the reservations that the rows of serials stand for.
-use Rattle.std.specs.Prelude.{ℕ, ◌≡◌, ◌/◌, ◌%◌, List, Option, None, Bool, false, cond, get_or, slice_get, ◌==◌}
-use Rattle.std.specs.Option.{option_map}
+use Rattle.std.specs.Prelude.{ℕ, ◌≡◌, ◌/◌, ◌%◌, List, Option, None, Bool, true, false, cond, get_or, ◌==◌}
 use Rattle.std.specs.Map.{lookup}
 use Rattle.type_layout.specs.Schemas.{given}
 use Rattle.storage_home.specs.declared.rows.Stored.{Stored}
@@ -9,10 +8,6 @@ use Rattle.storage_home.specs.declared.rows.Row.{Row}
 -- the rows of 64 neighbouring serials, by the number of these 64
 abbrev pub Chunks : Type 0
 Chunks = List (ℕ × List (Option Row))
-
--- the number of the chunk at a place
-abbrev pub number_at : ℕ → Chunks → Option ℕ
-number_at place es = option_map (λ e. e.0) (slice_get es place)
 
 abbrev pub chunk_at : ℕ → Chunks → Option (List (Option Row))
 chunk_at n es = lookup (λ t. n == t) es
@@ -29,6 +24,10 @@ object_in row = given row None (λ r. r.object)
 
 abbrev pub is_reserved_in : Option Row → Bool
 is_reserved_in row = given row false (λ r. r.is_reserved)
+
+-- the row of a serial that is reserved from now on: its object, where there is one, stays
+abbrev pub reserved_in : Option Row → Row
+reserved_in row = record { object = object_in row; is_reserved = true }
 
 -- the object with a serial
 abbrev pub object_at : ℕ → Chunks → Option Stored

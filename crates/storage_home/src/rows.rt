@@ -1,15 +1,13 @@
 // The objects by their serials, and which serials are reserved.
-ghost use Rattle.std.specs.Prelude.{◌≡◌, ◌/◌, ℕ, [], Some, None, true, false, is_some, OnOk, OnErr, IfSome, IfNone, IsSome};
+ghost use Rattle.std.specs.Prelude.{◌≡◌, ◌/◌, ◌<◌, ℕ, [], Some, None, true, false, is_some, get_or, OnOk, OnErr, IsSome};
 ghost use Rattle.std.specs.Option.{option_map};
-ghost use Rattle.storage_home.specs.Cells.{with_reservation};
-ghost use Rattle.storage_home.specs.Rows.{number_at, chunk_at, cell_in, row_at, object_at, is_reserved_at, TurnsRow, KeepsRows, TurnsObject, KeepsObjects, TurnsReserved, KeepsReserved};
+ghost use Rattle.storage_home.specs.Cells.{TurnsCell};
+ghost use Rattle.storage_home.specs.Rows.{reserved_in, chunk_at, cell_in, row_at, object_at, is_reserved_at, TurnsRow, KeepsRows, TurnsObject, KeepsObjects, TurnsReserved, KeepsReserved};
 
 use crate::chunk::{Chunk, WIDTH};
-use indexmap::IndexMap;
 use pss_base::{Bytes, NoMemory};
+use recent_table::RecentTable;
 use std::alloc::Global;
-use std::cell::Cell;
-use std::hash::BuildHasherDefault;
 use table_hash::ByteHasher;
 use type_layout::HomeNo;
 
@@ -27,30 +25,24 @@ pub struct Row {
     pub is_reserved: bool,
 }
 
-type Chunks = IndexMap<u64, Chunk, BuildHasherDefault<ByteHasher>>;
-
 /// The rows of 64 neighbouring serials lie together, under the number of these 64. Serials are given one after the other, so
-/// that what is asked for in their order is found where the last one was.
+/// that what is asked for in their order is found where the last one was, or behind it.
 #[derive(Drop)]
 pub struct Rows {
-    chunks: Chunks,
-    // The place of the chunk that was found last, where the next one is looked for first: one object is asked for many times in a
-    // row, and its neighbours after it. It may be any number.
-    last: Cell<usize>,
+    chunks: RecentTable<u64, Chunk, ByteHasher>,
 }
 
 pub fn empty(alloc: Global) -> Rows
-    ensures { result.chunks.entries ≡ [] }
+    ensures { result.chunks ≡ [] }
 {
     Rows {
-        chunks: IndexMap::with_hasher(alloc, BuildHasherDefault::new()),
-        last: Cell::new(0),
+        chunks: RecentTable::new(alloc),
     }
 }
 
 /// The object with a serial, where there is one.
 pub fn object_of(rows: &Rows, serial: u64) -> Option<&Stored>
-    ensures { option_map (λ object. object.now) result ≡ object_at serial rows.now.chunks.entries }
+    ensures { option_map (λ object. object.now) result ≡ object_at serial rows.now.chunks }
 {
     match row_of(rows, serial) {
         Some(row) => row.object.as_ref(),
@@ -59,7 +51,7 @@ pub fn object_of(rows: &Rows, serial: u64) -> Option<&Stored>
 }
 
 pub fn is_reserved(rows: &Rows, serial: u64) -> bool
-    ensures { result ≡ is_reserved_at serial rows.now.chunks.entries }
+    ensures { result ≡ is_reserved_at serial rows.now.chunks }
 {
     match row_of(rows, serial) {
         Some(row) => row.is_reserved,
@@ -71,21 +63,21 @@ pub fn is_reserved(rows: &Rows, serial: u64) -> bool
 ///
 /// `NoMemory`: all is as before.
 pub fn reserve(alloc: Global, rows: &mut Rows, serial: u64) -> Result<(), NoMemory>
-    ensures objects { KeepsObjects rows.old.chunks.entries rows.new.chunks.entries }
-    ensures ok { OnOk result (TurnsReserved rows.old.chunks.entries rows.new.chunks.entries serial true) }
-    ensures err { OnErr result (KeepsReserved rows.old.chunks.entries rows.new.chunks.entries) }
+    ensures objects { KeepsObjects rows.old.chunks rows.new.chunks }
+    ensures ok { OnOk result (TurnsReserved rows.old.chunks rows.new.chunks serial true) }
+    ensures err { OnErr result (KeepsReserved rows.old.chunks rows.new.chunks) }
 {
-    match place_of(rows, serial / WIDTH) {
-        Some(place) => reserve_at(rows, place, serial),
+    match rows.chunks.get_mut(serial / WIDTH) {
+        Some(chunk) => reserve_in(chunk, serial % WIDTH),
         None => begin(alloc, rows, serial, reserved()),
     }
 }
 
 /// Puts an object in the place of a reservation. The one that was there goes.
 pub fn put(rows: &mut Rows, serial: u64, object: Stored)
-    requires { is_reserved_at serial rows.old.chunks.entries ≡ true }
-    ensures objects { TurnsObject rows.old.chunks.entries rows.new.chunks.entries serial (Some object) }
-    ensures reserved { TurnsReserved rows.old.chunks.entries rows.new.chunks.entries serial false }
+    requires { is_reserved_at serial rows.old.chunks ≡ true }
+    ensures objects { TurnsObject rows.old.chunks rows.new.chunks serial (Some object) }
+    ensures reserved { TurnsReserved rows.old.chunks rows.new.chunks serial false }
 {
     let row = Row {
         object: Some(object),
@@ -96,9 +88,9 @@ pub fn put(rows: &mut Rows, serial: u64, object: Stored)
 
 /// Takes the object with a serial away. A serial that stays reserved keeps its row.
 pub fn take(rows: &mut Rows, serial: u64, stays: bool)
-    requires { stays ≡ is_reserved_at serial rows.old.chunks.entries }
-    ensures objects { TurnsObject rows.old.chunks.entries rows.new.chunks.entries serial None }
-    ensures reserved { KeepsReserved rows.old.chunks.entries rows.new.chunks.entries }
+    requires { stays ≡ is_reserved_at serial rows.old.chunks }
+    ensures objects { TurnsObject rows.old.chunks rows.new.chunks serial None }
+    ensures reserved { KeepsReserved rows.old.chunks rows.new.chunks }
 {
     if stays {
         write(rows, serial, reserved());
@@ -107,126 +99,18 @@ pub fn take(rows: &mut Rows, serial: u64, stays: bool)
     }
 }
 
-// The chunk of a number, where there is one. Where it is the one that was found last, or stands behind it, it is not hashed.
-fn chunk_of(rows: &Rows, number: u64) -> Option<&Chunk>
-    ensures { option_map (λ chunk. chunk.now) result ≡ chunk_at number rows.now.chunks.entries }
-{
-    let last = rows.last.get();
-    match chunk_there(&rows.chunks, last, number) {
-        Some(chunk) => Some(chunk),
-        None => chunk_ahead(rows, last.wrapping_add(1), number),
-    }
-}
-
-// The chunk of a number, which is looked for at a place first.
-fn chunk_ahead(rows: &Rows, place: usize, number: u64) -> Option<&Chunk>
-    ensures { option_map (λ chunk. chunk.now) result ≡ chunk_at number rows.now.chunks.entries }
-{
-    match chunk_there(&rows.chunks, place, number) {
-        Some(chunk) => {
-            rows.last.set(place);
-            Some(chunk)
-        }
-        None => look_up(rows, number),
-    }
-}
-
-// The chunk at a place of the table, where this number stands there.
-fn chunk_there(chunks: &Chunks, place: usize, number: u64) -> Option<&Chunk>
-    ensures { IfSome result (λ chunk. Some chunk.now ≡ chunk_at number chunks.now.entries) }
-{
-    match chunks.get_index(place) {
-        Some((there, chunk)) if *there == number => Some(chunk),
-        _ => None,
-    }
-}
-
-// The chunk that a number has by its hash. The next one is looked for there first.
-fn look_up(rows: &Rows, number: u64) -> Option<&Chunk>
-    ensures { option_map (λ chunk. chunk.now) result ≡ chunk_at number rows.now.chunks.entries }
-{
-    match rows.chunks.get_full(&number) {
-        Some((place, _, chunk)) => {
-            rows.last.set(place);
-            Some(chunk)
-        }
-        None => None,
-    }
-}
-
-// The place of a chunk, where there is one. Where it is that of the one that was found last, or stands behind it, it is not hashed.
-fn place_of(rows: &Rows, number: u64) -> Option<usize>
-    ensures at { IfSome result (λ place. number_at place rows.now.chunks.entries ≡ Some number) }
-    ensures none { IfNone result (chunk_at number rows.now.chunks.entries ≡ None) }
-{
-    let last = rows.last.get();
-    if stands_at(&rows.chunks, last, number) {
-        Some(last)
-    } else {
-        place_ahead(rows, last.wrapping_add(1), number)
-    }
-}
-
-// The place of a chunk, which is looked for at a place first.
-fn place_ahead(rows: &Rows, place: usize, number: u64) -> Option<usize>
-    ensures at { IfSome result (λ place. number_at place rows.now.chunks.entries ≡ Some number) }
-    ensures none { IfNone result (chunk_at number rows.now.chunks.entries ≡ None) }
-{
-    if stands_at(&rows.chunks, place, number) {
-        rows.last.set(place);
-        Some(place)
-    } else {
-        find_place(rows, number)
-    }
-}
-
-// The place of a chunk that is there.
-fn known_place(rows: &Rows, number: u64) -> usize
-    requires { IsSome (chunk_at number rows.now.chunks.entries) }
-    ensures { number_at result rows.now.chunks.entries ≡ Some number }
-{
-    match place_of(rows, number) {
-        Some(place) => place,
-        None => unreachable!(),
-    }
-}
-
-// Whether a number stands at a place of the table.
-fn stands_at(chunks: &Chunks, place: usize, number: u64) -> bool
-    ensures { result ≡ true → number_at place chunks.now.entries ≡ Some number }
-{
-    match chunks.get_index(place) {
-        Some((there, _)) => *there == number,
-        None => false,
-    }
-}
-
-// The place of a number by its hash. The next one is looked for there first.
-fn find_place(rows: &Rows, number: u64) -> Option<usize>
-    ensures at { IfSome result (λ place. number_at place rows.now.chunks.entries ≡ Some number) }
-    ensures none { IfNone result (chunk_at number rows.now.chunks.entries ≡ None) }
-{
-    match rows.chunks.get_full(&number) {
-        Some((place, _, _)) => {
-            rows.last.set(place);
-            Some(place)
-        }
-        None => None,
-    }
-}
-
 // The row of a serial, where it has one.
 fn row_of(rows: &Rows, serial: u64) -> Option<&Row>
-    ensures { option_map (λ row. row.now) result ≡ row_at serial rows.now.chunks.entries }
+    ensures { option_map (λ row. row.now) result ≡ row_at serial rows.now.chunks }
 {
-    match chunk_of(rows, serial / WIDTH) {
+    match rows.chunks.get(serial / WIDTH) {
         Some(chunk) => chunk.get(serial % WIDTH),
         None => None,
     }
 }
 
 fn has_row(rows: &Rows, serial: u64) -> bool
-    ensures { result ≡ is_some (row_at serial rows.now.chunks.entries) }
+    ensures { result ≡ is_some (row_at serial rows.now.chunks) }
 {
     match row_of(rows, serial) {
         Some(_) => true,
@@ -244,71 +128,37 @@ fn reserved() -> Row
     }
 }
 
-// Reserves a serial of the chunk at a place.
-fn reserve_at(rows: &mut Rows, place: usize, serial: u64) -> Result<(), NoMemory>
-    requires { number_at place rows.old.chunks.entries ≡ Some (serial / 64) }
-    ensures objects { KeepsObjects rows.old.chunks.entries rows.new.chunks.entries }
-    ensures ok { OnOk result (TurnsReserved rows.old.chunks.entries rows.new.chunks.entries serial true) }
-    ensures err { OnErr result (KeepsReserved rows.old.chunks.entries rows.new.chunks.entries) }
+// Reserves the serial at a place of its chunk. Its object, where there is one, stays.
+fn reserve_in(chunk: &mut Chunk, place: u64) -> Result<(), NoMemory>
+    requires { place < 64 }
+    ensures ok { OnOk result (TurnsCell chunk.old chunk.new place (Some (reserved_in (get_or chunk.old place None)))) }
+    ensures err { OnErr result (chunk.new ≡ chunk.old) }
 {
-    if has_row_at(rows, place, serial) {
-        mark(rows, place, serial);
-        return Ok(());
-    }
-    insert(rows, place, serial, reserved())
-}
-
-// Whether a serial of the chunk at a place has a row.
-fn has_row_at(rows: &Rows, place: usize, serial: u64) -> bool
-    requires { number_at place rows.now.chunks.entries ≡ Some (serial / 64) }
-    ensures { result ≡ is_some (row_at serial rows.now.chunks.entries) }
-{
-    match rows.chunks.get_index(place) {
-        Some((_, chunk)) => chunk.get(serial % WIDTH).is_some(),
-        None => unreachable!(),
-    }
-}
-
-// Reserves the serial of a row of the chunk at a place.
-fn mark(rows: &mut Rows, place: usize, serial: u64)
-    requires place { number_at place rows.old.chunks.entries ≡ Some (serial / 64) }
-    requires there { IsSome (row_at serial rows.old.chunks.entries) }
-    ensures { TurnsRow rows.old.chunks.entries rows.new.chunks.entries serial (option_map with_reservation (row_at serial rows.old.chunks.entries)) }
-{
-    if let Some(chunk) = rows.chunks.get_index_mut(place) {
-        chunk.reserve(serial % WIDTH);
+    match chunk.get(place) {
+        Some(_) => {
+            chunk.reserve(place);
+            Ok(())
+        }
+        None => chunk.insert(place, reserved()),
     }
 }
 
 // Puts a row in the place of another.
 fn write(rows: &mut Rows, serial: u64, row: Row)
-    requires { IsSome (row_at serial rows.old.chunks.entries) }
-    ensures { TurnsRow rows.old.chunks.entries rows.new.chunks.entries serial (Some row) }
+    requires { IsSome (row_at serial rows.old.chunks) }
+    ensures { TurnsRow rows.old.chunks rows.new.chunks serial (Some row) }
 {
-    let place = known_place(rows, serial / WIDTH);
-    if let Some(chunk) = rows.chunks.get_index_mut(place) {
-        chunk.write(serial % WIDTH, row);
-    }
-}
-
-// Puts the row of a serial that has none into the chunk at a place.
-fn insert(rows: &mut Rows, place: usize, serial: u64, row: Row) -> Result<(), NoMemory>
-    requires place { number_at place rows.old.chunks.entries ≡ Some (serial / 64) }
-    requires free { row_at serial rows.old.chunks.entries ≡ None }
-    ensures ok { OnOk result (TurnsRow rows.old.chunks.entries rows.new.chunks.entries serial (Some row)) }
-    ensures err { OnErr result (KeepsRows rows.old.chunks.entries rows.new.chunks.entries) }
-{
-    match rows.chunks.get_index_mut(place) {
-        Some(chunk) => chunk.insert(serial % WIDTH, row),
+    match rows.chunks.get_mut(serial / WIDTH) {
+        Some(chunk) => chunk.write(serial % WIDTH, row),
         None => unreachable!(),
     }
 }
 
 // Puts the first row of its 64.
 fn begin(alloc: Global, rows: &mut Rows, serial: u64, row: Row) -> Result<(), NoMemory>
-    requires { chunk_at (serial / 64) rows.old.chunks.entries ≡ None }
-    ensures ok { OnOk result (TurnsRow rows.old.chunks.entries rows.new.chunks.entries serial (Some row)) }
-    ensures err { OnErr result (rows.new.chunks.entries ≡ rows.old.chunks.entries) }
+    requires { chunk_at (serial / 64) rows.old.chunks ≡ None }
+    ensures ok { OnOk result (TurnsRow rows.old.chunks rows.new.chunks serial (Some row)) }
+    ensures err { OnErr result (rows.new.chunks ≡ rows.old.chunks) }
 {
     let mut chunk = Chunk::new(alloc);
     chunk.insert(serial % WIDTH, row)?;
@@ -318,36 +168,36 @@ fn begin(alloc: Global, rows: &mut Rows, serial: u64, row: Row) -> Result<(), No
 
 // Takes the row of a serial away, and with the last of its 64 what is left of these.
 fn remove(rows: &mut Rows, serial: u64)
-    requires { IsSome (row_at serial rows.old.chunks.entries) }
-    ensures { TurnsRow rows.old.chunks.entries rows.new.chunks.entries serial None }
+    requires { IsSome (row_at serial rows.old.chunks) }
+    ensures { TurnsRow rows.old.chunks rows.new.chunks serial None }
 {
     clear(rows, serial);
     end(rows, serial / WIDTH);
 }
 
 fn clear(rows: &mut Rows, serial: u64)
-    requires { IsSome (row_at serial rows.old.chunks.entries) }
-    ensures { TurnsRow rows.old.chunks.entries rows.new.chunks.entries serial None }
+    requires { IsSome (row_at serial rows.old.chunks) }
+    ensures { TurnsRow rows.old.chunks rows.new.chunks serial None }
 {
-    let place = known_place(rows, serial / WIDTH);
-    if let Some(chunk) = rows.chunks.get_index_mut(place) {
-        chunk.remove(serial % WIDTH);
+    match rows.chunks.get_mut(serial / WIDTH) {
+        Some(chunk) => chunk.remove(serial % WIDTH),
+        None => unreachable!(),
     }
 }
 
 // Gives a chunk without rows back.
 fn end(rows: &mut Rows, number: u64)
-    ensures { KeepsRows rows.old.chunks.entries rows.new.chunks.entries }
+    ensures { KeepsRows rows.old.chunks rows.new.chunks }
 {
     if is_done(rows, number) {
-        let _ = rows.chunks.swap_remove(&number);
+        rows.chunks.remove(number);
     }
 }
 
 fn is_done(rows: &Rows, number: u64) -> bool
-    ensures { result ≡ true → (q : ℕ) → cell_in (chunk_at number rows.now.chunks.entries) q ≡ None }
+    ensures { result ≡ true → (q : ℕ) → cell_in (chunk_at number rows.now.chunks) q ≡ None }
 {
-    match chunk_of(rows, number) {
+    match rows.chunks.get(number) {
         Some(chunk) => chunk.is_empty(),
         None => false,
     }

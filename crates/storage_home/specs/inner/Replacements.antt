@@ -17,7 +17,7 @@ use Rattle.storage_home.specs.Applied.{AreKeysOf}
 pub record Replaces (homes : Parts) (put : Put) : Type 0 where
   pub some : IsSome put.bytes
   pub row : Stored
-  pub there : object_at put.serial homes.rows.chunks.entries ≡ Some row
+  pub there : object_at put.serial homes.rows.chunks ≡ Some row
   pub of_home : row.home.0 ≡ put.home
 
 abbrev pub alone : Change → List Change
@@ -42,5 +42,5 @@ pub record MayReplace (homes : Parts) (serial : ℕ) (row : Stored) (old_pairs n
   pub new_keys : AreKeysOf schema (Some object) new_pairs
   pub unique : IsUnique schema (insert catalog serial object)
   pub bounded : total schema (insert catalog serial object) ≤ most
-  pub reserved : is_reserved_at serial homes.rows.chunks.entries ≡ true
+  pub reserved : is_reserved_at serial homes.rows.chunks ≡ true
   pub keys_reserved : AreKeysReserved homes.keys.entries new_pairs

@@ -16,7 +16,7 @@ returns g c = IfOk-weaker c.first_merged.result _ _
     (λ pids is v.
     let S = c.args.view.now.schema.now in
     let test = is_of S c.args.home in
-    let es = c.args.view.now.overlay.now.states.table.entries in
+    let es = c.args.view.now.overlay.now.states in
     let ss = c.args.serials.now in
     let changes = listed (changes_in c.args.view.now.overlay.now) in
     let told = listed_slots es ss c.requires.order in

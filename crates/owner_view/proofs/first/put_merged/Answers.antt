@@ -17,7 +17,7 @@ use Rattle.owner_view.proofs.first.put_merged.Goals as goal
 pub loop-serial-init : goal.loop-serial-init
 loop-serial-init g c =
     let test = is_of c.args.view.now.schema.now c.args.home in
-    (omega (arith, ap length c.requires.none), ap (λ (l : List Pid). take 256 (l ++ merged test (told_in (slots_of c.args.view.now.overlay.now.states.table.entries c.args.serials.now)) c.args.committed.now)) c.requires.none)
+    (omega (arith, ap length c.requires.none), ap (λ (l : List Pid). take 256 (l ++ merged test (told_in (slots_of c.args.view.now.overlay.now.states c.args.serials.now)) c.args.committed.now)) c.requires.none)
 
 pub put_change-requires : goal.put_change-requires
 put_change-requires g c = c.loop-serial.invariant.0
@@ -25,7 +25,7 @@ put_change-requires g c = c.loop-serial.invariant.0
 pub loop-serial-preserved : goal.loop-serial-preserved
 loop-serial-preserved g c =
     let test = is_of c.args.view.now.schema.now c.args.home in
-    let es = c.args.view.now.overlay.now.states.table.entries in
+    let es = c.args.view.now.overlay.now.states in
     let ss = c.args.serials.now in
     let i = c.loop-serial.serial-index in
     let s = get_or ss i 0 in
@@ -52,7 +52,7 @@ put_all-requires g c = c.loop-serial.invariant.0
 pub returns : goal.returns
 returns g c =
     let test = is_of c.args.view.now.schema.now c.args.home in
-    let es = c.args.view.now.overlay.now.states.table.entries in
+    let es = c.args.view.now.overlay.now.states in
     let ss = c.args.serials.now in
     let end = ends es ss c.loop-serial.serial-index c.loop-serial-test.false in
     let told = listed_slots es ss c.requires.order in

@@ -8,4 +8,4 @@ use Rattle.owner_view.proofs.first.put_merged.Given as goal
 abbrev pub invariant-loop-serial : goal.invariant-loop-serial
 invariant-loop-serial g l =
     (length l.pids ≤ 256)
-    × (take 256 (l.pids ++ merged (is_of l.view.schema.now l.home) (told_in (rest l.view.overlay.now.states.table.entries l.serials l.serial-index)) l.rest) ≡ take 256 (merged (is_of l.view.schema.now l.home) (told_in (slots_of l.view.overlay.now.states.table.entries l.serials)) l.committed))
+    × (take 256 (l.pids ++ merged (is_of l.view.schema.now l.home) (told_in (rest l.view.overlay.now.states l.serials l.serial-index)) l.rest) ≡ take 256 (merged (is_of l.view.schema.now l.home) (told_in (slots_of l.view.overlay.now.states l.serials)) l.committed))

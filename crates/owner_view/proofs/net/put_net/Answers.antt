@@ -19,7 +19,7 @@ pub put_change-requires : goal.put_change-requires
 put_change-requires g c =
     let S = c.args.view.now.schema.now in
     let v = c.requires.shows in
-    let es = c.args.view.now.overlay.now.states.table.entries in
+    let es = c.args.view.now.overlay.now.states in
     let ss = c.args.serials.now in
     let i = c.loop-serial.serial-index in
     let net = subst (λ (o : Option (Option Object)). IsNetIn S v.catalog (get_or ss i 0) o c.in_ok-change.change) (told_slot es (get_or ss i 0) (told_state c.told.result) c.told.ensures) (c.in_ok-change.ensures v) in
@@ -27,7 +27,7 @@ put_change-requires g c =
 
 pub loop-serial-init : goal.loop-serial-init
 loop-serial-init g c =
-    let es = c.args.view.now.overlay.now.states.table.entries in
+    let es = c.args.view.now.overlay.now.states in
     let ss = c.args.serials.now in (
       subst (λ (l : List Change). SlotsRise (least_next 0 l) (rest es ss 0)) (sym c.requires.none) (slots_rise es 0 ss c.requires.order.rise),
       λ v more net. subst (λ (l : List Change). AreNet c.args.view.now.schema.now v.catalog (filter (is_net v.catalog) (told_in (slots_of es ss))) (l ++ more)) (sym c.requires.none) net,
@@ -36,7 +36,7 @@ loop-serial-init g c =
 pub loop-serial-preserved : goal.loop-serial-preserved
 loop-serial-preserved g c =
     let S = c.args.view.now.schema.now in
-    let es = c.args.view.now.overlay.now.states.table.entries in
+    let es = c.args.view.now.overlay.now.states in
     let ss = c.args.serials.now in
     let i = c.loop-serial.serial-index in
     let step = turns es ss i c.loop-serial-test.true in
@@ -48,7 +48,7 @@ loop-serial-preserved g c =
 pub returns : goal.returns
 returns g c v =
     let S = c.args.view.now.schema.now in
-    let es = c.args.view.now.overlay.now.states.table.entries in
+    let es = c.args.view.now.overlay.now.states in
     let ss = c.args.serials.now in
     let i = c.loop-serial.serial-index in
     subst (λ (l : List Step). AreNet S v.catalog (filter (is_net v.catalog) l) c.loop-serial.changes) (sym (listed_slots es ss c.requires.order))

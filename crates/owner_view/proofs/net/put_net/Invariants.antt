@@ -7,5 +7,5 @@ use Rattle.owner_view.proofs.net.put_net.Given as goal
 
 abbrev pub invariant-loop-serial : goal.invariant-loop-serial
 invariant-loop-serial g l =
-    SlotsRise (least_next 0 l.changes) (rest l.view.overlay.now.states.table.entries l.serials l.serial-index)
-    × ((v : Shows g.C.Committed.shows l.view) → IsBegun l.view.schema.now v.catalog (told_in (slots_of l.view.overlay.now.states.table.entries l.serials)) (told_in (rest l.view.overlay.now.states.table.entries l.serials l.serial-index)) l.changes)
+    SlotsRise (least_next 0 l.changes) (rest l.view.overlay.now.states l.serials l.serial-index)
+    × ((v : Shows g.C.Committed.shows l.view) → IsBegun l.view.schema.now v.catalog (told_in (slots_of l.view.overlay.now.states l.serials)) (told_in (rest l.view.overlay.now.states l.serials l.serial-index)) l.changes)

@@ -1,12 +1,17 @@
 use Rattle.std.proofs.Common.{None}
-use Rattle.storage_home.proofs.Chunks.{cell_there, row_put, none_stands}
+use Rattle.storage_home.proofs.Chunks.{chunk_there, cell_there, row_put, never_none}
 use Rattle.storage_home.proofs.rows.clear.Goals as goal
 
 pub remove-requires-clause-there : goal.remove-requires-clause-there
-remove-requires-clause-there c = cell_there c.args.rows.now.chunks c.known_place-place.result c.args.serial c.in-Some.chunk.now c.in-Some.ensures.unique c.known_place-place.ensures c.in-Some.ensures.value c.requires
+remove-requires-clause-there c = cell_there c.args.rows.now.chunks c.args.serial c.in-Some.chunk.now c.in-Some.ensures.value c.requires
 
-pub returns-in-Some : goal.returns-in-Some
-returns-in-Some c = row_put c.args.rows.now.chunks c.known_place-place.result c.args.serial c.in-Some.chunk.now c.in-Some.ensures.unique c.known_place-place.ensures c.in-Some.ensures.value c.remove.new.self None c.remove.ensures
+pub unreachable-requires : goal.unreachable-requires
+unreachable-requires c = never_none c.args.rows.now.chunks c.args.serial c.requires c.in-None.ensures.value
 
-pub returns-in_default : goal.returns-in_default
-returns-in_default c = absurd (none_stands c.args.rows.now.chunks.entries c.known_place-place.result _ c.known_place-place.ensures c.in_default.ensures.value)
+pub returns : goal.returns
+returns c =
+    let old = c.args.rows.now.chunks in
+    let s = c.args.serial in
+    let before = c.in-Some.chunk.now in
+    let is = c.in-Some.ensures.value in
+    row_put old s before is _ c.remove.new.self (c.get_mut.follows.holds c.remove.new.self (chunk_there old s before is)) None c.remove.ensures

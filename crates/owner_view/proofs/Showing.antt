@@ -1,17 +1,14 @@
 -- What octets and records of seen objects owe to the objects.
-use Rattle.std.proofs.Common.{◌≡◌, ◌<◌, ℕ, ◌==◌, true, List, [], ◌∷◌, length, Some, refl, sym, ap, subst, ◌∙◌, arith, Bor, map, get_or}
+use Rattle.std.proofs.Common.{◌≡◌, ◌<◌, ℕ, List, [], ◌∷◌, length, Some, refl, sym, ap, subst, ◌∙◌, arith, Bor, map, get_or}
 use Rattle.std.specs.Prelude.{is_some}
-use Rattle.std.specs.List.{slice_get, list_any}
+use Rattle.std.specs.List.{slice_get}
 use Rattle.std.specs.Option.{option_map}
 use Rattle.std.proofs.lemmas.Option.{slice_get-map, slice_get-get_or}
 use Rattle.type_layout.specs.declared.home.HomeNo.{HomeNo}
-use Rattle.type_layout.specs.declared.key.KeyNo.{KeyNo}
 use Rattle.type_layout.specs.declared.schema.Schema.{Schema}
-use Rattle.type_layout.specs.Schemas.{home_at, members_at, given, keys_at}
+use Rattle.type_layout.specs.Schemas.{members_at}
 use Rattle.type_layout.specs.Values.{IsRecord}
-use Rattle.type_layout.specs.Keys.{IsRecordWith}
 use Rattle.type_layout.specs.Spelling.{record_spelling}
-use Rattle.type_layout.specs.declared.schema.Home.{Home}
 use Rattle.pss_catalog.specs.Catalog.{Object, object_spelling}
 use Rattle.type_layout.specs.Types.{PlainMember, PlainValue}
 use Rattle.type_layout.specs.declared.value.Value.{Value}
@@ -19,11 +16,10 @@ use Rattle.type_layout.specs.Views.{plain_value}
 use Rattle.cdr_codec.specs.Spelled.{SpellsRecord}
 use Rattle.storage_home.specs.Kept.{IsSound}
 use Rattle.storage_home.specs.Applied.{SpellsObject}
-use Rattle.storage_home.proofs.KeyLists.{any_at}
 use Rattle.owner_view.specs.declared.object.Changed.{Changed}
 use Rattle.owner_view.specs.declared.seen.Seen.{Seen}
 use Rattle.owner_view.specs.declared.seen.Seen.TheVariants.{Stored, Own}
-use Rattle.owner_view.specs.Seen.{HasKey, Fits, IsSeen, IsShown, home_seen, plain_object}
+use Rattle.owner_view.specs.Seen.{Fits, IsSeen, IsShown, home_seen, plain_object}
 
 module _ (S : Schema) (seen : Seen) (home : HomeNo) (bytes : Bor (List ℕ)) (is : seen ≡ Stored home bytes) where
   pub stored : (s : IsShown S seen) → IsSeen S (Stored home bytes) s.object
@@ -73,23 +69,3 @@ home_shown S (Own changed) s = ap (λ (o : Object). o.home) s.is
 -- a member's value, copied from the values of the program
 pub copied : (vs : List PlainValue) (all : List Value) (member : ℕ) (v : Value) → map plain_value all ≡ vs → member < length all → v ≡ get_or all member v → slice_get vs member ≡ Some (plain_value v)
 copied vs all member v same within is = ap (λ (l : List PlainValue). slice_get l member) (sym same) ∙ slice_get-map plain_value all member ∙ ap (option_map plain_value) (slice_get-get_or all member v within) ∙ ap (λ (x : Value). Some (plain_value x)) (sym is)
-
--- a home has the keys that it lists
-pub has_listed : (S : Schema) (h : HomeNo) (home : Home) → home_at S h ≡ Some home → (keys : List KeyNo) → keys ≡ keys_at S h → (i : ℕ) (d : KeyNo) → i < length keys → HasKey S h (get_or keys i d)
-has_listed S h home there keys same i d within = record {
-  home = home;
-  there = there;
-  keyed = subst (λ (ks : List KeyNo). list_any (λ j. j.0 == (get_or keys i d).0) ks ≡ true) (same ∙ ap (λ o. given o [] (λ (x : Home). x.keys)) there) (any_at keys i d within);
-}
-
--- ---- keys of records
-
-module _ (S : Schema) (h : HomeNo) (k : KeyNo) (has : HasKey S h k) where
-  pub members_had : members_at S h ≡ has.home.layout.members
-  members_had = ap (λ o. given o [] (λ (x : Home). x.layout.members)) has.there
-
-  pub record_had : (vs : List PlainValue) → IsRecord (members_at S h) vs → IsRecord has.home.layout.members vs
-  record_had vs is = subst (λ (ms : List PlainMember). IsRecord ms vs) members_had is
-
-pub record_with : (S : Schema) (object : Object) → Fits S object → (k : KeyNo) → HasKey S object.home k → IsRecordWith S k object.values
-record_with S object fits k has = record { number = object.home; home = has.home; there = has.there; keyed = has.keyed; of_home = record_had S object.home k has object.values fits.is_record }

@@ -1,11 +1,10 @@
 -- Objects as owners see them.
-use Rattle.std.specs.Prelude.{ℕ, ◌≡◌, IsTrue, Option, Some, None}
+use Rattle.std.specs.Prelude.{ℕ, ◌≡◌, Option, Some, None}
 use Rattle.std.specs.List.{slice_get}
 use Rattle.type_layout.specs.declared.home.HomeNo.{HomeNo}
-use Rattle.type_layout.specs.declared.key.KeyNo.{KeyNo}
 use Rattle.type_layout.specs.declared.schema.Home.{Home}
 use Rattle.type_layout.specs.declared.schema.Schema.{Schema}
-use Rattle.type_layout.specs.Schemas.{home_at, members_at, has_key}
+use Rattle.type_layout.specs.Schemas.{home_at, members_at}
 use Rattle.type_layout.specs.Types.{PlainMember, PlainValue}
 use Rattle.pss_base.specs.declared.pid.Pid.{Pid}
 use Rattle.type_layout.specs.Values.{Of, IsRecord}
@@ -17,12 +16,6 @@ use Rattle.owner_view.specs.declared.seen.Seen.TheVariants.{Stored, Own}
 -- what a changed object stands for
 abbrev pub plain_object : Changed → Object
 plain_object changed = record { home = changed.home; values = changed.record }
-
--- the home has the key
-pub record HasKey (S : Schema) (h : HomeNo) (k : KeyNo) : Type 0 where
-  pub home : Home
-  pub there : home_at S h ≡ Some home
-  pub keyed : IsTrue (has_key home k)
 
 -- an object of a home of the schema, a record of the home's layout
 pub record Fits (S : Schema) (object : Object) : Type 0 where

@@ -136,9 +136,6 @@ module _ (k : Kept) (old new : Parts) (s : SessionNo) (pid : Pid) (n : ℕ) (are
     }),
   )
     where
-      next_entry : Entry
-      next_entry = record { pid = pid; count = 1; view = None }
-
       bodies : new.copies.bodies ≡ old.copies.bodies
       bodies = ap (λ (m : Meaning). m.bodies) is.is
 
@@ -177,9 +174,6 @@ module _ (k : Kept) (old new : Parts) (s : SessionNo) (pid : Pid) (n : ℕ) (are
 
       number : number_for (copies_of k s) pid ≡ n
       number = ap (λ o. given o ((copies_of k s).last + 1) (λ g. g.number)) nobody ∙ ap (λ m. m + 1) (sym last_same) ∙ sym n_is
-
-      new_told : PlainEntry
-      new_told = record { number = (copies_of k s).last + 1; pid = pid; count = 1; stand = Loose }
 
       pushed : Copies
       pushed = record { last = (copies_of k s).last + 1; entries = (copies_of k s).entries ++ record { number = (copies_of k s).last + 1; pid = pid; count = 1; stand = Loose } ∷ [] }

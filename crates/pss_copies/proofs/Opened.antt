@@ -84,9 +84,6 @@ module _ (k : Kept) (name : List ℕ) (kind : Kind) (access : Access) (old new :
       same t (inl e) = ap is_some (here t e) ∙ sym (ap is_some (lasts_here t e))
       same t (inr ne) = ap is_some (away t ne) ∙ at.seats.told.same t ∙ sym (ap is_some (lasts_away t ne))
 
-      bodies_same : new.copies.bodies ≡ old.copies.bodies
-      bodies_same = ap (λ (m : Meaning). m.bodies) adds
-
       each : (t : SessionNo) (copies : Copies) → get (insert k.copies k.next_session no_copies) t.0 ≡ Some copies → ((t.0 ≡ s.0) ⊎ (t.0 ≡ s.0 → ⊥)) → IsTold new.copies t copies
       each t copies there (inl e) =
           let is : no_copies ≡ copies = same_some (sym (here t e) ∙ there) in

@@ -26,9 +26,6 @@ number_apart : (q s : SessionNo) → (q ≡ s → ⊥) → q.0 ≡ s.0 → ⊥
 number_apart q s ne e = ne (ap (λ n. record { 0 = n }) e)
 
 module _ (m : Meaning) (c d : Copies) (have : HaveSessions m c) where
-  pub have_lasts : d.lasts ≡ c.lasts → HaveSessions m d
-  have_lasts same s = ap (λ l. is_some (get l s)) same ∙ have s
-
   pub have_opened : (name : List ℕ) (kind : Kind) (access : Access) (s : SessionNo) → s.0 ≡ m.next → d ≡ copies.opened c s → HaveSessions (opened m name kind access) d
   have_opened name kind access s next is q =
       ap (λ (x : Copies). is_some (get x.lasts q)) is

@@ -10,7 +10,7 @@ use psdl_directory::{DeclarationNo, Directory, Header};
 use pss_base::NoMemory;
 use std::alloc::Global;
 
-fn known(families: &[usize], number: DeclarationNo) -> Option<usize>
+fn known(families: &[DeclarationNo], number: DeclarationNo) -> Option<DeclarationNo>
     ensures { result ≡ slice_get families.now number }
 {
     families.get(number.index()).copied()
@@ -19,10 +19,10 @@ fn known(families: &[usize], number: DeclarationNo) -> Option<usize>
 // The family of a declaration, by the families of those in front. A home whose base does not stand in front is its own base.
 fn family_of(
     directory: &Directory<'_>,
-    families: &[usize],
+    families: &[DeclarationNo],
     base: Option<DeclarationNo>,
-    number: usize,
-) -> usize
+    number: DeclarationNo,
+) -> DeclarationNo
     requires number { number < length (all_of directory.now) }
     requires families { families.now ≡ families_before (all_of directory.now) number }
     requires base { base ≡ base_home (all_of directory.now) number }
@@ -43,15 +43,15 @@ pub(crate) fn families_of(
     alloc: Global,
     directory: &Directory<'_>,
     headers: &[Header],
-) -> Result<Vec<usize>, NoMemory>
+) -> Result<Vec<DeclarationNo>, NoMemory>
     requires { headers.now ≡ of.headers (all_of directory.now) }
     ensures { IfOk result (λ v. v.items ≡ families_before (all_of directory.now) (length (all_of directory.now))) }
 {
     let mut families = Vec::new(alloc);
-    for number in 0..headers.len() {
-        let header = &headers[number];
+    for index in 0..headers.len() {
+        let header = &headers[index];
         let base = first_home(directory, header.bases());
-        let family = family_of(directory, &families, base, number);
+        let family = family_of(directory, &families, base, DeclarationNo::new(index));
         families.push(family)?;
     }
     Ok(families)

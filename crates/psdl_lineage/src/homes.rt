@@ -56,12 +56,16 @@ pub(crate) fn first_home(directory: &Directory<'_>, uses: &[Use]) -> Option<Decl
 }
 
 // Adds a declaration, where it is a concrete home.
-fn add_home(directory: &Directory<'_>, homes: &mut Vec<usize>, index: usize) -> Result<(), NoMemory>
-    ensures { OnOk result (homes.new.items ≡ homes.old.items ++ (if parts.is_concrete_home (at (all_of directory.now) index).what then index ∷ [] else [])) }
+fn add_home(
+    directory: &Directory<'_>,
+    homes: &mut Vec<DeclarationNo>,
+    number: DeclarationNo,
+) -> Result<(), NoMemory>
+    ensures { OnOk result (homes.new.items ≡ homes.old.items ++ (if parts.is_concrete_home (at (all_of directory.now) number).what then number ∷ [] else [])) }
 {
-    let holds = directory.what(DeclarationNo::new(index)).is_concrete_home();
+    let holds = directory.what(number).is_concrete_home();
     if holds {
-        homes.push(index)?;
+        homes.push(number)?;
     }
     Ok(())
 }
@@ -70,12 +74,12 @@ fn add_home(directory: &Directory<'_>, homes: &mut Vec<usize>, index: usize) -> 
 pub(crate) fn concrete_homes(
     alloc: Global,
     directory: &Directory<'_>,
-) -> Result<Vec<usize>, NoMemory>
+) -> Result<Vec<DeclarationNo>, NoMemory>
     ensures { IfOk result (λ v. v.items ≡ descent.concrete_homes (all_of directory.now)) }
 {
     let mut homes = Vec::new(alloc);
     for number in 0..directory.len() {
-        add_home(directory, &mut homes, number)?;
+        add_home(directory, &mut homes, DeclarationNo::new(number))?;
     }
     Ok(homes)
 }

@@ -1,10 +1,9 @@
 // What the types and homes of a text descend from.
-ghost use Rattle.std.specs.Prelude.{◌≡◌};
 ghost use Rattle.psdl_directory.specs.Directories.{all_of};
 ghost use Rattle.psdl_lineage.specs.inner.Known.{IsKnown};
 
 use crate::families::families_of;
-use crate::graph::{Graph, at};
+use crate::graph::Graph;
 use crate::homes::{concrete_homes, first_home, managed_type};
 use crate::parents::graph_of;
 use crate::providers::providers;
@@ -18,19 +17,10 @@ pub struct Lineage<'l, 'd> {
     directory: &'l Directory<'d>,
     headers: &'l [Header],
     graph: Graph,
-    homes: Vec<usize>,
-    families: Vec<usize>,
-    providers: Vec<Option<usize>>,
+    homes: Vec<DeclarationNo>,
+    families: Vec<DeclarationNo>,
+    providers: Vec<Option<DeclarationNo>>,
     ghost known: { IsKnown (all_of directory.now) headers.now graph homes.items families.items providers.items },
-}
-
-fn declaration(index: Option<usize>) -> Option<DeclarationNo>
-    ensures { result ≡ index }
-{
-    match index {
-        Some(index) => Some(DeclarationNo::new(index)),
-        None => None,
-    }
 }
 
 impl<'l, 'd> Lineage<'l, 'd> {
@@ -47,7 +37,7 @@ impl<'l, 'd> Lineage<'l, 'd> {
         directory: &'l Directory<'d>,
         headers: &'l [Header],
         graph: Graph,
-        homes: Vec<usize>,
+        homes: Vec<DeclarationNo>,
     ) -> Result<Lineage<'l, 'd>, NoMemory>
         requires headers { headers.now ≡ of.headers (all_of directory.now) }
         requires graph { graph ≡ graphs.graph_of (all_of directory.now) }
@@ -98,10 +88,7 @@ impl<'l, 'd> Lineage<'l, 'd> {
     pub fn home(&self, place: usize) -> Option<DeclarationNo>
         ensures { result ≡ slice_get (descent.concrete_homes (text_of self.now)) place }
     {
-        match at(&self.homes, place) {
-            Some(home) => Some(DeclarationNo::new(home)),
-            None => None,
-        }
+        self.homes.get(place).copied()
     }
 
     /// How many concrete homes there are.
@@ -136,7 +123,7 @@ impl<'l, 'd> Lineage<'l, 'd> {
         ensures { home < length (text_of self.now) → result ≡ descent.family (text_of self.now) home }
     {
         match self.families.get(home.index()) {
-            Some(family) => DeclarationNo::new(*family),
+            Some(family) => *family,
             None => home,
         }
     }
@@ -146,7 +133,7 @@ impl<'l, 'd> Lineage<'l, 'd> {
         ensures { home < length (text_of self.now) → result ≡ descent.provider (text_of self.now) home }
     {
         match self.providers.get(home.index()) {
-            Some(provider) => declaration(*provider),
+            Some(provider) => *provider,
             None => None,
         }
     }

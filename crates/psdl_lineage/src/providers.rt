@@ -8,7 +8,7 @@ ghost use Rattle.psdl_lineage.specs.inner.Providing.{AreProviders};
 use crate::descendants::first_descendants;
 use crate::graph::Graph;
 use crate::marks::Marks;
-use psdl_directory::Directory;
+use psdl_directory::{DeclarationNo, Directory};
 use pss_base::NoMemory;
 use std::alloc::Global;
 
@@ -17,8 +17,8 @@ pub(crate) fn providers(
     alloc: Global,
     directory: &Directory<'_>,
     graph: &Graph,
-    homes: &[usize],
-) -> Result<Vec<Option<usize>>, NoMemory>
+    homes: &[DeclarationNo],
+) -> Result<Vec<Option<DeclarationNo>>, NoMemory>
     requires graph { graph.now ≡ graph_of (all_of directory.now) }
     requires homes { homes.now ≡ concrete_homes (all_of directory.now) }
     ensures { IfOk result (λ v. AreProviders (all_of directory.now) v.items) }

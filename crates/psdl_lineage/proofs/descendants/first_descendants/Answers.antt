@@ -1,5 +1,6 @@
 use Rattle.std.proofs.Common.{rules, ◌≡◌, ◌<◌, ◌∙◌, ℕ, List, Bool, length, drop, get_or, sym, ap, arith, Some, None, cond}
 use Rattle.std.proofs.Math.ListN.{replicate}
+use Rattle.std.proofs.lemmas.Grind.{get_or_default_zero}
 use Rattle.psdl_lineage.specs.Descent.{has}
 use Rattle.psdl_lineage.specs.Graph.{ancestry_in}
 use Rattle.psdl_lineage.proofs.Repeats.{once}
@@ -18,13 +19,17 @@ loop-root-init c =
 
 pub run-requires-clause-number : goal.run-requires-clause-number
 run-requires-clause-number c =
-    c.requires.roots (get_or c.args.roots.now c.loop-root.root-index 0) (there_at c.args.roots.now c.loop-root.root-index c.loop-root-test.true)
+    let item : c.root-item.result ≡ get_or c.args.roots.now c.loop-root.root-index 0 = c.root-item.is ∙ get_or_default_zero c.args.roots.now c.loop-root.root-index c.root-item.result c.loop-root-test.true in
+    let is : c.index.result ≡ get_or c.args.roots.now c.loop-root.root-index 0 = c.index.ensures ∙ item in
+    rw is (c.requires.roots (get_or c.args.roots.now c.loop-root.root-index 0) (there_at c.args.roots.now c.loop-root.root-index c.loop-root-test.true))
 
 pub found_since-requires : goal.found_since-requires
 found_since-requires c =
+    let item : c.root-item.result ≡ get_or c.args.roots.now c.loop-root.root-index 0 = c.root-item.is ∙ get_or_default_zero c.args.roots.now c.loop-root.root-index c.root-item.result c.loop-root-test.true in
+    let is : c.index.result ≡ get_or c.args.roots.now c.loop-root.root-index 0 = c.index.ensures ∙ item in
     let found : List ℕ = c.loop-root.walk.found.items in
     let distinct : once found ≡ found = found_once c.args.graph.now c.loop-root.marks _ found c.loop-root.invariant.idle.on in
-    omega (arith, longer found (ancestry_in c.args.graph.now (get_or c.args.roots.now c.loop-root.root-index 0)) c.run.new.self.found.items distinct c.in_ok-run.ensures.found, c.len-before.ensures)
+    omega (arith, longer found (ancestry_in c.args.graph.now (get_or c.args.roots.now c.loop-root.root-index 0)) c.run.new.self.found.items distinct (rw is at c.in_ok-run.ensures.found), c.len-before.ensures)
 
 pub give-requires : goal.give-requires
 give-requires c n h =
@@ -34,6 +39,8 @@ give-requires c n h =
 
 pub loop-root-preserved : goal.loop-root-preserved
 loop-root-preserved c =
+    let item : c.root-item.result ≡ get_or c.args.roots.now c.loop-root.root-index 0 = c.root-item.is ∙ get_or_default_zero c.args.roots.now c.loop-root.root-index c.root-item.result c.loop-root-test.true in
+    let is : c.index.result ≡ get_or c.args.roots.now c.loop-root.root-index 0 = c.index.ensures ∙ item in
     let found : List ℕ = c.loop-root.walk.found.items in
     let distinct : once found ≡ found = found_once c.args.graph.now c.loop-root.marks _ found c.loop-root.invariant.idle.on in
     let since : c.found_since.result.now ≡ drop (length found) c.run.new.self.found.items =
@@ -43,8 +50,8 @@ loop-root-preserved c =
       idle = c.in_ok-run.ensures.idle;
       first =
           one_root_more c.args.graph.now c.args.roots.now c.loop-root.root-index found c.run.new.self.found.items c.loop-root.firsts.items c.give.new.firsts.items c.loop-root-test.true
-          c.loop-root.invariant.first distinct c.in_ok-run.ensures.found c.give.ensures.len
+          c.loop-root.invariant.first distinct (rw is at c.in_ok-run.ensures.found) c.give.ensures.len
           (λ n.
-          c.give.ensures.given n
+          (rw item at c.give.ensures.given n)
           ∙ ap (λ (l : List ℕ). cond (has l n) (Some (get_or c.args.roots.now c.loop-root.root-index 0)) (get_or c.loop-root.firsts.items n None)) since);
     }

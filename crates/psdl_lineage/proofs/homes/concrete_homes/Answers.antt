@@ -11,7 +11,7 @@ loop-number-preserved c =
     let i = c.loop-number.number in
     record {
       within = omega (arith, c.len-number-end.ensures, c.loop-number-test.true);
-      homes = c.in_ok-add_home.ensures ∙ ap (λ (l : List ℕ). l ++ cond (is_concrete_home (at all i).what) (i ∷ []) []) c.loop-number.invariant.homes ∙ sym (homes_more all i);
+      homes = rw c.new.ensures at c.in_ok-add_home.ensures ∙ ap (λ (l : List ℕ). l ++ cond (is_concrete_home (at all i).what) (i ∷ []) []) c.loop-number.invariant.homes ∙ sym (homes_more all i);
     }
 
 pub returns : goal.returns

@@ -1,5 +1,5 @@
 -- An operand behind its operator, as functions read it.
-use Rattle.std.proofs.Common.{◌≡◌, ℕ, ◌-◌, ◌<◌, List, Bool, Option, Ok, refl, ap, sym, ◌∙◌}
+use Rattle.std.proofs.Common.{◌≡◌, ℕ, ◌-◌, ◌<◌, List, Bool, Option, Some, None, is_some, option_map, Ok, refl, ap, sym, ◌∙◌}
 use Rattle.psdl_tokens.specs.declared.token.Mark.TheVariants as marks
 use Rattle.psdl_tree.specs.Trees.{Expression}
 use Rattle.psdl_syntax.proofs.Depths.{inside_is}
@@ -9,8 +9,8 @@ use Rattle.part_readers.specs.Reading.{Fails, mapped, both, many, separated}
 use Rattle.part_readers.proofs.Loops.{first_fails, second_fails, both_gives, mapped_fails, mapped_gives}
 use Rattle.psdl_syntax.specs.declared.fault.Fault.{Fault}
 use Rattle.psdl_tokens.specs.declared.token.Mark.{Mark}
-use Rattle.psdl_syntax.specs.Seen.{Seen}
-use Rattle.psdl_syntax.specs.Productions.{Reads, place_at, sign_at, place_part, opened, operator_at, operand_at, operator_operand_at, group_with, expression_inside, expression_at}
+use Rattle.psdl_syntax.specs.Seen.{Seen, Word, Sign, Placed, Named, Number, Quoted, Stray}
+use Rattle.psdl_syntax.specs.Productions.{Reads, place_at, sign_at, place_part, opened, is_operator, operator_part, operator_at, operand_at, operator_operand_at, group_with, expression_inside, expression_at}
 
 pub sign_fails : {A : Type 0} (refusal : Refusal Fault) (m : Mark) (operand : Reads A) (toks : List Seen) → Fails refusal (place_at m toks) → Fails refusal (operand_at m operand toks)
 unfolding operand_at
@@ -54,3 +54,16 @@ level_fails refusal made is first other toks h = mapped_fails refusal (λ p. mad
 
 pub behind_first_fails : {A B X : Type 0} (refusal : Refusal Fault) (made : A → List B → X) (is : Seen → Bool) (first : Reads A) (other : Reads B) (toks mid : List Seen) (x : A) → first toks ≡ Ok (x, mid) → Fails refusal (many is other mid) → Fails refusal (mapped (λ p. made p.0 p.1) (separated is first other) toks)
 behind_first_fails refusal made is first other toks mid x g h = mapped_fails refusal (λ p. made p.0 p.1) (separated is first other) toks (second_fails refusal first (many is other) toks x mid g h)
+
+mapped_is_some : {X Y : Type 0} (f : X → Y) (x : Option X) → is_some (option_map f x) ≡ is_some x
+mapped_is_some f None = refl
+mapped_is_some f (Some x) = refl
+
+pub is_operator_part : {O : Type 0} (of_mark : Mark → Option O) (t : Seen) → is_operator of_mark t ≡ is_some (operator_part of_mark t)
+is_operator_part of_mark (Word l) = refl
+is_operator_part of_mark (Sign n) = refl
+is_operator_part of_mark (Placed n p) = sym (mapped_is_some (λ o. (p, o)) (of_mark n))
+is_operator_part of_mark (Named i) = refl
+is_operator_part of_mark (Number n) = refl
+is_operator_part of_mark (Quoted q) = refl
+is_operator_part of_mark Stray = refl

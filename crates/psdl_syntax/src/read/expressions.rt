@@ -8,18 +8,15 @@ ghost use Rattle.psdl_tokens.specs.declared.token.Mark.TheVariants as marks;
 
 use super::lists::put_part;
 use super::names::name_of;
-use super::operators::{
-    at_product, at_shift, at_sum, optional_sign_of, product_operator_of, shift_operator_of,
-    sum_operator_of,
-};
+use super::operators::{at_operator, operator_of, optional_sign_of};
 use super::words::{
     Read, at_integer, at_mark, at_name, at_text, before, integer_literal_of, open_paren_of,
     place_of, text_literal_of,
 };
 use psdl_tokens::{Mark, Token};
 use psdl_tree::{
-    And, AndPart, Expression, Group, OrPart, Primary, Product, ProductPart, Shift, ShiftPart, Sum,
-    SumPart, Unary, Xor, XorPart,
+    And, AndPart, Expression, Group, OrPart, Primary, Product, ProductOperator, ProductPart, Shift,
+    ShiftOperator, ShiftPart, Sum, SumOperator, SumPart, Unary, Xor, XorPart,
 };
 use std::alloc::Global;
 
@@ -34,6 +31,7 @@ pub(super) fn expression_of(alloc: Global, depth: u32, tokens: &[Token]) -> Read
     Ok((Expression { first, others }, rest))
 }
 
+// Each level has its loop written out: `parts_of` knows its parts by a trait, and no proof follows a cycle of calls through a trait.
 #[cycle(expressions)]
 fn or_parts_of(alloc: Global, depth: u32, tokens: &[Token]) -> Read<'_, Vec<OrPart>>
     ensures { Gives (λ x. (map or_part_view x.0.items, map seen x.1.now)) result (many (is_mark marks.Or) (operand_at marks.Or (xor_with (expression_inside depth) depth)) (map seen tokens.now)) }
@@ -125,10 +123,10 @@ fn shift_parts_of(alloc: Global, depth: u32, tokens: &[Token]) -> Read<'_, Vec<S
     let mut parts = Vec::new(alloc);
     let mut rest = tokens;
     for _ in 0..tokens.len() {
-        if !at_shift(rest) {
+        if !at_operator::<ShiftOperator>(rest) {
             return Ok((parts, rest));
         }
-        let ((place, operator), after) = shift_operator_of(rest)?;
+        let ((place, operator), after) = operator_of(rest)?;
         let (operand, after) = sum_of(alloc, depth, after)?;
         put_part(
             &mut parts,
@@ -160,10 +158,10 @@ fn sum_parts_of(alloc: Global, depth: u32, tokens: &[Token]) -> Read<'_, Vec<Sum
     let mut parts = Vec::new(alloc);
     let mut rest = tokens;
     for _ in 0..tokens.len() {
-        if !at_sum(rest) {
+        if !at_operator::<SumOperator>(rest) {
             return Ok((parts, rest));
         }
-        let ((place, operator), after) = sum_operator_of(rest)?;
+        let ((place, operator), after) = operator_of(rest)?;
         let (operand, after) = product_of(alloc, depth, after)?;
         put_part(
             &mut parts,
@@ -195,10 +193,10 @@ fn product_parts_of(alloc: Global, depth: u32, tokens: &[Token]) -> Read<'_, Vec
     let mut parts = Vec::new(alloc);
     let mut rest = tokens;
     for _ in 0..tokens.len() {
-        if !at_product(rest) {
+        if !at_operator::<ProductOperator>(rest) {
             return Ok((parts, rest));
         }
-        let ((place, operator), after) = product_operator_of(rest)?;
+        let ((place, operator), after) = operator_of(rest)?;
         let (operand, after) = unary_of(alloc, depth, after)?;
         put_part(
             &mut parts,

@@ -73,8 +73,8 @@ pub and_parts_of-loop-preserved : goal.and_parts_of-loop-preserved
 and_parts_of-loop-preserved t c =
     pushed_on and_part_view (is_mark marks.And) (operand_at marks.And (shift_with (expression_inside c.args.depth) c.args.depth)) _ _ _ (length c.args.tokens.now) c.loop.counter (map seen c.loop.rest.now) (c.in_ok-place.place, shift_view c.in_ok-operand.operand) (map seen c.in_ok-operand.after.now) (many (is_mark marks.And) (operand_at marks.And (shift_with (expression_inside c.args.depth) c.args.depth)) (map seen c.args.tokens.now)) c.in_ok-put_part.ensures (and_part_rolled c.in_ok-place.place c.in_ok-operand.operand) c.loop-test.true (search rules) (operand_gives marks.And (shift_with (expression_inside c.args.depth) c.args.depth) (map seen c.loop.rest.now) (map seen c.in_ok-place.after.now) (map seen c.in_ok-operand.after.now) c.in_ok-place.place (shift_view c.in_ok-operand.operand) c.in_ok-place.ensures c.in_ok-operand.ensures) c.loop.invariant
 
-pub shift_parts_of-returns-then-not-at_shift : goal.shift_parts_of-returns-then-not-at_shift
-shift_parts_of-returns-then-not-at_shift t c = no_more (is_operator shift_operator) (operator_operand_at shift_operator (sum_with (expression_inside c.args.depth) c.args.depth)) (map shift_part_view c.loop.parts.items) (length c.args.tokens.now) c.loop.counter (map seen c.loop.rest.now) (many (is_operator shift_operator) (operator_operand_at shift_operator (sum_with (expression_inside c.args.depth) c.args.depth)) (map seen c.args.tokens.now)) (search rules) c.loop.invariant
+pub shift_parts_of-returns-then-not-at_operator : goal.shift_parts_of-returns-then-not-at_operator
+shift_parts_of-returns-then-not-at_operator t c = no_more (is_operator shift_operator) (operator_operand_at shift_operator (sum_with (expression_inside c.args.depth) c.args.depth)) (map shift_part_view c.loop.parts.items) (length c.args.tokens.now) c.loop.counter (map seen c.loop.rest.now) (many (is_operator shift_operator) (operator_operand_at shift_operator (sum_with (expression_inside c.args.depth) c.args.depth)) (map seen c.args.tokens.now)) (search rules) c.loop.invariant
 
 pub shift_parts_of-returns : goal.shift_parts_of-returns
 shift_parts_of-returns t c = is_done (is_operator shift_operator) (operator_operand_at shift_operator (sum_with (expression_inside c.args.depth) c.args.depth)) (map shift_part_view c.loop.parts.items) (length c.args.tokens.now) c.loop.counter (map seen c.loop.rest.now) (many (is_operator shift_operator) (operator_operand_at shift_operator (sum_with (expression_inside c.args.depth) c.args.depth)) (map seen c.args.tokens.now)) c.loop-test.false c.loop.invariant
@@ -93,8 +93,8 @@ pub shift_parts_of-loop-preserved : goal.shift_parts_of-loop-preserved
 shift_parts_of-loop-preserved t c =
     pushed_on shift_part_view (is_operator shift_operator) (operator_operand_at shift_operator (sum_with (expression_inside c.args.depth) c.args.depth)) _ _ _ (length c.args.tokens.now) c.loop.counter (map seen c.loop.rest.now) (c.in_ok-place.place, c.in_ok-place.operator, sum_view c.in_ok-operand.operand) (map seen c.in_ok-operand.after.now) (many (is_operator shift_operator) (operator_operand_at shift_operator (sum_with (expression_inside c.args.depth) c.args.depth)) (map seen c.args.tokens.now)) c.in_ok-put_part.ensures (shift_part_rolled c.in_ok-place.place c.in_ok-place.operator c.in_ok-operand.operand) c.loop-test.true (search rules) (operator_gives shift_operator (sum_with (expression_inside c.args.depth) c.args.depth) (map seen c.loop.rest.now) (map seen c.in_ok-place.after.now) (map seen c.in_ok-operand.after.now) (c.in_ok-place.place, c.in_ok-place.operator) (sum_view c.in_ok-operand.operand) c.in_ok-place.ensures c.in_ok-operand.ensures) c.loop.invariant
 
-pub sum_parts_of-returns-then-not-at_sum : goal.sum_parts_of-returns-then-not-at_sum
-sum_parts_of-returns-then-not-at_sum t c = no_more (is_operator sum_operator) (operator_operand_at sum_operator (product_with (expression_inside c.args.depth) c.args.depth)) (map sum_part_view c.loop.parts.items) (length c.args.tokens.now) c.loop.counter (map seen c.loop.rest.now) (many (is_operator sum_operator) (operator_operand_at sum_operator (product_with (expression_inside c.args.depth) c.args.depth)) (map seen c.args.tokens.now)) (search rules) c.loop.invariant
+pub sum_parts_of-returns-then-not-at_operator : goal.sum_parts_of-returns-then-not-at_operator
+sum_parts_of-returns-then-not-at_operator t c = no_more (is_operator sum_operator) (operator_operand_at sum_operator (product_with (expression_inside c.args.depth) c.args.depth)) (map sum_part_view c.loop.parts.items) (length c.args.tokens.now) c.loop.counter (map seen c.loop.rest.now) (many (is_operator sum_operator) (operator_operand_at sum_operator (product_with (expression_inside c.args.depth) c.args.depth)) (map seen c.args.tokens.now)) (search rules) c.loop.invariant
 
 pub sum_parts_of-returns : goal.sum_parts_of-returns
 sum_parts_of-returns t c = is_done (is_operator sum_operator) (operator_operand_at sum_operator (product_with (expression_inside c.args.depth) c.args.depth)) (map sum_part_view c.loop.parts.items) (length c.args.tokens.now) c.loop.counter (map seen c.loop.rest.now) (many (is_operator sum_operator) (operator_operand_at sum_operator (product_with (expression_inside c.args.depth) c.args.depth)) (map seen c.args.tokens.now)) c.loop-test.false c.loop.invariant
@@ -113,8 +113,8 @@ pub sum_parts_of-loop-preserved : goal.sum_parts_of-loop-preserved
 sum_parts_of-loop-preserved t c =
     pushed_on sum_part_view (is_operator sum_operator) (operator_operand_at sum_operator (product_with (expression_inside c.args.depth) c.args.depth)) _ _ _ (length c.args.tokens.now) c.loop.counter (map seen c.loop.rest.now) (c.in_ok-place.place, c.in_ok-place.operator, product_view c.in_ok-operand.operand) (map seen c.in_ok-operand.after.now) (many (is_operator sum_operator) (operator_operand_at sum_operator (product_with (expression_inside c.args.depth) c.args.depth)) (map seen c.args.tokens.now)) c.in_ok-put_part.ensures (sum_part_rolled c.in_ok-place.place c.in_ok-place.operator c.in_ok-operand.operand) c.loop-test.true (search rules) (operator_gives sum_operator (product_with (expression_inside c.args.depth) c.args.depth) (map seen c.loop.rest.now) (map seen c.in_ok-place.after.now) (map seen c.in_ok-operand.after.now) (c.in_ok-place.place, c.in_ok-place.operator) (product_view c.in_ok-operand.operand) c.in_ok-place.ensures c.in_ok-operand.ensures) c.loop.invariant
 
-pub product_parts_of-returns-then-not-at_product : goal.product_parts_of-returns-then-not-at_product
-product_parts_of-returns-then-not-at_product t c = no_more (is_operator product_operator) (operator_operand_at product_operator (unary_with (expression_inside c.args.depth) c.args.depth)) (map product_part_view c.loop.parts.items) (length c.args.tokens.now) c.loop.counter (map seen c.loop.rest.now) (many (is_operator product_operator) (operator_operand_at product_operator (unary_with (expression_inside c.args.depth) c.args.depth)) (map seen c.args.tokens.now)) (search rules) c.loop.invariant
+pub product_parts_of-returns-then-not-at_operator : goal.product_parts_of-returns-then-not-at_operator
+product_parts_of-returns-then-not-at_operator t c = no_more (is_operator product_operator) (operator_operand_at product_operator (unary_with (expression_inside c.args.depth) c.args.depth)) (map product_part_view c.loop.parts.items) (length c.args.tokens.now) c.loop.counter (map seen c.loop.rest.now) (many (is_operator product_operator) (operator_operand_at product_operator (unary_with (expression_inside c.args.depth) c.args.depth)) (map seen c.args.tokens.now)) (search rules) c.loop.invariant
 
 pub product_parts_of-returns : goal.product_parts_of-returns
 product_parts_of-returns t c = is_done (is_operator product_operator) (operator_operand_at product_operator (unary_with (expression_inside c.args.depth) c.args.depth)) (map product_part_view c.loop.parts.items) (length c.args.tokens.now) c.loop.counter (map seen c.loop.rest.now) (many (is_operator product_operator) (operator_operand_at product_operator (unary_with (expression_inside c.args.depth) c.args.depth)) (map seen c.args.tokens.now)) c.loop-test.false c.loop.invariant

@@ -65,11 +65,7 @@ pub fn print_reply(
     ensures { IfOk result (λ told. IsReplyPrinted step.now connector.old connector.new told line.new) }
 {
     match get_of(step) {
-        Some(words) => match print_get(connector, words, line) {
-            Ok(true) => Ok(true),
-            Ok(false) => Ok(false),
-            Err(memory) => Err(memory),
-        },
+        Some(words) => print_get(connector, words, line),
         None => Ok(false),
     }
 }

@@ -8,7 +8,7 @@ use Rattle.link_pool.specs.Meaning.{Meaning, col_in, AreRings}
 use Rattle.link_pool.specs.declared.names.Col.{Col}
 use Rattle.link_pool.specs.declared.names.Node.{Node}
 use Rattle.link_pool.specs.declared.names.Seat.{Seat}
-use Rattle.link_pool.proofs.NodeLists.{contains_at, within_at, past_at, following-at}
+use Rattle.link_pool.proofs.NodeLists.{contains_at, within_at, following-at}
 use Rattle.link_pool.proofs.Sound.{no_value}
 
 module _ {T : Type 0} (p : Meaning T) (col : Col) where
@@ -39,6 +39,3 @@ module _ {T : Type 0} (p : Meaning T) (col : Col) where
       where
         told : next ≡ following node (list_in p.cols col)
         told = subst (λ o. IsSomeAnd o (λ home. next ≡ following node (list_in p.cols home))) at_home behind
-
-  pub passed_all : (passed : ℕ) → IsWalked passed None → passed ≡ length (list_in p.cols col)
-  passed_all passed walked = omega (arith, walked.within, past_at (list_in p.cols col) passed (sym walked.at))

@@ -209,9 +209,6 @@ module _ {X Y : Type 0} (f : X → ℕ) (g : Y → ℕ) where
       inner rest [] t same = total-none f (e ∷ es) s (λ k. same k ∙ at_none g k [] refl) ∙ sym (total-none g [] t (λ k. at_none g k [] refl))
       inner rest (h ∷ hs) t same = by (nat_cmp e.0 h.0) refl (inner rest hs (sorted_of g h hs t).1)
         where
-          lesser_absent : (a b : ℕ) → nat_cmp a b ≡ Less → eq_by_cmp nat_cmp a b ≡ false
-          lesser_absent a b e = ap is_eq e
-
           by : (r : Ordering) → nat_cmp e.0 h.0 ≡ r → (((k : ℕ) → at_key f k (e ∷ es) ≡ at_key g k hs) → total f (e ∷ es) ≡ total g hs) → total f (e ∷ es) ≡ total g (h ∷ hs)
           by Equal is later =
               let key : e.0 ≡ h.0 = nat_cmp-IsAntisymmetric e.0 h.0 is in

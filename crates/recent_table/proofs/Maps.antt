@@ -75,9 +75,6 @@ module _ {K : Type 0} {R : K → K → Ordering} (key : IsKey R) where
     by_key m n k here there = alike_maps m n (λ q. ⊎_elim (λ e. ap (get m) e ∙ here ∙ ap (get n) (sym e)) (λ ne. there q ne) (same_or_apart q k))
 
     module _ (m : FinMap R X) (k : K) where
-      pub insert_insert : (v w : X) → insert (insert m k v) k w ≡ insert m k w
-      insert_insert v w = by_key _ _ k (insert_here (insert m k v) k w ∙ sym (insert_here m k w)) (λ q ne. insert_apart (insert m k v) k w q ne ∙ insert_apart m k v q ne ∙ sym (insert_apart m k w q ne))
-
       pub insert_remove : (v : X) → insert (remove m k) k v ≡ insert m k v
       insert_remove v = by_key _ _ k (insert_here (remove m k) k v ∙ sym (insert_here m k v)) (λ q ne. insert_apart (remove m k) k v q ne ∙ remove_apart m k q ne ∙ sym (insert_apart m k v q ne))
 

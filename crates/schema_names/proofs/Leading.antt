@@ -62,9 +62,6 @@ module _ (list : List Provided) where
   at : (word : List ℕ) (place : ℕ) (p : Provided) → slice_get list place ≡ Some p → is_called_at list word place ≡ is_called word p
   at word place p there = ap (λ o. unwrap_or (option_map (is_called word) o) false) there
 
-  pub nothing_found : AreFound 0 list [] []
-  nothing_found = record { found = λ word. refl; hashed = λ word none. refl }
-
   -- one more provision
   module _ (i : ℕ) (p : Provided) (firsts firsts_new : List (ℕ × ℕ)) (others others_new : List ℕ) (within : i < length list) (there : slice_get list i ≡ Some p) (all : AreFound i list firsts others) where
     abbrev before : List ℕ → Option ℕ

@@ -27,9 +27,6 @@ either None number (Some d) b x = refl
 either (Some n) number d b x = refl
 
 module _ {Z : Type 0} (old mid new : BTreeMap (Vec ℕ Z) ℕ) (number : ℕ) where
-  pub none_entered : AreEntered old old [] number
-  none_entered word = sym (nothing_more (place_in old word))
-
   pub one_entered : (fs gs : List DeclaredFactory) (f : DeclaredFactory) → gs ≡ fs ++ f ∷ [] → AreEntered old mid fs number → IsEntered mid new f.name number → AreEntered old new gs number
   one_entered fs gs f more are is word =
       let test : DeclaredFactory → Bool = λ g. bytes_eq word g.name in

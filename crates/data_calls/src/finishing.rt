@@ -69,6 +69,7 @@ fn finish<L: Ledger>(
 }
 
 // The reply to a command by what it asks.
+#[inline(always)]
 fn perform<L: Ledger>(
     parts: &mut Parts,
     acting: Acting,
@@ -85,6 +86,7 @@ fn perform<L: Ledger>(
 }
 
 // The reply to a command by what its words ask, if anything.
+#[inline(always)]
 fn reply_to<L: Ledger>(
     parts: &mut Parts,
     acting: Acting,

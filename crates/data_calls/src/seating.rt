@@ -52,6 +52,7 @@ fn record_seen(
 }
 
 // The entry, which stands on no body, stands on the one in the view.
+#[inline(always)]
 fn place(
     parts: &mut Parts,
     acting: Acting,
@@ -78,6 +79,7 @@ fn place(
 
 /// The session's entry stands on the body of its object as the session sees it, where it stands on none. The record of a new
 /// object is moved to its body.
+#[inline(always)]
 pub fn seat(
     parts: &mut Parts,
     acting: Acting,

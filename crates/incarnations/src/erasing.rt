@@ -29,6 +29,7 @@ fn less_one(home: SessionRecord, view: Option<View>) -> SessionRecord
 }
 
 /// An entry goes, and leaves the body that it stands on.
+#[inline(always)]
 pub fn erase(stock: &mut Stock, slot: Slot, was: EntryRecord)
     requires sound { IsSound stock.old }
     requires entry { get stock.old.entries slot ≡ Some was }

@@ -323,6 +323,7 @@ impl Incarnations {
 
     /// The entries on the body of the object in the view stand on none, and it goes; where there is no such body, all is as before.
     /// It takes no memory, two steps for each of them, and at most one more.
+    #[inline(always)]
     pub fn detach_body<L: Ledger>(&mut self, pid: Pid, view: View, steps: &mut Steps<L>)
         ensures lasts { self.new.lasts ≡ self.old.lasts }
         ensures left { Leaves (loosened (on_body (body pid view))) self.old self.new }

@@ -8,6 +8,7 @@ use crate::names::BodyName;
 use crate::stock::Stock;
 
 /// An entry has left a body. Where it was the last, the body goes, and its row.
+#[inline(always)]
 pub fn lower(stock: &mut Stock, name: BodyName)
     requires body { IsSomeAnd (get stock.old.bodies name) (λ b. (0 < b.place.entries) × (b.place.entries ≡ 1 → get stock.old.pool.rows b.place.row ≡ Some [])) }
     requires rings { AreRings stock.old.pool }

@@ -23,6 +23,7 @@ pub fn move_node(pool: &mut Pool<Slot>, node: Node, row: Row) -> Node
 
 /// Takes a node out of its rings and puts it last in a row and first in its column, as `move_node` does it. The answer is
 /// its new name.
+#[inline(always)]
 pub fn move_ahead(pool: &mut Pool<Slot>, node: Node, row: Row) -> Node
     requires node { IsSome (map.get pool.old.nodes node) }
     requires row { IsSome (map.get pool.old.rows row) }

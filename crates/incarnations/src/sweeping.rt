@@ -69,6 +69,7 @@ pub fn free<L: Ledger>(stock: &mut Stock, session: SessionNo, steps: &mut Steps<
 }
 
 /// The entries on a body leave it, and it goes.
+#[inline(always)]
 pub fn clear<L: Ledger>(stock: &mut Stock, name: BodyName, steps: &mut Steps<L>)
     requires { IsSound stock.old }
     ensures sound { IsSound stock.new }

@@ -64,6 +64,7 @@ fn is_alone(links: &Links, owner: OwnerNo) -> bool
 
 /// The least other owner with a lock that clashes with one of the needs. An owner that is alone is held up by nobody, which is
 /// known without a look at the needs.
+#[inline(always)]
 pub fn blocker_of(links: &Links, owner: OwnerNo, needs: &[Need]) -> Option<OwnerNo>
     requires { IsLinked links.now }
     ensures { result ≡ blocker (held_in links.now.pool) owner needs.now }

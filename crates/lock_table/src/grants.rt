@@ -89,6 +89,7 @@ fn missing_locks(
 }
 
 // Adds an empty row for a resource that has none, and answers where it stands.
+#[inline(always)]
 fn add_place(links: &mut Links, resource: Resource) -> Result<FoundPlace, NoMemory>
     requires { place_at links.old resource ≡ None }
     ensures grows { Grows links.old links.new }
@@ -117,6 +118,7 @@ fn add_column(links: &mut Links, owner: OwnerNo) -> Result<Col, NoMemory>
 }
 
 // Sees to it that a resource has a row, where this was found of it, and answers where it stands.
+#[inline(always)]
 fn make_place(
     links: &mut Links,
     resource: &Resource,
@@ -134,6 +136,7 @@ fn make_place(
 }
 
 // Sees to it that an owner has a column.
+#[inline(always)]
 fn make_column(links: &mut Links, owner: OwnerNo) -> Result<Col, NoMemory>
     ensures grows { Grows links.old links.new }
     ensures places { links.new.places.table.entries ≡ links.old.places.table.entries }
@@ -242,6 +245,7 @@ fn count_up(links: &mut Links, found: FoundPlace)
 }
 
 // Links a lock where its rings cross.
+#[inline(always)]
 fn insert(links: &mut Links, lock: Lock, at: Crossing)
     requires linked { IsLinked links.old }
     requires at { IsCrossing links.old lock at }

@@ -71,6 +71,7 @@ impl LockTable {
     /// The least other owner that has a lock which clashes with one of the needs. None exactly where there is no such lock.
     ///
     /// It walks the rows of the needs' resources alone, and takes no memory.
+    #[inline(always)]
     pub fn blocker(&self, owner: OwnerNo, needs: &Needs) -> Option<OwnerNo>
         ensures { result ≡ blocker self.now owner needs.now }
     {
@@ -81,6 +82,7 @@ impl LockTable {
     /// locked once.
     ///
     /// `NoMemory`: the locks are as before.
+    #[inline(always)]
     pub fn grant(&mut self, owner: OwnerNo, needs: &Needs) -> Result<(), NoMemory>
         requires { blocker self.old owner needs.now ≡ None }
         ensures ok { OnOk result (self.new ≡ granted self.old owner needs.now) }

@@ -73,6 +73,7 @@ pub fn reserve(places: &mut Places) -> Result<(), NoMemory>
 }
 
 /// Sets the place of a resource, for which there is room, and answers where it stands. It takes no memory.
+#[inline(always)]
 pub fn put(places: &mut Places, resource: Resource, place: Place) -> usize
     requires { 0 < spare places.old.table }
     ensures turns { Turns same_resource places.old.table.entries places.new.table.entries resource (Some place) }
@@ -99,6 +100,7 @@ pub fn write(places: &mut Places, at: usize, place: Place)
 }
 
 /// Takes the place of the resource that stands there away.
+#[inline(always)]
 pub fn remove(places: &mut Places, at: usize)
     ensures { (resource : Resource) → key_at at places.old.table.entries ≡ Some resource → Turns same_resource places.old.table.entries places.new.table.entries resource None }
 {

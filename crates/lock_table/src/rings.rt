@@ -14,6 +14,7 @@ use pss_base::OwnerNo;
 use pss_machine::Resource;
 
 // Takes the row of a resource away, which was found and is empty.
+#[inline(always)]
 fn remove_place(links: &mut Links, found: FoundPlace)
     requires { map.get links.old.pool.rows found.place.row ≡ Some [] }
     ensures nodes { SameNodes links.old links.new }
@@ -39,6 +40,7 @@ pub fn remove_column(links: &mut Links, owner: OwnerNo, col: Col)
 }
 
 /// Takes the row of a resource that was found away if it is empty, which its place tells.
+#[inline(always)]
 pub fn drop_empty_row(links: &mut Links, found: FoundPlace)
     requires linked { IsLinked links.old }
     requires there { IsThere links.old found }

@@ -23,6 +23,7 @@ impl Accounts {
     /// as a command, and a create has used its serial.
     ///
     /// `NoMemory`: nothing is said of the accounts, which are not used again.
+    #[inline(always)]
     pub fn act(&mut self, owner: OwnerNo, schema: &Schema, op: &Op) -> Result<Answer, NoMemory>
         requires { MayStep schema.now self.old owner (plain_op op.now) }
         ensures busy { IfOk result (λ answer. (m : MayStep schema.now self.old owner (plain_op op.now)) (n : Number) → (answer ≡ told.Busy n) ↔ (blocker m.by.kept.owners owner (step_in m).needs ≡ Some n)) }

@@ -22,6 +22,7 @@ use pss_machine::{Answer, Level};
 use std::alloc::Global;
 
 /// Makes an object under a serial.
+#[inline(always)]
 pub fn create<C: Committed>(
     alloc: Global,
     view: &View<'_, C>,
@@ -42,6 +43,7 @@ pub fn create<C: Committed>(
     Ok(draft.step(serial, object, Answer::Found(pid)))
 }
 
+#[inline(always)]
 fn draft_of<C: Committed>(
     alloc: Global,
     view: &View<'_, C>,

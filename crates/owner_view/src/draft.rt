@@ -39,6 +39,7 @@ pub struct Draft {
 }
 
 /// An object that would come to be, with the objects that it refers to.
+#[inline(always)]
 pub fn draft_new<C: Committed>(
     alloc: Global,
     view: &View<'_, C>,
@@ -62,6 +63,7 @@ pub fn draft_new<C: Committed>(
     })
 }
 
+#[inline(always)]
 fn needs_of_new(
     alloc: Global,
     level: Level,
@@ -121,6 +123,7 @@ fn needs_of_set(
 }
 
 // The keys that an object had, and those of the one that it would become.
+#[inline(always)]
 fn with_keys_of(
     alloc: Global,
     schema: &Schema,
@@ -137,6 +140,7 @@ fn with_keys_of(
 }
 
 // The keys of the object that the view has at a serial, none where it has none.
+#[inline(always)]
 fn keys_at<C: Committed>(
     alloc: Global,
     view: &View<'_, C>,
@@ -165,6 +169,7 @@ pub fn keys_of_found<C: Committed>(
 }
 
 /// The keys of an object as an owner changed it.
+#[inline(always)]
 pub fn keys_of_changed(
     alloc: Global,
     schema: &Schema,
@@ -179,6 +184,7 @@ pub fn keys_of_changed(
 
 impl Draft {
     /// The step that puts the object, unless it is refused.
+    #[inline(always)]
     pub fn step(self, serial: u64, object: Changed, done: Answer) -> Step
         ensures { (S : PlainSchema) (V : Catalog) (needed : List Need) (references : List Referred) → Fits S (plain_object object) → IsSized S object → IsDraft S V serial (plain_object object) needed (stored_unless S V serial (plain_object object) references) self → ComesTo S V needed (stored_unless S V serial (plain_object object) references (plain_answer done)) result }
     {

@@ -36,6 +36,7 @@ pub fn need_key(needs: &mut Needs, mode: Mode, key: KeyNo, bytes: &Bytes) -> Res
 }
 
 /// Keys that are written.
+#[inline(always)]
 pub fn need_keys(needs: &mut Needs, pairs: &[(KeyNo, Bytes)]) -> Result<(), NoMemory>
     ensures { OnOk result (needs.new ≡ needs.old ++ key_needs pairs.now) }
 {
@@ -66,6 +67,7 @@ pub fn need_extents(needs: &mut Needs, homes: &[HomeNo]) -> Result<(), NoMemory>
 }
 
 /// An object that comes to be or goes, with its home and its keys.
+#[inline(always)]
 pub fn need_whole(
     needs: &mut Needs,
     serial: u64,

@@ -51,6 +51,7 @@ fn net_all<C: Committed>(alloc: Global, view: &View<'_, C>) -> Result<Changes, N
 }
 
 // The changes at these serials.
+#[inline(always)]
 fn net_at<C: Committed>(
     alloc: Global,
     view: &View<'_, C>,

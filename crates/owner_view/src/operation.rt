@@ -22,6 +22,7 @@ use pss_machine::{Level, Op};
 use std::alloc::Global;
 
 /// What an operation comes to on what an owner sees.
+#[inline(always)]
 pub fn step_of<C: Committed>(
     alloc: Global,
     view: &View<'_, C>,

@@ -86,6 +86,7 @@ impl Owned {
     /// What an operation comes to on what the owner sees: what it needs, what it answers, and what it changes.
     ///
     /// It takes time in what the operation touches and in the owner's changes, whatever is stored.
+    #[inline(always)]
     pub fn step_of(
         &self,
         alloc: Global,
@@ -160,6 +161,7 @@ impl Owned {
 
     /// Sees to it that what a step puts may be put without memory. Nothing that is told of the owner changes, not even where
     /// memory lacks.
+    #[inline(always)]
     pub fn reserve(&mut self, put: &Option<NewState>) -> Result<(), NoMemory>
         ensures same { IsSame self.old self.new }
         ensures ready { OnOk result (IsReadyFor put.now self.new) }
@@ -171,6 +173,7 @@ impl Owned {
     }
 
     /// Puts what a step puts. It takes no memory.
+    #[inline(always)]
     pub fn put(&mut self, put: NewState)
         requires { MayPutIn self.old put }
         ensures { HasPut self.old self.new put }

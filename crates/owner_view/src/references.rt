@@ -28,6 +28,7 @@ pub fn all_references_of(alloc: Global, values: &Record) -> Result<Vec<Pid>, NoM
 }
 
 #[cycle(push)]
+#[inline(always)]
 fn push(pids: &mut Vec<Pid>, value: &Value) -> Result<(), NoMemory>
     ensures { OnOk result (pids.new.items ≡ pids.old.items ++ references (plain_value value.now)) }
 {
@@ -44,6 +45,7 @@ fn push(pids: &mut Vec<Pid>, value: &Value) -> Result<(), NoMemory>
 }
 
 #[cycle(push)]
+#[inline(always)]
 fn push_all(pids: &mut Vec<Pid>, values: &[Value]) -> Result<(), NoMemory>
     ensures { OnOk result (pids.new.items ≡ pids.old.items ++ all_references (values_of (map plain_value values.now))) }
 {

@@ -31,6 +31,7 @@ pub enum Refusal {
 }
 
 /// Why an object with these references and keys may not come to be under a serial, where it may not.
+#[inline(always)]
 pub fn refusal_of<C: Committed>(
     view: &View<'_, C>,
     serial: u64,
@@ -50,6 +51,7 @@ pub fn refusal_of<C: Committed>(
     }
 }
 
+#[inline(always)]
 fn key_or_size<C: Committed>(
     view: &View<'_, C>,
     serial: u64,

@@ -33,6 +33,7 @@ pub struct Found<'a> {
 }
 
 /// The object with a serial, where the view has one.
+#[inline(always)]
 pub fn object_at<'a, C: Committed>(view: &View<'a, C>, serial: u64) -> Option<Seen<'a>>
     requires { Shows C.shows view.now }
     ensures { (v : Shows C.shows view.now) → IsSeenAt view.now.schema.now (seen_with v.catalog (changes_in view.now.overlay.now)) serial result }
@@ -66,6 +67,7 @@ pub fn has<C: Committed>(view: &View<'_, C>, pid: Pid) -> bool
 }
 
 /// The first of these objects that the view does not have.
+#[inline(always)]
 pub fn first_gone<C: Committed>(view: &View<'_, C>, pids: &[Pid]) -> Option<Pid>
     requires { Sees C.shows view.now }
     ensures { (v : Sees C.shows view.now) → result ≡ first_gone_in (seen_with v.catalog (changes_in view.now.overlay.now)) pids.now }

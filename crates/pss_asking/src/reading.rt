@@ -28,6 +28,7 @@ fn told(read: Result<Values, LineFault>) -> Result<Values, AskFault>
 }
 
 /// One value for each of these members.
+#[inline(always)]
 pub fn read_members(alloc: Global, members: &[Member], rest: &Rest<'_>) -> Result<Values, AskFault>
     requires { rest.now.column + length rest.now.text < 2 ^ 32 }
     ensures { Tells plain_values result (read_in (types_of (map plain_member members.now)) rest.now) }

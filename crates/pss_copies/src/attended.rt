@@ -253,6 +253,7 @@ impl Attended {
 
     /// Makes the body of the entry's object in the view in which the session sees it, with the record there, and the entry
     /// stands on it. After `NoMemory` all is as before.
+    #[inline(always)]
     pub fn attach(
         &mut self,
         session: SessionNo,

@@ -116,6 +116,7 @@ impl NamedSchema {
 
     /// The storage home that a word names: by its scoped name, with or without `::` in front, or by a catalog's scoped name,
     /// a point, and the name under which the catalog provides it. None: it names no home.
+    #[inline(always)]
     pub fn home(&self, word: &[u8]) -> Option<HomeNo>
         ensures { result ≡ home_named self.now word.now }
     {
@@ -147,6 +148,7 @@ impl NamedSchema {
     }
 
     // The first home whose scoped name the word is, with or without `::` in front.
+    #[inline(always)]
     fn home_called(&self, word: &[u8]) -> Option<HomeNo>
         ensures { result ≡ option_map (λ n. record { 0 = n + 1 }) (position (is_name_of word.now) self.now.homes) }
     {

@@ -35,6 +35,7 @@ fn is_done(reply: &Reply) -> bool
 }
 
 /// Speaks a whole line in one call.
+#[inline(always)]
 pub fn speak_line<W: Station>(line: &[u8], station: &mut W) -> Turn
     ensures speaks { Speaks result line.now (W.now station.old).spoken (W.now station.new).spoken }
     ensures disk { (W.now station.new).disk ≡ (W.now station.old).disk }

@@ -102,6 +102,7 @@ impl Parts {
         take_all(&mut self.keys, keys);
     }
 
+    #[inline(always)]
     pub(crate) fn put_object(&mut self, serial: u64, object: Stored, keys: &[(KeyNo, Bytes)])
         requires { MayPutObject self.old serial object keys.now }
         ensures kept { (m : MayPutObject self.old serial object keys.now) → IsKept m.schema (insert m.catalog serial m.object) self.new }

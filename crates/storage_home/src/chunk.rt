@@ -60,6 +60,7 @@ impl Chunk {
     /// Puts a row in a place that has none.
     ///
     /// `NoMemory`: the rows are as before.
+    #[inline(always)]
     pub fn insert(&mut self, place: u64, row: Row) -> Result<(), NoMemory>
         requires range { place < 64 }
         requires free { get_or self.old place None ≡ None }

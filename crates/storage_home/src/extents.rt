@@ -26,6 +26,7 @@ pub type Extent = BTreeMap<u64, Block>;
 const LAST: u64 = u64::MAX / WIDTH;
 
 /// Enters a serial of a home, whose object may come. One that is there stays there.
+#[inline(always)]
 pub fn enter_in(extents: &mut [Extent], home: HomeNo, serial: u64) -> Result<(), NoMemory>
     requires some { 1 ≤ home.0 }
     requires there { home.0 ≤ length extents.old }
@@ -39,6 +40,7 @@ pub fn enter_in(extents: &mut [Extent], home: HomeNo, serial: u64) -> Result<(),
 }
 
 /// The object of a serial that was entered for its home is there from now on.
+#[inline(always)]
 pub fn hold_in(extents: &mut [Extent], home: HomeNo, serial: u64)
     requires { is_entered_in extents.old home.0 serial ≡ true }
     ensures held { TurnsHeldIn extents.old extents.new home.0 serial true }
@@ -79,6 +81,7 @@ pub fn next_above_in(extents: &[Extent], home: HomeNo, serial: u64) -> Option<u6
 }
 
 // Enters a serial whose object may come. One that is there stays there.
+#[inline(always)]
 fn enter(extent: &mut Extent, serial: u64) -> Result<(), NoMemory>
     ensures held { KeepsHeld extent.old.entries extent.new.entries }
     ensures ok { OnOk result (TurnsEntered extent.old.entries extent.new.entries serial true) }
@@ -156,6 +159,7 @@ fn release(extent: &mut Extent, serial: u64, stays: bool)
 }
 
 // Says of a serial that was entered whether it still is, and whether its object is there.
+#[inline(always)]
 fn write(extent: &mut Extent, serial: u64, enters: bool, holds: bool)
     requires { is_entered_at serial extent.old.entries ≡ true }
     ensures held { TurnsHeld extent.old.entries extent.new.entries serial holds }

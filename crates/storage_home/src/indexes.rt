@@ -50,6 +50,7 @@ pub fn find(indexes: &KeyIndexes, key: KeyNo, bytes: &[u8]) -> Option<u64>
 /// Reserves keys. They may be held, and stay so.
 ///
 /// `NoMemory`: some of them may be reserved, and what was reserved stays so.
+#[inline(always)]
 pub fn reserve_all(
     alloc: Global,
     indexes: &mut KeyIndexes,
@@ -104,6 +105,7 @@ fn reserved(alloc: Global, bytes: &[u8]) -> Result<KeyIndex, NoMemory>
 }
 
 /// Takes keys from their holders, where they have some. What is reserved stays so. It takes no memory.
+#[inline(always)]
 pub fn take_all(indexes: &mut KeyIndexes, pairs: &[(KeyNo, Bytes)])
     ensures found { TurnsFound indexes.old.entries indexes.new.entries pairs.now None }
     ensures reserved { KeepsKeysReserved indexes.old.entries indexes.new.entries }
@@ -123,6 +125,7 @@ fn take(indexes: &mut KeyIndexes, key: KeyNo, bytes: &[u8])
 }
 
 /// Gives reserved keys that nothing holds to the object with a serial, and ends their reservations. It takes no memory.
+#[inline(always)]
 pub fn put_all(indexes: &mut KeyIndexes, pairs: &[(KeyNo, Bytes)], serial: u64)
     requires { MayPut indexes.old.entries pairs.now }
     ensures found { TurnsFound indexes.old.entries indexes.new.entries pairs.now (Some serial) }

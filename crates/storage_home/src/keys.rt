@@ -50,6 +50,7 @@ fn keys_by_places(
 }
 
 /// The keys of a home, in its order, with the bytes that these values of an object give each.
+#[inline(always)]
 pub fn keys_of_record(
     alloc: Global,
     schema: &Schema,

@@ -58,6 +58,7 @@ impl Parts {
         }
     }
 
+    #[inline(always)]
     pub(crate) fn reserve_serial(&mut self, home: HomeNo, serial: u64) -> Result<(), NoMemory>
         requires some { 1 ≤ home.0 }
         requires there { home.0 ≤ length self.old.extents.items }

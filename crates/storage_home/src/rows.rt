@@ -62,6 +62,7 @@ pub fn is_reserved(rows: &Rows, serial: u64) -> bool
 /// Reserves a serial. Its object, where there is one, stays.
 ///
 /// `NoMemory`: all is as before.
+#[inline(always)]
 pub fn reserve(alloc: Global, rows: &mut Rows, serial: u64) -> Result<(), NoMemory>
     ensures objects { KeepsObjects rows.old.chunks rows.new.chunks }
     ensures ok { OnOk result (TurnsReserved rows.old.chunks rows.new.chunks serial true) }

@@ -23,6 +23,7 @@ use type_layout::Schema;
 
 impl Parts {
     /// What an operation comes to on an owner's view.
+    #[inline(always)]
     pub fn step_of(
         &self,
         owner: OwnerNo,
@@ -43,6 +44,7 @@ impl Parts {
     /// Takes a step that nobody holds up.
     ///
     /// `NoMemory`: what owners have locked and changed is as before.
+    #[inline(always)]
     pub fn take(&mut self, owner: OwnerNo, step: Step) -> Result<Answer, NoMemory>
         requires may { (S : PlainSchema) × MayTake S self.old owner step }
         requires free { blocker self.old.locks owner step.needs ≡ None }
@@ -57,6 +59,7 @@ impl Parts {
 }
 
 // The owner is looked up once.
+#[inline(always)]
 fn take_in(
     table: &mut Table,
     locks: &mut LockTable,
@@ -77,6 +80,7 @@ fn take_in(
     }
 }
 
+#[inline(always)]
 fn take_with(
     owned: &mut Owned,
     locks: &mut LockTable,
@@ -97,6 +101,7 @@ fn take_with(
 }
 
 // Room for what a step puts, and the locks that it needs.
+#[inline(always)]
 fn prepare(
     owned: &mut Owned,
     locks: &mut LockTable,
@@ -114,6 +119,7 @@ fn prepare(
 }
 
 // Puts what a step puts, for which there is room.
+#[inline(always)]
 fn settle(owned: &mut Owned, step: Step) -> Answer
     requires { MaySettle owned.old step.put }
     ensures answer { result ≡ step.answer }

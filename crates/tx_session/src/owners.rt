@@ -93,6 +93,7 @@ impl Owners {
     /// It takes time in what the operation touches and in the owner's changes, whatever is stored.
     ///
     /// `NoMemory`: all is as before.
+    #[inline(always)]
     pub fn act(
         &mut self,
         owner: OwnerNo,

@@ -102,6 +102,7 @@ impl BodyTable {
     }
 
     /// Takes the body of a name away, which is hashed only where it was not the one found last.
+    #[inline(always)]
     pub fn remove(&mut self, name: BodyName)
         ensures { self.new ≡ map.remove self.old name }
     {

@@ -77,6 +77,7 @@ impl EntryTable {
     }
 
     /// Takes the record of a slot away, which is hashed only where it was not the one found last.
+    #[inline(always)]
     pub fn remove(&mut self, slot: Slot)
         ensures { self.new ≡ map.remove self.old slot }
     {

@@ -54,6 +54,7 @@ impl ObjectTable {
         Ok(())
     }
 
+    #[inline(always)]
     pub fn remove(&mut self, object: ObjectName)
         ensures { self.new ≡ map.remove self.old object }
     {

@@ -7,6 +7,7 @@ ghost use Rattle.psdl_lineage.specs.inner.SourceTables.{kept_in, IsTable};
 use crate::graph::Graph;
 use crate::marks::Marks;
 use crate::{ancestry, joined};
+use psdl_directory::DeclarationNo;
 use pss_base::NoMemory;
 use std::alloc::Global;
 
@@ -16,11 +17,11 @@ const MOST_KEPT: usize = 255;
 /// For each declaration its list, where it is kept.
 #[derive(Drop)]
 pub(crate) struct SourceLists {
-    kept: Vec<Option<Vec<usize>>>,
+    kept: Vec<Option<Vec<DeclarationNo>>>,
 }
 
 impl SourceLists {
-    fn list(&self, number: usize) -> Option<&[usize]>
+    fn list(&self, number: usize) -> Option<&[DeclarationNo]>
         ensures { option_map (λ l. l.now) result ≡ list_at (kept_in self.now) number }
     {
         if number >= self.kept.len() {
@@ -40,7 +41,7 @@ impl SourceLists {
         marks: &mut Marks,
         own: &[bool],
         number: usize,
-    ) -> Result<Option<Vec<usize>>, NoMemory>
+    ) -> Result<Option<Vec<DeclarationNo>>, NoMemory>
         requires number { number < length graph.now }
         requires unkept { is_some (list_at (kept_in self.now) number) ≡ false }
         requires sized { length marks.old ≡ length graph.now }
@@ -61,7 +62,7 @@ impl SourceLists {
         if !joined::is_own(own, number) {
             return Ok(Some(joined));
         }
-        joined::add(&mut joined, marks, number)?;
+        joined::add(&mut joined, marks, DeclarationNo::new(number))?;
         Ok(Some(joined))
     }
 
@@ -72,7 +73,7 @@ impl SourceLists {
         list.is_some()
     }
 
-    fn keep(&mut self, number: usize, list: Vec<usize>)
+    fn keep(&mut self, number: usize, list: Vec<DeclarationNo>)
         requires { number < length (kept_in self.old) }
         ensures { kept_in self.new ≡ slice_set (kept_in self.old) number (Some list.items) }
     {
@@ -144,7 +145,7 @@ impl SourceLists {
         marks: &mut Marks,
         own: &[bool],
         number: usize,
-    ) -> Result<Vec<usize>, NoMemory>
+    ) -> Result<Vec<DeclarationNo>, NoMemory>
         requires number { number < length graph.now }
         requires sized { length marks.old ≡ length graph.now }
         requires table { IsTable graph.now own.now self.now }
@@ -159,7 +160,7 @@ impl SourceLists {
 }
 
 // The list, unless it is too long.
-fn short(list: Option<Vec<usize>>) -> Option<Vec<usize>>
+fn short(list: Option<Vec<DeclarationNo>>) -> Option<Vec<DeclarationNo>>
     ensures { IfSome result (λ kept. list ≡ Some kept) }
 {
     match list {
@@ -175,7 +176,7 @@ fn walked(
     marks: &mut Marks,
     own: &[bool],
     number: usize,
-) -> Result<Vec<usize>, NoMemory>
+) -> Result<Vec<DeclarationNo>, NoMemory>
     requires number { number < length graph.now }
     requires sized { length marks.old ≡ length graph.now }
     ensures sized { length marks.new ≡ length marks.old }

@@ -33,11 +33,11 @@ impl<'l> Model for Sources<'l> {
 }
 
 // A number that is no declaration's descends from itself alone.
-fn alone(alloc: Global, own: &[bool], number: usize) -> Result<Vec<usize>, NoMemory>
+fn alone(alloc: Global, own: &[bool], number: DeclarationNo) -> Result<Vec<DeclarationNo>, NoMemory>
     ensures { IfOk result (λ v. v.items ≡ filter (is_own own.now) (number ∷ [])) }
 {
     let mut list = Vec::new(alloc);
-    if joined::is_own(own, number) {
+    if joined::is_own(own, number.index()) {
         list.push(number)?;
     }
     Ok(list)
@@ -67,13 +67,17 @@ impl<'l> Sources<'l> {
 
     /// The sources of a declaration, in the order of its lines, itself last where it is one.
     #[tactic(auto, using(crate::proofs::Past::by_past))]
-    pub fn of(&mut self, alloc: Global, number: DeclarationNo) -> Result<Vec<usize>, NoMemory>
+    pub fn of(
+        &mut self,
+        alloc: Global,
+        number: DeclarationNo,
+    ) -> Result<Vec<DeclarationNo>, NoMemory>
         ensures same { self.new ≡ self.old }
         ensures sources { IfOk result (λ v. v.items ≡ sources_in self.old.graph self.old.own number) }
     {
         let index = number.index();
         if index >= self.graph.len() {
-            return alone(alloc, &self.own, index);
+            return alone(alloc, &self.own, number);
         }
         let list = self
             .lists

@@ -82,8 +82,9 @@ alias_spelled all done kept n before spec dimensions path k r count e many is_k 
 own_is : (all : List Declaration) (n : ℕ) (own : Option ℕ) → own ≡ origin all n → (j : ℕ) → given own false (λ k. j == k) ≡ is_origin all n j
 own_is all n own e j = rw e refl
 
-pub struct_spelled : (all : List Declaration) (done : List Standing) (kept : List ℕ) (own : Option ℕ) (n : ℕ) (struct : StructTree) (path : Path) → kept ≡ map depth done → own ≡ origin all n
-    → option_map cut (struct_nesting (name_depth all kept own (n + 1) path) struct) ≡ option_map cut (nesting_of all done n path (IsStruct struct))
-struct_spelled all done kept own n struct path e is_own =
-    ap (λ (ks : List ℕ). option_map cut (struct_nesting (name_depth all ks own (n + 1) path) struct)) e
+pub struct_spelled : (all : List Declaration) (done : List Standing) (kept : List ℕ) (own : Option ℕ) (n m : ℕ) (struct : StructTree) (path : Path) → kept ≡ map depth done → own ≡ origin all n → m ≡ n
+    → option_map cut (struct_nesting (name_depth all kept own (m + 1) path) struct) ≡ option_map cut (nesting_of all done n path (IsStruct struct))
+struct_spelled all done kept own n m struct path e is_own same =
+    ap (λ (ks : List ℕ). option_map cut (struct_nesting (name_depth all ks own (m + 1) path) struct)) e
+    ∙ ap (λ (k : ℕ). option_map cut (struct_nesting (name_depth all (map depth done) own (k + 1) path) struct)) same
     ∙ struct_alike (name_depth all (map depth done) own (n + 1) path) (part_nesting all done n path) (part_alike all done n own path (own_is all n own is_own)) struct

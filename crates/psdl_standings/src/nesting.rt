@@ -17,7 +17,6 @@ ghost use Rattle.psdl_standings.specs.inner.Tellings.{stand};
 
 use crate::levels::{DEEPEST, TOO_DEEP};
 use crate::numbered_standing::NumberedStanding;
-use crate::walk::index_of;
 use psdl_directory::{DeclarationNo, Directory, Spelling, What};
 use psdl_tree::{Declarators, Field, Name, PlainType, Struct, TypeSpec};
 use pss_base::NoMemory;
@@ -30,15 +29,15 @@ struct Parts<'b, 'a> {
     directory: &'b Directory<'a>,
     levels: &'b [usize],
     limit: usize,
-    number: usize,
-    own: Option<usize>,
+    number: DeclarationNo,
+    own: Option<DeclarationNo>,
 }
 
-fn is_own(own: Option<usize>, meant: usize) -> bool
+fn is_own(own: Option<DeclarationNo>, meant: DeclarationNo) -> bool
     ensures { result ≡ given own false (λ k. meant == k) }
 {
     match own {
-        Some(number) => meant == number,
+        Some(number) => meant.index() == number.index(),
         None => false,
     }
 }
@@ -53,13 +52,13 @@ fn level_at(levels: &[usize], number: usize) -> usize
     }
 }
 
-fn part_depth(parts: &Parts<'_, '_>, meant: usize) -> usize
+fn part_depth(parts: &Parts<'_, '_>, meant: DeclarationNo) -> usize
     ensures { result ≡ cut (part_depth parts.now.levels.now parts.now.own meant) }
 {
     if is_own(parts.own, meant) {
         0
     } else {
-        level_at(parts.levels, meant).min(TOO_DEEP)
+        level_at(parts.levels, meant.index()).min(TOO_DEEP)
     }
 }
 
@@ -76,15 +75,9 @@ fn name_nesting(
         number,
         ..
     } = *parts;
-    let meaning = directory.meaning(
-        alloc,
-        Spelling::AsIs,
-        limit,
-        DeclarationNo::new(number),
-        name,
-    )?;
+    let meaning = directory.meaning(alloc, Spelling::AsIs, limit, number, name)?;
     match meaning {
-        Some(meant) => Ok(Some(part_depth(parts, meant.index()))),
+        Some(meant) => Ok(Some(part_depth(parts, meant))),
         None => Ok(None),
     }
 }
@@ -192,7 +185,7 @@ fn alias_nesting(
     alloc: Global,
     directory: &Directory<'_>,
     levels: &[usize],
-    number: usize,
+    number: DeclarationNo,
     last: Option<usize>,
 ) -> Result<Option<usize>, NoMemory>
     requires number { number < length (all_of directory.now) }
@@ -200,12 +193,12 @@ fn alias_nesting(
     requires last { (n : ℕ) → number ≡ n + 1 → last ≡ alias_depth (all_of directory.now) levels.now n }
     ensures { IfOk result (λ k. k ≡ alias_depth (all_of directory.now) levels.now number) }
 {
-    match directory.what(DeclarationNo::new(number)) {
+    match directory.what(number) {
         What::Alias(0, spec, _) => {
             let before = Parts {
                 directory,
                 levels,
-                limit: number,
+                limit: number.index(),
                 number,
                 own: None,
             };
@@ -221,18 +214,18 @@ fn spelled_struct(
     alloc: Global,
     directory: &Directory<'_>,
     levels: &[usize],
-    number: usize,
+    number: DeclarationNo,
     structure: &Struct,
 ) -> Result<Option<usize>, NoMemory>
     requires { number < length (all_of directory.now) }
     ensures { IfOk result (λ k. (done : List Standing) → levels.now ≡ map depth done → k ≡ option_map cut (nesting_of (all_of directory.now) done number (at (all_of directory.now) number).path (whats.IsStruct (struct_view structure.now)))) }
 {
     let _ = directory.len();
-    let own = index_of(directory.origin(DeclarationNo::new(number)));
+    let own = directory.origin(number);
     let body = Parts {
         directory,
         levels,
-        limit: number + 1,
+        limit: number.index() + 1,
         number,
         own,
     };
@@ -254,14 +247,14 @@ fn spells_deep(
     alloc: Global,
     directory: &Directory<'_>,
     levels: &[usize],
-    number: usize,
+    number: DeclarationNo,
     spec: Option<usize>,
 ) -> Result<bool, NoMemory>
     requires number { number < length (all_of directory.now) }
     requires spec { spec ≡ alias_depth (all_of directory.now) levels.now number }
     ensures { IfOk result (λ b. (done : List Standing) → levels.now ≡ map depth done → b ≡ depths.is_deep (all_of directory.now) done number) }
 {
-    match directory.what(DeclarationNo::new(number)) {
+    match directory.what(number) {
         What::Alias(_, _, dimensions) => Ok(is_deep(raised(spec, dimensions.len()))),
         What::Struct(structure) => {
             let nesting = spelled_struct(alloc, directory, levels, number, structure)?;
@@ -282,7 +275,8 @@ pub(crate) fn deep_of(
 {
     let mut deep = Vec::new(alloc);
     let mut spec = None;
-    for number in 0..directory.len() {
+    for index in 0..directory.len() {
+        let number = DeclarationNo::new(index);
         spec = alias_nesting(alloc, directory, levels, number, spec)?;
         let one = spells_deep(alloc, directory, levels, number, spec)?;
         deep.push(one)?;

@@ -125,13 +125,17 @@ impl<'l, 'd> Standings<'l, 'd> {
     }
 
     /// The types of the states in these bodies, in order.
-    pub fn kept_in(&self, alloc: Global, bodies: &[usize]) -> Result<Vec<StateEntry>, NoMemory>
+    pub fn kept_in(
+        &self,
+        alloc: Global,
+        bodies: &[DeclarationNo],
+    ) -> Result<Vec<StateEntry>, NoMemory>
         ensures types { IfOk result (λ v. (homes : ℕ → List HomeNo) → map (type_kept (types_in self.now) homes) v.items ≡ flat_map (own_types (text_of self.now) homes) bodies.now) }
         ensures below { IfOk result (λ v. AreKeptBelow (length (types_in self.now)) (length (text_of self.now)) v.items) }
     {
         let mut kept = Vec::new(alloc);
         for body in bodies {
-            kept.extend_from_slice(self.states(DeclarationNo::new(*body)))?;
+            kept.extend_from_slice(self.states(*body))?;
         }
         Ok(kept)
     }

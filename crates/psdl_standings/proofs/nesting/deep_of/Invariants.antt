@@ -6,9 +6,9 @@ use Rattle.psdl_standings.specs.Standings.{Standing}
 use Rattle.psdl_standings.specs.inner.Levels.{depth, alias_depth}
 use Rattle.psdl_standings.proofs.nesting.deep_of.Given as goal
 
-abbrev pub invariant-loop-number : goal.invariant-loop-number
-invariant-loop-number l =
+abbrev pub invariant-loop-index : goal.invariant-loop-index
+invariant-loop-index l =
     record {
-      deep : (done : List Standing) → l.levels ≡ map depth done → l.deep.items ≡ map (is_deep (all_of l.directory) done) (range_with_len 0 l.number);
-      last : (n : ℕ) → l.number ≡ n + 1 → l.spec ≡ alias_depth (all_of l.directory) l.levels n;
+      deep : (done : List Standing) → l.levels ≡ map depth done → l.deep.items ≡ map (is_deep (all_of l.directory) done) (range_with_len 0 l.index);
+      last : (n : ℕ) → l.index ≡ n + 1 → l.spec ≡ alias_depth (all_of l.directory) l.levels n;
     }

@@ -10,4 +10,4 @@ returns c done e =
     let all = all_of c.args.directory.now in
     let n = c.args.number in
     c.in_ok-nesting.ensures
-    ∙ struct_spelled all done c.args.levels.now c.index_of-own.result n (struct_view c.args.structure.now) (at all n).path e (c.index_of-own.ensures ∙ (rw c.new.ensures at c.origin.ensures.origin) c.requires)
+    ∙ struct_spelled all done c.args.levels.now c.origin-own.result n c.index.result (struct_view c.args.structure.now) (at all n).path e (c.origin-own.ensures.origin c.requires) c.index.ensures

@@ -70,4 +70,4 @@ returns-clause-list c =
     with_own c.args.own.now c.args.number c.loop-parent.joined.items (sources_in graph c.args.own.now c.args.number) c.add.new.joined.items (sym c.is_own.ensures ∙ c.if-not-is_own.false)
     (all_joined graph c.args.own.now (kept_in c.args.self.now) c.args.number c.loop-parent.parent-index c.loop-parent.joined.items c.requires.table c.requires.unkept c.requires.number past c.loop-parent.invariant.items
     c.loop-parent.invariant.named)
-    c.in_ok-add.ensures.items
+    (rw c.new.ensures at c.in_ok-add.ensures.items)

@@ -10,10 +10,10 @@ pub loop-body-preserved : goal.loop-body-preserved
 loop-body-preserved c =
     let all = text_of c.args.self.now in
     let types = types_in c.args.self.now in
-    let n : ℕ = c.new.result in
+    let n : ℕ = c.body-item.result in
     record {
-      types = one_body_more all types c.args.bodies.now c.loop-body.body-index n 0 c.loop-body-test.true (search rules) c.loop-body.kept.items c.states.result.now c.extend_from_slice.new.self.items (search rules) (search rules) c.loop-body.invariant.types;
-      below = below_more all types c.args.bodies.now c.loop-body.body-index n 0 c.loop-body-test.true (search rules) c.loop-body.kept.items c.states.result.now c.extend_from_slice.new.self.items (search rules) (length all) c.states.ensures.below c.loop-body.invariant.below;
+      types = one_body_more all types c.args.bodies.now c.loop-body.body-index n n c.loop-body-test.true c.body-item.is c.loop-body.kept.items c.states.result.now c.extend_from_slice.new.self.items (search rules) (search rules) c.loop-body.invariant.types;
+      below = below_more all types c.args.bodies.now c.loop-body.body-index n n c.loop-body-test.true c.body-item.is c.loop-body.kept.items c.states.result.now c.extend_from_slice.new.self.items (search rules) (length all) c.states.ensures.below c.loop-body.invariant.below;
     }
 
 pub returns-clause-types : goal.returns-clause-types

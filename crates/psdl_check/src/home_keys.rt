@@ -105,14 +105,14 @@ fn add_bodies<'d>(
     found: &mut Vec<OwnKey<'d>>,
     marks: &mut Marks,
     rows: &KeyRows<'d>,
-    bodies: &[usize],
+    bodies: &[DeclarationNo],
 ) -> Result<(), NoMemory>
     requires below { (n : ℕ) → AreBelow (length marks.old) (row_in rows.now.rows.items n) }
     ensures sized { length marks.new ≡ length marks.old }
     ensures gathered { OnOk result ((ids : Ids) (all : List ListedView) → ((n : ℕ) → HaveIds ids (row_in rows.now.rows.items n)) → AreGathered ids marks.old found.old.items all → AreGathered ids marks.new found.new.items (all ++ flat_map (λ n. own_views (row_in rows.now.rows.items n)) bodies.now)) }
 {
     for body in bodies {
-        add_body(found, marks, rows, DeclarationNo::new(*body))?;
+        add_body(found, marks, rows, *body)?;
     }
     Ok(())
 }

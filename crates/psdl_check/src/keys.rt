@@ -17,7 +17,7 @@ use type_layout::{HomeNo, KeyList};
 pub(crate) struct Keys {
     pub list: KeyList,
     // For each the home that introduces it.
-    homes: Vec<usize>,
+    homes: Vec<DeclarationNo>,
     // For each name and list, by number, its keys, rising.
     of_ids: Vec<Vec<usize>>,
 }
@@ -83,7 +83,7 @@ impl Keys {
         let number = self.homes.len();
         let record = key_of(alloc, home.number, home.members, &key.listed)?;
         self.list.push(record)?;
-        self.homes.push(home.home.index())?;
+        self.homes.push(home.home)?;
         put_number(&mut self.of_ids, key.id, number)?;
         Ok(())
     }
@@ -103,7 +103,7 @@ impl Keys {
         ensures { result ≡ get_or self.now.homes.items number 0 }
     {
         match self.homes.get(number) {
-            Some(home) => DeclarationNo::new(*home),
+            Some(home) => *home,
             None => DeclarationNo::new(0),
         }
     }

@@ -11,6 +11,7 @@ use crate::entry::Entry;
 use crate::firsts::Firsts;
 use crate::own::Listings;
 use crate::rows::Rows;
+use psdl_directory::DeclarationNo;
 
 // Whether an entry comes behind one of its name with another list. Where none of its name came, it is noted.
 fn differs(firsts: &mut Firsts, entry: Entry) -> bool
@@ -43,14 +44,14 @@ fn any_differs(firsts: &mut Firsts, entries: &[Entry]) -> bool
 }
 
 // Whether two that some declarations have in their bodies clash.
-fn have_clash(firsts: &mut Firsts, rows: &Rows, declarations: &[usize]) -> bool
+fn have_clash(firsts: &mut Firsts, rows: &Rows, declarations: &[DeclarationNo]) -> bool
     requires { HasRoom firsts.old rows.now.names }
     ensures room { SameRoom firsts.old firsts.new }
     ensures clash { result ≡ some_clash entries_clash (flat_map (row_of rows.now) declarations.now) }
 {
     firsts.marks.clear();
     for declaration in declarations {
-        let differs = any_differs(firsts, rows.of(*declaration));
+        let differs = any_differs(firsts, rows.of(declaration.index()));
         if differs {
             return true;
         }
@@ -59,7 +60,11 @@ fn have_clash(firsts: &mut Firsts, rows: &Rows, declarations: &[usize]) -> bool
 }
 
 /// Whether some declarations have two keys, or two factories, in their bodies that clash.
-pub(crate) fn lists_clash(firsts: &mut Firsts, lists: &Listings, declarations: &[usize]) -> bool
+pub(crate) fn lists_clash(
+    firsts: &mut Firsts,
+    lists: &Listings,
+    declarations: &[DeclarationNo],
+) -> bool
     requires keys { HasRoom firsts.old lists.now.keys.names }
     requires factories { HasRoom firsts.old lists.now.factories.names }
     ensures room { SameRoom firsts.old firsts.new }

@@ -14,7 +14,7 @@ use std::alloc::Global;
 pub(crate) fn members_of<'d>(
     alloc: Global,
     directory: &Directory<'d>,
-    declarations: &[usize],
+    declarations: &[DeclarationNo],
 ) -> Result<Vec<Member<'d>>, NoMemory>
     ensures { IfOk result (λ v. member_views v.items ≡ flat_map (own_members (all_of directory.now)) declarations.now) }
 {
@@ -22,8 +22,8 @@ pub(crate) fn members_of<'d>(
     for declaration in declarations {
         add_own(
             &mut members,
-            *declaration,
-            directory.what(DeclarationNo::new(*declaration)),
+            declaration.index(),
+            directory.what(*declaration),
         )?;
     }
     Ok(members)

@@ -7,6 +7,7 @@ ghost use Rattle.psdl_members.specs.inner.Flat.{piece_of};
 ghost use Rattle.psdl_members.specs.inner.Noted.{IsNoted, Within};
 
 use crate::numbers::Numbers;
+use psdl_directory::DeclarationNo;
 use psdl_lineage::Marks;
 
 // Marks numbers one by one, until one comes that is marked already.
@@ -25,14 +26,14 @@ fn comes_twice(marks: &mut Marks, numbers: &[usize]) -> bool
 }
 
 /// Whether some declarations have a name twice in their bodies, where case is ignored.
-pub(crate) fn have_clash(marks: &mut Marks, names: &Numbers, declarations: &[usize]) -> bool
+pub(crate) fn have_clash(marks: &mut Marks, names: &Numbers, declarations: &[DeclarationNo]) -> bool
     requires below { Within (length marks.old) names.now.numbers.items }
     ensures sized { length marks.new ≡ length marks.old }
     ensures clash { result ≡ not (are_distinct (λ a b. a == b) (flat_map (λ n. piece_of names.now.starts.items n names.now.numbers.items) declarations.now)) }
 {
     marks.clear();
     for declaration in declarations {
-        let twice = comes_twice(marks, names.of(*declaration));
+        let twice = comes_twice(marks, names.of(declaration.index()));
         if twice {
             return true;
         }

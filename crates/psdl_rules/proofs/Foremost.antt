@@ -8,7 +8,7 @@ use Rattle.type_layout.specs.Schemas.{given}
 lower_than : (i n : ℕ) → i < n → nat_lt i n ≡ true
 lower_than i n l = grind arith
 
-pub not_lower : (i n : ℕ) → n ≤ i → nat_lt i n ≡ false
+not_lower : (i n : ℕ) → n ≤ i → nat_lt i n ≡ false
 not_lower i n l = grind arith
 
 pub none_lower : {X : Type 0} (t : X → Bool) (xs : List X) (i n : ℕ) → n ≤ i → given (position_from t i xs) false (λ j. nat_lt j n) ≡ false

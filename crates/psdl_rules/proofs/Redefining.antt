@@ -1,5 +1,5 @@
 -- Whether a declaration takes the name of an earlier one goes by the first of its name, the first other thing of it, and its definition.
-use Rattle.std.proofs.Common.{◌≡◌, ℕ, ◌+◌, ◌<◌, ◌≤◌, List, [], ◌∷◌, ◌++◌, length, take, get_or, Bool, true, false, not, cond, Option, Some, None, is_none, refl, sym, ap, ◌∙◌, arith, nat_lt, ◌||◌, ◌&&◌, ◌==◌, ⊎_elim, slice_set}
+use Rattle.std.proofs.Common.{◌≡◌, ℕ, ◌+◌, ◌<◌, List, [], ◌∷◌, ◌++◌, length, take, get_or, Bool, true, false, not, cond, Option, Some, None, is_none, refl, sym, ap, ◌∙◌, arith, nat_lt, ◌||◌, ◌&&◌, ◌==◌, ⊎_elim, slice_set}
 use Rattle.std.specs.List.{position_from, list_any}
 use Rattle.std.specs.Str.{bytes_eq}
 use Rattle.std.proofs.lemmas.Bool.{and_parts, and_from, eqb-true, eq-eqb, cases_Bool}
@@ -15,7 +15,7 @@ use Rattle.psdl_directory.specs.inner.Tables.{after}
 use Rattle.psdl_rules.specs.inner.Others.{same_thing, first_alike, is_other, is_taken, is_below, AreOthers, noted}
 use Rattle.psdl_directory.proofs.Agreeing.{same_path-Decides}
 use Rattle.psdl_directory.proofs.Tabled.{position-append}
-use Rattle.psdl_rules.proofs.Foremost.{front_of_first, first_passes, none_stronger, alike_where_none, not_lower}
+use Rattle.psdl_rules.proofs.Foremost.{front_of_first, first_passes, none_stronger, alike_where_none}
 
 -- the same name but for case, in one scope
 abbrev alike : Declaration → Declaration → Bool
@@ -166,10 +166,6 @@ module _ (all : List Declaration) (n f : ℕ) (other : Option ℕ) (ln : n < len
 -- the first of a name is the first of its own
 pub first_is_own : (all : List Declaration) (n f : ℕ) → n < length all → f < n → first_alike all n ≡ Some f → first_alike all f ≡ Some f
 first_is_own all n f ln lf is = sym (same_first (at all n) (at all f) all (first_passes (alike (at all n)) all f nothing (omega (arith, ln, lf)) is)) ∙ is
-
-pub none_below : (o : Option ℕ) (n : ℕ) → ((f : ℕ) → o ≡ Some f → n ≤ f) → is_below o n ≡ false
-none_below None n h = refl
-none_below (Some f) n h = not_lower f n (h f refl)
 
 -- the first of its name takes no name
 pub first_is_free : (all : List Declaration) (n : ℕ) → is_below (first_alike all n) n ≡ false → list_any (takes_name_of (at all n)) (take n all) ≡ false

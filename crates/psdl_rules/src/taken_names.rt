@@ -18,57 +18,53 @@ use pss_base::NoMemory;
 use std::alloc::Global;
 
 // The first in its scope whose name is the same but for case.
-fn first_alike(directory: &Directory<'_>, number: usize) -> Option<usize>
+fn first_alike(directory: &Directory<'_>, number: DeclarationNo) -> Option<DeclarationNo>
     requires { number < length (all_of directory.now) }
     ensures first { result ≡ of.first_alike (all_of directory.now) number }
     ensures there { IfSome result (λ f. f < length (all_of directory.now)) }
 {
-    match directory.first_alike(DeclarationNo::new(number)) {
-        Some(first) => Some(first.index()),
-        None => None,
-    }
+    directory.first_alike(number)
 }
 
-fn same_thing(directory: &Directory<'_>, first: usize, second: usize) -> bool
+fn same_thing(directory: &Directory<'_>, first: DeclarationNo, second: DeclarationNo) -> bool
     ensures { result ≡ of.same_thing (at (all_of directory.now) first) (at (all_of directory.now) second) }
 {
-    let first = DeclarationNo::new(first);
-    let second = DeclarationNo::new(second);
     directory.name(first) == directory.name(second)
         && same_kind(directory.what(first), directory.what(second))
 }
 
 // Keeps a declaration that is another thing than the first of its name, where none is kept.
-fn keep(directory: &Directory<'_>, others: &mut Vec<Option<usize>>, number: usize)
+fn keep(directory: &Directory<'_>, others: &mut Vec<Option<DeclarationNo>>, number: DeclarationNo)
     requires number { number < length (all_of directory.now) }
     requires sized { length others.old.items ≡ length (all_of directory.now) }
     ensures sized { length others.new.items ≡ length others.old.items }
     ensures noted { others.new.items ≡ of.noted (all_of directory.now) others.old.items number }
 {
     if let Some(first) = first_alike(directory, number) {
-        if others[first].is_none() && !same_thing(directory, first, number) {
-            others[first] = Some(number);
+        let index = first.index();
+        if others[index].is_none() && !same_thing(directory, first, number) {
+            others[index] = Some(number);
         }
     }
 }
 
 // For each declaration that is the first of its name but for case: the first that is another thing of that name.
-fn others(alloc: Global, directory: &Directory<'_>) -> Result<Vec<Option<usize>>, NoMemory>
+fn others(alloc: Global, directory: &Directory<'_>) -> Result<Vec<Option<DeclarationNo>>, NoMemory>
     ensures sized { IfOk result (λ v. length v.items ≡ length (all_of directory.now)) }
     ensures others { IfOk result (λ v. of.AreOthers (all_of directory.now) (all_of directory.now) v.items) }
 {
     let mut others = vec![in alloc; None; directory.len()]?;
     for number in 0..directory.len() {
-        keep(directory, &mut others, number);
+        keep(directory, &mut others, DeclarationNo::new(number));
     }
     Ok(others)
 }
 
-fn is_below(found: Option<usize>, number: usize) -> bool
+fn is_below(found: Option<DeclarationNo>, number: DeclarationNo) -> bool
     ensures { result ≡ of.is_below found number }
 {
     match found {
-        Some(at) => at < number,
+        Some(at) => at.index() < number.index(),
         None => false,
     }
 }
@@ -80,30 +76,36 @@ fn may_stand_again(what: What<'_>) -> bool
     matches!(what, What::Module(_)) || what.is_forward()
 }
 
-fn is_defined_before(directory: &Directory<'_>, number: usize) -> bool
+fn is_defined_before(directory: &Directory<'_>, number: DeclarationNo) -> bool
     requires { number < length (all_of directory.now) }
     ensures { result ≡ of.is_below (definition (all_of directory.now) number) number }
 {
-    match directory.definition(DeclarationNo::new(number)) {
-        Some(definition) => definition.index() < number,
-        None => false,
-    }
+    is_below(directory.definition(number), number)
 }
 
-fn is_taken(directory: &Directory<'_>, first: usize, other: Option<usize>, number: usize) -> bool
+fn is_taken(
+    directory: &Directory<'_>,
+    first: DeclarationNo,
+    other: Option<DeclarationNo>,
+    number: DeclarationNo,
+) -> bool
     requires { number < length (all_of directory.now) }
     ensures { result ≡ of.is_taken (all_of directory.now) first other number }
 {
     if !same_thing(directory, first, number) || is_below(other, number) {
         return true;
     }
-    if may_stand_again(directory.what(DeclarationNo::new(number))) {
+    if may_stand_again(directory.what(number)) {
         return false;
     }
     is_defined_before(directory, number)
 }
 
-fn takes_name(directory: &Directory<'_>, others: &[Option<usize>], number: usize) -> bool
+fn takes_name(
+    directory: &Directory<'_>,
+    others: &[Option<DeclarationNo>],
+    number: DeclarationNo,
+) -> bool
     requires number { number < length (all_of directory.now) }
     requires sized { length others.now ≡ length (all_of directory.now) }
     requires others { of.AreOthers (all_of directory.now) (all_of directory.now) others.now }
@@ -112,26 +114,27 @@ fn takes_name(directory: &Directory<'_>, others: &[Option<usize>], number: usize
     match first_alike(directory, number) {
         None => false,
         Some(first) => {
-            if number <= first {
+            if !is_below(Some(first), number) {
                 return false;
             }
-            is_taken(directory, first, others[first], number)
+            is_taken(directory, first, others[first.index()], number)
         }
     }
 }
 
-fn taken_name_at(text: &Text, others: &[Option<usize>], number: usize, least: &mut Least)
+fn taken_name_at(
+    text: &Text,
+    others: &[Option<DeclarationNo>],
+    number: DeclarationNo,
+    least: &mut Least,
+)
     requires number { number < length (judged text.now) }
     requires sized { length others.now ≡ length (judged text.now) }
     requires others { of.AreOthers (judged text.now) (judged text.now) others.now }
     ensures { least.new ≡ noting least.old (conditions.redefined (judged text.now) number (at (judged text.now) number)) }
 {
     let holds = takes_name(text.directory(), others, number);
-    least.note_if(
-        holds,
-        CheckKind::Redefined,
-        text.place(DeclarationNo::new(number)),
-    );
+    least.note_if(holds, CheckKind::Redefined, text.place(number));
 }
 
 /// Notes each declaration that has, but for case, the name of an earlier one of its scope, and is not the same thing again.
@@ -140,7 +143,7 @@ pub(crate) fn taken_names(alloc: Global, text: &Text, least: &mut Least) -> Resu
 {
     let others = others(alloc, text.directory())?;
     for index in 0..text.len() {
-        taken_name_at(text, &others, index, least);
+        taken_name_at(text, &others, DeclarationNo::new(index), least);
     }
     Ok(())
 }

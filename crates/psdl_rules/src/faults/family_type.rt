@@ -16,8 +16,8 @@ use std::collections::BTreeSet;
 /// The family of a concrete home, and its type.
 #[derive(Clone, Copy, PartialEq, Eq, PartialOrd, Ord)]
 pub(crate) struct Membership {
-    pub family: usize,
-    pub home_type: usize,
+    pub family: DeclarationNo,
+    pub home_type: DeclarationNo,
 }
 
 fn membership_of(text: &Text, number: DeclarationNo) -> Option<Membership>
@@ -30,8 +30,8 @@ fn membership_of(text: &Text, number: DeclarationNo) -> Option<Membership>
     }
     match text.lineage().type_of_home(number) {
         Some(home_type) => Some(Membership {
-            family: text.lineage().family(number).index(),
-            home_type: home_type.index(),
+            family: text.lineage().family(number),
+            home_type,
         }),
         None => None,
     }

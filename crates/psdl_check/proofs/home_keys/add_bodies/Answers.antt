@@ -10,7 +10,7 @@ use Rattle.psdl_check.proofs.home_keys.add_bodies.Goals as goal
 
 pub add_body-requires : goal.add_body-requires
 add_body-requires c = record {
-  below = subst (λ (n : ℕ). AreBelow n (row_in c.args.rows.now.rows.items c.new.result)) (sym c.loop-body.invariant.sized) (c.requires.below c.new.result);
+  below = subst (λ (n : ℕ). AreBelow n (row_in c.args.rows.now.rows.items c.body-item.result)) (sym c.loop-body.invariant.sized) (c.requires.below c.body-item.result);
 }
 
 pub loop-body-init : goal.loop-body-init
@@ -22,11 +22,11 @@ loop-body-init c = record {
 pub loop-body-preserved : goal.loop-body-preserved
 loop-body-preserved c =
     let each : ℕ → List Listed = λ n. own_views (row_in c.args.rows.now.rows.items n) in
-    let n : ℕ = c.new.result in
+    let n : ℕ = c.body-item.result in
     record {
       sized = c.add_body.ensures.sized ∙ c.loop-body.invariant.sized;
       gathered = λ ids all have are.
-          subst (λ (l : List Listed). AreGathered ids c.add_body.new.marks c.add_body.new.found.items l) (bodies_more each all c.args.bodies.now c.loop-body.body-index n 0 c.loop-body-test.true (search rules))
+          subst (λ (l : List Listed). AreGathered ids c.add_body.new.marks c.add_body.new.found.items l) (bodies_more each all c.args.bodies.now c.loop-body.body-index n n c.loop-body-test.true c.body-item.is)
           (c.in_ok-add_body.ensures.gathered ids (all ++ flat_map each (take c.loop-body.body-index c.args.bodies.now)) (have n) (c.loop-body.invariant.gathered ids all have are));
     }
 

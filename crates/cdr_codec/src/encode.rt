@@ -59,6 +59,7 @@ fn put_number(out: &mut Bytes, width: Width, number: u64) -> Result<(), NoMemory
     put_octets(out, width, number)
 }
 
+#[inline(always)]
 fn put_integer(out: &mut Bytes, ty: &Ty, number: i128) -> Result<(), NoMemory>
     requires { Of (plain_type ty.now) (Int number) }
     ensures { OnOk result (out.new ≡ out.old ++ spelling (plain_type ty.now) (Int number) (length out.old)) }
@@ -104,6 +105,7 @@ fn count_of(values: &[Value]) -> usize
 }
 
 #[cycle(put)]
+#[inline(always)]
 fn put(out: &mut Bytes, ty: &Ty, value: &Value) -> Result<(), NoMemory>
     requires { Of (plain_type ty.now) (plain_value value.now) }
     ensures { OnOk result (out.new ≡ out.old ++ spelling (plain_type ty.now) (plain_value value.now) (length out.old)) }

@@ -16,6 +16,7 @@ use type_layout::{Field, Layout, Member, Record, Ty, Value};
 
 /// How many octets `encode_record` gives, or 18,446,744,073,709,551,615 where they are not fewer. It
 /// takes no memory.
+#[inline(always)]
 pub fn record_len(layout: &Layout, value: &Record) -> u64
     requires { IsRecord layout.now.members value.now }
     ensures { result ≡ min (length (record_spelling layout.now.members value.now)) (2 ^ 64 - 1) }
@@ -58,6 +59,7 @@ fn reference_end(at: u64) -> u64
 }
 
 #[cycle(length)]
+#[inline(always)]
 fn value_end(ty: &Ty, value: &Value, at: u64) -> u64
     requires { Of (plain_type ty.now) (plain_value value.now) }
     ensures { result ≡ place_behind at (length (spelling (plain_type ty.now) (plain_value value.now) at)) }

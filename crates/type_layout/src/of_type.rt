@@ -122,6 +122,7 @@ fn is_reference(value: &Value, homes: &HomeNos) -> bool
 }
 
 #[cycle(of_type)]
+#[inline(always)]
 fn passes(ty: &Ty, value: &Value) -> bool
     ensures { result ≡ test.is_of (plain_type ty.now) (plain_value value.now) }
 {

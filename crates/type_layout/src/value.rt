@@ -30,6 +30,7 @@ pub enum Value {
 impl Value {
     /// The same value once more. It takes time and memory in the size of the value.
     #[cycle(copy)]
+    #[inline(always)]
     pub fn copy(&self, alloc: Global) -> Result<Value, NoMemory>
         ensures { IfOk result (λ copy. plain_value copy ≡ plain_value self.now) }
     {
@@ -47,6 +48,7 @@ impl Value {
 }
 
 #[cycle(copy)]
+#[inline(always)]
 fn copies_of(alloc: Global, values: &[Value]) -> Result<Values, NoMemory>
     ensures { IfOk result (λ copies. plain_values copies ≡ map plain_value values.now) }
 {

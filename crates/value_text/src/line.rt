@@ -35,6 +35,7 @@ impl From<NoMemory> for LineFault {
 /// or the end of the text, so two values without a blank between them do not read.
 ///
 /// It goes over the text once, and takes memory for a value of each member.
+#[inline(always)]
 pub fn read_members(
     alloc: Global,
     members: &[Member],
@@ -91,6 +92,7 @@ pub fn read_one_value(alloc: Global, ty: &Ty, text: &[u8], column: u32) -> Resul
 }
 
 // Reads one value more.
+#[inline(always)]
 fn push_next<'a>(
     values: &mut Values,
     alloc: Global,
@@ -109,6 +111,7 @@ fn push_next<'a>(
 
 // The value behind blanks, and what is behind it.
 #[tactic(auto, using(crate::proofs::LineReading::value_there, crate::proofs::LineReading::no_value_there))]
+#[inline(always)]
 fn next_value<'a>(
     alloc: Global,
     ty: &Ty,

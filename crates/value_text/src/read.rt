@@ -24,6 +24,7 @@ fn is_at_end(text: &[u8]) -> bool
     }
 }
 
+#[inline(always)]
 fn passes(ty: &Ty, value: &Value) -> bool
     ensures { result ≡ passes (plain_type ty.now) (plain_value value.now) }
 {
@@ -32,6 +33,7 @@ fn passes(ty: &Ty, value: &Value) -> bool
 
 /// The value at the front of a text, up to a blank or the end, and the text behind it.
 #[tactic(auto, using(crate::proofs::Standing::read_shorter))]
+#[inline(always)]
 pub(crate) fn front_of<'a>(alloc: Global, ty: &Ty, text: &'a [u8]) -> Read<'a, Value>
     ensures value { Gives (λ x. (plain_value x.0, x.1.now)) result (one_value (plain_type ty.now) text.now) }
     ensures within { IfOk result (λ x. length x.1.now ≤ length text.now) }

@@ -15,6 +15,7 @@ use type_layout::{Field, Ty, Value, Values};
 /// What a text writes as a value of a type.
 #[cycle(value)]
 #[tactic(auto, unfolding(crate::specs::Reading::value_at))]
+#[inline(always)]
 pub(crate) fn value_of<'a>(alloc: Global, ty: &Ty, text: &'a [u8]) -> Read<'a, Value>
     ensures { Gives (λ x. (plain_value x.0, x.1.now)) result (value_at (plain_type ty.now) text.now) }
 {

@@ -82,6 +82,7 @@ fn number_in(word: &[u8]) -> Option<Value>
 }
 
 /// A number, of whatever type.
+#[inline(always)]
 pub(crate) fn number_of(text: &[u8]) -> Read<'_, Value>
     ensures { Gives (λ x. (plain_value x.0, x.1.now)) result (word_at number_in text.now) }
 {

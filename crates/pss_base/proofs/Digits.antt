@@ -1,8 +1,8 @@
 -- Hexadecimal digits, and the numbers that they stand for.
-use Rattle.std.proofs.Common.{◌≡◌, ◌≤◌, ◌<◌, ℕ, suc, zero, ◌+◌, ◌-◌, ◌*◌, ◌/◌, ◌%◌, ◌^◌, Bool, true, false, cond, ◌&&◌, Some, None, List, [], ◌∷◌, ◌++◌, length, take, drop, get_or, set, refl, sym, ◌∙◌, ap, subst, arith, append_assoc, length-append}
+use Rattle.std.proofs.Common.{◌≡◌, ◌≤◌, ◌<◌, ℕ, suc, zero, ◌+◌, ◌-◌, ◌*◌, ◌/◌, ◌%◌, ◌^◌, Bool, true, false, cond, ◌&&◌, Some, None, List, [], ◌∷◌, ◌++◌, length, take, drop, replicate, get_or, set, refl, sym, ◌∙◌, ap, subst, arith, append_assoc, length-append}
 use Rattle.std.proofs.Math.Nat.{pow-suc, pow-le-pow_right}
 use Rattle.std.proofs.lemmas.Bool.Decides.{nat_tests}
-use Rattle.std.proofs.lemmas.List.{drop-set, take_more}
+use Rattle.std.proofs.lemmas.List.{drop-set, take_more, replicate-append-replicate, take-append-drop}
 use Rattle.std.proofs.lemmas.List.Folds.{list_all-append, list_all_more}
 use Rattle.std.proofs.lemmas.Grind.{common_steps}
 use Rattle.std.proofs.lemmas.Int.Digits.{digits_value_push, digits_value_more}
@@ -36,8 +36,19 @@ digit_more ds at number left d so_far some within is =
     ap (λ k. hex_digits k number) same_len ∙ so_far ∙ ap (λ xs. xs ++ drop at ds) (hex_more at left some) ∙ append_assoc (hex_digits (at - 1) (left / 16)) (digit_char (left % 16) ∷ []) (drop at ds)
     ∙ ap (λ xs. hex_digits (at - 1) (left / 16) ++ xs) (sym (drop-set ds (at - 1) d inside ∙ (rw (back, is) refl)))
 
+-- no digit of 0 is another one
+zero_digits : (k : ℕ) → hex_digits k 0 ≡ replicate k 48
+zero_digits zero = no_digits 0
+zero_digits (suc k) =
+    let more : k + 1 ≡ suc k = omega arith in
+    one_digit_more k 0 ∙ ap (λ ds. ds ++ 48 ∷ []) (zero_digits k) ∙ replicate-append-replicate k 1 48 ∙ ap (λ n. replicate n 48) more
+
 pub all_written : (ds : List ℕ) (at number left : ℕ) → hex_digits (length ds) number ≡ hex_digits at left ++ drop at ds → at ≡ 0 → ds ≡ hex_digits (length ds) number
 all_written ds at number left so_far none = sym (so_far ∙ (rw (none, no_digits left) refl))
+
+-- what is left is 0, and zeros stand there
+pub zeros_are_left : (ds : List ℕ) (at number left : ℕ) → hex_digits (length ds) number ≡ hex_digits at left ++ drop at ds → take at ds ≡ replicate at 48 → left ≡ 0 → ds ≡ hex_digits (length ds) number
+zeros_are_left ds at number left so_far zeros none = sym (so_far ∙ ap (λ n. hex_digits at n ++ drop at ds) none ∙ ap (λ xs. xs ++ drop at ds) (zero_digits at ∙ sym zeros) ∙ take-append-drop at ds)
 
 -- ---- the number of what is written
 

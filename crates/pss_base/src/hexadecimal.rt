@@ -28,12 +28,15 @@ pub fn hex_value(digit: u8) -> Option<u8>
 }
 
 /// Fills a slice with the last digits of a number, as many as it has places.
+#[inline(always)]
 pub fn write_hex(digits: &mut [u8], number: u64)
     ensures { digits.new ≡ hex_digits (length digits.old) number }
 {
+    // Most numbers are small: the digits in front of theirs are zeros.
+    digits.fill(b'0');
     let mut left = number;
     let mut at = digits.len();
-    'digits: while at > 0 {
+    'digits: while left > 0 && at > 0 {
         at -= 1;
         digits[at] = hex_digit((left % 16) as u8);
         left /= 16;

@@ -70,8 +70,45 @@ fn look_ahead<'a, K: Copy + Eq + Hash, V, H: Copy + Default + Hasher>(
     }
 }
 
-// The value of a key by its hash. The next one is looked for at its place.
+// So many entries are compared with a key one by one: that takes less than its hash.
+const FEW: usize = 4;
+
+// The value of a key that is not near the last one.
 fn look_up<'a, K: Copy + Eq + Hash, V, H: Copy + Default + Hasher>(
+    table: &'a Table<K, V, H>,
+    last: &Cell<usize>,
+    key: K,
+) -> Option<&'a V>
+    ensures { option_copied result ≡ lookup (K.eq key) table.now.entries }
+{
+    if table.len() <= FEW {
+        look_through(table, last, key)
+    } else {
+        look_by_hash(table, last, key)
+    }
+}
+
+// The value of a key, with which each entry is compared. The next one is looked for at its place.
+fn look_through<'a, K: Copy + Eq + Hash, V, H: Copy + Default + Hasher>(
+    table: &'a Table<K, V, H>,
+    last: &Cell<usize>,
+    key: K,
+) -> Option<&'a V>
+    ensures { option_copied result ≡ lookup (K.eq key) table.now.entries }
+{
+    let mut place: usize = 0;
+    for (there, value) in table.iter() {
+        if key == *there {
+            last.set(place);
+            return Some(value);
+        }
+        place = place.wrapping_add(1);
+    }
+    None
+}
+
+// The value of a key by its hash. The next one is looked for at its place.
+fn look_by_hash<'a, K: Copy + Eq + Hash, V, H: Copy + Default + Hasher>(
     table: &'a Table<K, V, H>,
     last: &Cell<usize>,
     key: K,
@@ -212,7 +249,8 @@ impl<K: Copy + Eq + Hash + Drop, V: Drop, H: Copy + Default + Hasher> RecentTabl
         self.table.iter()
     }
 
-    /// The value of a key. Where it is the one found last, or stands behind it, it is not hashed.
+    /// The value of a key. Where it is the one found last, or stands behind it, or at most four entries stand there, it is not
+    /// hashed.
     #[inline(always)]
     pub fn get(&self, key: K) -> Option<&V>
         ensures { option_copied result ≡ lookup (K.eq key) self.now }
@@ -257,16 +295,20 @@ impl<K: Copy + Eq + Hash + Drop, V: Drop, H: Copy + Default + Hasher> RecentTabl
         }
     }
 
-    /// Takes the entry of a key away, where there is one. It is hashed only where it was not the one found last.
+    /// Takes the entry of a key away, where there is one, which is looked for as `get` does. Behind the last entry nothing
+    /// stands: the one before it is looked for first then.
     pub fn remove(&mut self, key: K) -> Option<V>
         ensures turned { IsTurned K.eq self.old self.new key None }
         ensures value { result ≡ lookup (K.eq key) self.old }
     {
-        let last = self.last.get();
-        if stands_at(&self.table, last, key) {
-            remove_at(&mut self.table, last, key)
-        } else {
-            self.table.swap_remove(&key)
+        match place_of(&self.table, &self.last, key) {
+            Some(place) => {
+                if place.wrapping_add(1) == self.table.len() {
+                    self.last.set(place.wrapping_sub(1));
+                }
+                remove_at(&mut self.table, place, key)
+            }
+            None => None,
         }
     }
 

@@ -56,6 +56,8 @@ impl Drop for Connector {
 
 impl Connector {
     /// A connector over what was mounted, in which nobody has done anything yet. None of the limits is above the standard one.
+    ///
+    /// `NoMemory`: the schema and what was mounted are gone with it. The store's file is as it was.
     pub fn new(
         alloc: Global,
         schema: Schema,

@@ -8,6 +8,8 @@ use pss_base::{Bytes, NoMemory, OwnerNo};
 
 impl Parts {
     /// The name of an owner, which is empty where there is no such owner.
+    ///
+    /// `NoMemory`: there was no room for it.
     pub fn name_of(&self, owner: OwnerNo) -> Result<Bytes, NoMemory>
         ensures { IfOk result (λ name. (k : Kept) → Stands self.now k → name ≡ name_of k owner) }
     {

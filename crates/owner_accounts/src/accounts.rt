@@ -29,6 +29,8 @@ pub struct Accounts {
 
 impl Accounts {
     /// Accounts of these objects and of the serial that the next one takes, in which nobody has read or changed any.
+    ///
+    /// `NoMemory`: the objects are gone with them.
     pub fn new(alloc: Global, homes: Homes, next: u64) -> Result<Accounts, NoMemory>
         ensures { IfOk result (λ accounts. (S : PlainSchema) (M : Catalog) → IsKept S M homes → AreAccounts S accounts (first_kept M next)) }
     {

@@ -54,6 +54,8 @@ impl Accounts {
     }
 
     /// The record of the object with a serial as an owner sees it, where it sees one.
+    ///
+    /// `NoMemory`: there was no room for the record.
     pub fn record_of(
         &self,
         owner: OwnerNo,

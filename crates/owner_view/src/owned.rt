@@ -86,6 +86,8 @@ impl Owned {
     /// What an operation comes to on what the owner sees: what it needs, what it answers, and what it changes.
     ///
     /// It takes time in what the operation touches and in the owner's changes, whatever is stored.
+    ///
+    /// `NoMemory`: there was no room for what it comes to.
     #[inline(always)]
     pub fn step_of(
         &self,
@@ -106,6 +108,8 @@ impl Owned {
     }
 
     /// The record of the object with a serial as the owner sees it, where it sees one.
+    ///
+    /// `NoMemory`: there was no room for the record.
     pub fn state_of(
         &self,
         alloc: Global,
@@ -126,6 +130,8 @@ impl Owned {
 
     /// What a commit of the owner's changes has to make of the objects, by rising serials, with the keys that each had and has.
     /// An object that was set back to what it was committed as is not among them.
+    ///
+    /// `NoMemory`: there was no room for the list.
     pub fn changes(
         &self,
         alloc: Global,

@@ -8,7 +8,7 @@ ghost use Rattle.cdr_codec.specs.Spelled.{SpellsRecord};
 ghost use Rattle.owner_view.specs.Seen.{IsShown, home_seen};
 
 use crate::object::Changed;
-use cdr_codec::{decode, read_member};
+use cdr_codec::{RecordFault, decode, read_member};
 use pss_base::NoMemory;
 use std::alloc::Global;
 use type_layout::{HomeNo, Layout, Record, Schema, Value, home_at};
@@ -78,7 +78,8 @@ fn stored_record(alloc: Global, layout: &Layout, bytes: &[u8]) -> Result<Record,
 {
     match decode(alloc, layout, bytes) {
         Ok(record) => Ok(record),
-        Err(_) => Err(NoMemory),
+        Err(RecordFault::NoMemory) => Err(NoMemory),
+        Err(_) => unreachable!(),
     }
 }
 

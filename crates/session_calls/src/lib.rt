@@ -1,5 +1,6 @@
 //! The commands that open, associate and close sessions, begin and roll back transactions, count entries, and tell of all
-//! this, each as one call.
+//! this, each as one call. A refusal leaves all as it was. After `NoMemory` nothing is said of the parts, which are not used
+//! again.
 #![tactic(auto)]
 
 mod associating;

@@ -146,6 +146,8 @@ impl Owners {
     }
 
     /// The record of the object with a serial as an owner sees it, where it sees one.
+    ///
+    /// `NoMemory`: there was no room for the record.
     pub fn state_of(
         &self,
         owner: OwnerNo,
@@ -165,6 +167,8 @@ impl Owners {
 
     /// What a commit of an owner's changes has to make of the objects, by rising serials, with the keys that each had and has.
     /// An object that was set back to what it was committed as is not among them.
+    ///
+    /// `NoMemory`: there was no room for the list.
     pub fn changes(
         &self,
         owner: OwnerNo,

@@ -72,7 +72,7 @@ module _ (held script before : Option (List ℕ)) (a b : List Moment) (now : Mom
       → IsKeptOver S held script before a b now → IsAlwaysKept text held script before a b now
   kept_of None sound S found one of kept = tt
   kept_of (Some bytes) sound S found one of kept = λ tree is.
-      let text : IsTextOf (tree_view sound.tree) bytes = subst (IsTextOf (tree_view sound.tree)) found.2 found.0.0 in
+      let text : IsTextOf (tree_view sound.tree) bytes = subst (IsTextOf (tree_view sound.tree)) found.0.2 found.0.1.0 in
       let same : tree_view sound.tree ≡ tree = one.one_tree (tree_view sound.tree) tree text is.0 in
       subst (λ (shape : Schema). IsKeptOver shape held script before a b now) (of ∙ found.1 ∙ ap (λ (t : Definitions). schema (all_declarations t)) same) kept
 

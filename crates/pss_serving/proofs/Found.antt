@@ -14,7 +14,7 @@ told P bytes (Some text) p is = subst P is p
 
 -- nothing is wrong in the text that came
 pub sound_of : (source : Option (List ℕ)) (sound : SoundText) → IsFound (Ok sound) source → IfSome source (λ text. IsSound text (tree_view sound.tree))
-sound_of source sound found = told (λ text. IsSound text (tree_view sound.tree)) sound.text source found.0 found.2
+sound_of source sound found = told (λ text. IsSound text (tree_view sound.tree)) found.0.0 source found.0.1 found.0.2
 
 pub text_of : (source : Option (List ℕ)) (sound : SoundText) → IsFound (Ok sound) source → spoken_of (tree_view sound.tree) sound.schema ≡ checked_text (tree_view sound.tree)
 text_of source sound found = ap (λ (s : LayoutSchema). spoken_of (tree_view sound.tree) s) found.1

@@ -37,14 +37,14 @@ module _ (n : ℕ) (all : List ℕ) (past : most_bytes < n) (over : n < length a
   too_long place kinds.NoMemory f = f
 
   known : (found : Result SoundText Unread) → IsFound found (Some (take n all)) → IsFound found (Some all)
-  known (Ok sound) o = absurd (none (rw o.2 at o.0.0.within))
+  known (Ok sound) o = absurd (none (rw o.0.2 at o.0.1.0.within))
   known (Err (unread.Refused (Syntax fault))) o = too_long fault.place fault.kind o
   known (Err (unread.Refused (Check fault))) o = absurd (none o.1.within)
   known (Err unread.ReadFault) o = tt
   known (Err unread.NoMemory) o = tt
 
 unknown : (found : Result SoundText Unread) (bytes : List ℕ) → IsFound found (Some bytes) → IsFound found None
-unknown (Ok sound) bytes o = (o.0, o.1, tt)
+unknown (Ok sound) bytes o = ((o.0.0, o.0.1, tt), o.1)
 unknown (Err (unread.Refused fault)) bytes o = tt
 unknown (Err unread.ReadFault) bytes o = tt
 unknown (Err unread.NoMemory) bytes o = tt

@@ -1,5 +1,5 @@
 // The schema's text is read and checked.
-ghost use Rattle.std.specs.Prelude.{◌≡◌, false, Some};
+ghost use Rattle.std.specs.Prelude.{ℕ, ◌≡◌, List, false, Some};
 ghost use Rattle.pss_base.specs.Causes.{HasCauseIf};
 ghost use Rattle.psdl_tree.specs.Views.{tree_view};
 ghost use Rattle.psdl_syntax.specs.Syntax.{IsTextOf};
@@ -15,10 +15,9 @@ use type_layout::Schema;
 /// One byte past the limit is read, so that a longer text is noticed.
 const MOST_READ: u32 = MOST_BYTES as u32 + 1;
 
-/// A text in which nothing is wrong, its tree and its schema.
+/// What is kept of a text in which nothing is wrong: its tree and its schema.
 #[derive(Drop)]
 pub struct SoundText {
-    pub text: Bytes,
     pub tree: Tree,
     pub schema: Schema,
 }
@@ -34,14 +33,13 @@ pub enum Unread {
     NoMemory,
 }
 
-// What a text with that tree is.
-fn check_tree(alloc: Global, text: Bytes, tree: Tree) -> Result<SoundText, Unread>
-    requires { IsTextOf (tree_view tree) text }
-    ensures found { IsFound result (Some text) }
+// What each text with that tree is.
+fn check_tree(alloc: Global, tree: Tree) -> Result<SoundText, Unread>
+    ensures found { (text : List ℕ) → IsTextOf (tree_view tree) text → IsFound result (Some text) }
     ensures fault { has_failed result ≡ false }
 {
     match check(alloc, &tree) {
-        Ok(schema) => Ok(SoundText { text, tree, schema }),
+        Ok(schema) => Ok(SoundText { tree, schema }),
         Err(fault) => match fault.kind {
             CheckKind::NoMemory => Err(Unread::NoMemory),
             _ => Err(Unread::Refused(SchemaFault::Check(fault))),
@@ -49,15 +47,17 @@ fn check_tree(alloc: Global, text: Bytes, tree: Tree) -> Result<SoundText, Unrea
     }
 }
 
-// What a text is.
+// What a text is. It is let go before its tree is checked.
 fn check_text(alloc: Global, text: Bytes) -> Result<SoundText, Unread>
     ensures found { IsFound result (Some text) }
     ensures one { IsOne result (Some text) }
     ensures fault { has_failed result ≡ false }
 {
     a_text_has_one_fault();
-    match parse(alloc, text.as_slice()) {
-        Ok(tree) => check_tree(alloc, text, tree),
+    let parsed = parse(alloc, text.as_slice());
+    drop(text);
+    match parsed {
+        Ok(tree) => check_tree(alloc, tree),
         Err(fault) => match fault.kind {
             SyntaxKind::NoMemory => Err(Unread::NoMemory),
             _ => Err(Unread::Refused(SchemaFault::Syntax(fault))),

@@ -37,8 +37,7 @@ fn append_number(line: &mut Bytes, number: u32) -> Result<(), NoMemory>
 fn placed(alloc: Global, place: Place) -> Result<Bytes, NoMemory>
     ensures { IfOk result (λ bytes. bytes ≡ codes "schema " ++ decimal place.line ++ codes ":" ++ decimal place.column ++ codes " ") }
 {
-    let mut line = Bytes::new(alloc);
-    line.extend(b"schema ")?;
+    let mut line = Bytes::from_slice(alloc, b"schema ")?;
     append_number(&mut line, place.line)?;
     line.extend(b":")?;
     append_number(&mut line, place.column)?;

@@ -40,7 +40,7 @@ fn status_of(ending: Ending) -> Status
     }
 }
 
-// The schema alone: text and tree are let go before the script is read.
+// The schema alone: the tree is let go before the script is read.
 fn schema_of(sound: SoundText) -> Schema
     ensures { result ≡ sound.schema }
 {

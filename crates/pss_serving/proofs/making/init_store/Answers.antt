@@ -15,7 +15,7 @@ use Rattle.pss_serving.proofs.making.init_store.Goals as goal
 pub make_store-requires : goal.make_store-requires
 make_store-requires g c =
     let found = c.in-Ok.ensures.found in
-    subst IsSoundSchema (sym found.1) (c.text_is_sound.ensures (tree_view c.in-Ok.sound.tree) c.in-Ok.sound.text found.0.0 found.0.1)
+    subst IsSoundSchema (sym found.1) (c.text_is_sound.ensures (tree_view c.in-Ok.sound.tree) found.0.0 found.0.1.0 found.0.1.1)
 
 -- ---- the store is made, or its file has octets
 

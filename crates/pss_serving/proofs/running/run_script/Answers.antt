@@ -14,7 +14,7 @@ use Rattle.pss_serving.proofs.running.run_script.Goals as goal
 pub serve_store-requires : goal.serve_store-requires
 serve_store-requires g c =
     let found = c.in-Ok.ensures.found in
-    record { sound = subst IsSoundSchema (sym (c.schema_of.ensures ∙ found.1)) (c.text_is_sound.ensures (tree_view c.in-Ok.sound.tree) c.in-Ok.sound.text found.0.0 found.0.1) }
+    record { sound = subst IsSoundSchema (sym (c.schema_of.ensures ∙ found.1)) (c.text_is_sound.ensures (tree_view c.in-Ok.sound.tree) found.0.0 found.0.1.0 found.0.1.1) }
 
 -- ---- the text is sound
 

@@ -26,11 +26,10 @@ pub(crate) fn scope_of(
 ) -> Result<Scope, NoMemory>
     ensures { IfOk result (λ scope. scope ≡ record { outer = modules.scope_in outer; name = name.now }) }
 {
-    let mut own = Bytes::new(alloc);
-    own.extend(name)?;
+    let name = Bytes::from_slice(alloc, name)?;
     Ok(Scope {
         outer: scope_in(outer),
-        name: own,
+        name,
     })
 }
 

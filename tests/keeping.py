@@ -3,6 +3,7 @@ import fcntl
 import os
 
 from running import cells, contents, dialogue, each, ended, examples, fresh, here, lines_of, program, shortened, tell, written
+from schemas import NOTES
 
 FIRST = b"open s1 basic rw\ncreate s1 Cells 7\nflush s1\n"
 FIRST_REPLIES = b"OK\nOK i1 000000010000000000000001\nOK\n"
@@ -117,7 +118,7 @@ def root_of(home, bases):
 
 def kept_files(folder):
     """The file of a store: made, filled, refused, held and missing."""
-    store, notes = os.path.join(folder, "store"), written(folder, b"storagetype Note{state string t;};storagehome Notes of Note{};")
+    store, notes = os.path.join(folder, "store"), written(folder, NOTES)
     expect_run("no file", ["run", cells, store], FIRST, 6, b"")
     tell("run makes no file", not os.path.exists(store), "there is one")
     expect_run("init of a text with a fault", ["init", notes, store], b"", 0, b"")

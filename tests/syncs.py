@@ -5,9 +5,9 @@ import os
 import shutil
 import subprocess
 
-from crashes import CELLS
 from keeping import JOURNAL
 from running import contents, ended, here, program, tell, written
+from schemas import CELLS
 
 COMPILER = next(filter(shutil.which, ("cc", "gcc", "clang")), None)
 

@@ -32,6 +32,7 @@ def page_objects(octets, slot):
     assert octets[at : at + 8] == b"PSSPAGE1" and number(octets, at + 16, 4) == slot
     place, end = at + 40, at + 40 + number(octets, at + 24, 4)
     for _ in range(number(octets, at + 20, 4)):
+        assert place + 16 <= end
         length = number(octets, place + 4, 4)
         yield number(octets, place + 8, 8), number(octets, place, 4), octets[place + 16 : place + 16 + length]
         place += 16 + length
@@ -51,6 +52,7 @@ def changes(body):
     """The changes of a body: serial, home and record of each, which has no octets where the object is removed."""
     at = 12
     for _ in range(number(body, 8, 4)):
+        assert at + 16 <= len(body)
         length = number(body, at + 12, 4)
         yield number(body, at + 4, 8), number(body, at, 4), body[at + 16 : at + 16 + length]
         at += 16 + length

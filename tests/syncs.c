@@ -1,6 +1,7 @@
-/* Tells in which order a run writes the store's file, syncs it, syncs its folder and speaks: a letter each, w, s, f and o, behind the end of
-   the run in the file that TOLD names. STORE names the store's file. The sync whose number FAILED has syncs nothing, and fails with the
-   error that ERROR has. It stands between a program and the system's library, by LD_PRELOAD. */
+/* Tells in which order a run writes the store's file, syncs it, syncs its folder and speaks, in the file that TOLD names: of each call a letter,
+   w, s, f or o, with the place and the number of octets that are written or spoken, in a line, and behind it these octets. STORE names the
+   store's file. The sync whose number FAILED has syncs nothing, and fails with the error that ERROR has. It stands between a program and the
+   system's library, by LD_PRELOAD. */
 #define _GNU_SOURCE
 #include <dlfcn.h>
 #include <errno.h>
@@ -9,28 +10,25 @@
 #include <sys/stat.h>
 #include <unistd.h>
 
-#define MOST 65536
-
-static char order[MOST];
-static unsigned long told, syncs;
+static FILE *told;
+static unsigned long syncs;
 
 static unsigned long number_of(const char *name) {
     const char *number = getenv(name);
     return number != NULL ? strtoul(number, NULL, 10) : 0;
 }
 
-__attribute__((destructor)) static void end(void) {
+__attribute__((constructor)) static void begin(void) {
     const char *name = getenv("TOLD");
-    FILE *out = name != NULL ? fopen(name, "w") : NULL;
-    if (out != NULL) {
-        fwrite(order, 1, told, out);
-        fclose(out);
-    }
+    told = name != NULL ? fopen(name, "w") : NULL;
 }
 
-static void tell(char letter) {
-    if (told < MOST)
-        order[told++] = letter;
+static void tell(char letter, const void *octets, size_t count, off64_t at) {
+    if (told != NULL) {
+        fprintf(told, "%c %lld %zu\n", letter, (long long)at, count);
+        fwrite(octets, 1, count, told);
+        fflush(told);
+    }
 }
 
 /* Whether a descriptor is of the store's file. */
@@ -48,7 +46,7 @@ static int is_folder(int fd) {
 /* Counts a sync, by the call that the system has for it. */
 static int synced(const char *call, int fd) {
     int (*system_call)(int) = (int (*)(int))dlsym(RTLD_NEXT, call);
-    tell(is_store(fd) ? 's' : is_folder(fd) ? 'f' : '?');
+    tell(is_store(fd) ? 's' : is_folder(fd) ? 'f' : '?', "", 0, 0);
     if (++syncs == number_of("FAILED")) {
         errno = (int)number_of("ERROR");
         return -1;
@@ -62,7 +60,7 @@ int fsync(int fd) { return synced("fsync", fd); }
 ssize_t pwrite64(int fd, const void *octets, size_t count, off64_t at) {
     ssize_t (*system_call)(int, const void *, size_t, off64_t) = (ssize_t (*)(int, const void *, size_t, off64_t))dlsym(RTLD_NEXT, "pwrite64");
     if (is_store(fd))
-        tell('w');
+        tell('w', octets, count, at);
     return system_call(fd, octets, count, at);
 }
 
@@ -71,6 +69,6 @@ ssize_t pwrite(int fd, const void *octets, size_t count, off_t at) { return pwri
 ssize_t write(int fd, const void *octets, size_t count) {
     ssize_t (*system_call)(int, const void *, size_t) = (ssize_t (*)(int, const void *, size_t))dlsym(RTLD_NEXT, "write");
     if (is_store(fd) || fd == 1)
-        tell(fd == 1 ? 'o' : 'w');
+        tell(fd == 1 ? 'o' : '?', octets, count, 0);
     return system_call(fd, octets, count);
 }

@@ -39,8 +39,17 @@ SCRIPT = "".join(f"{line}\n" for line, _, _ in LINES).encode()
 ORDER = MOUNT + "".join(order for _, _, order in LINES)
 
 
+def calls_in(told):
+    """The calls that were told: letter, place and octets of each."""
+    at = 0
+    while at < len(told):
+        letter, place, count = told[at : told.index(b"\n", at)].split()
+        at = told.index(b"\n", at) + 1 + int(count)
+        yield letter.decode(), int(place), told[at - int(count) : at]
+
+
 class Watched:
-    """Runs with a library in front of the system's that tells the order of their calls."""
+    """Runs with a library in front of the system's that tells their calls."""
 
     def __init__(self, folder):
         self.shim, self.told = (os.path.join(folder, name) for name in ("syncs.so", "told"))
@@ -48,12 +57,17 @@ class Watched:
 
     def run(self, words, script=b"", failed=0, error=errno.EIO):
         """How a run ends of which a sync fails, that with this number, and the order of its calls. Writes one behind the other count once."""
-        watch = {"LD_PRELOAD": self.shim, "TOLD": self.told, "STORE": words[-1], "FAILED": str(failed), "ERROR": str(error)}
-        run = ended([program, *words], script, env={**os.environ, **watch})
-        order = contents(self.told).decode()
+        run, calls = self.calls(words, script, failed, error)
+        order = "".join(letter for letter, _, _ in calls)
         while "ww" in order:
             order = order.replace("ww", "w")
         return run, order
+
+    def calls(self, words, script, failed=0, error=errno.EIO):
+        """The same with the calls themselves."""
+        watch = {"LD_PRELOAD": self.shim, "TOLD": self.told, "STORE": words[-1], "FAILED": str(failed), "ERROR": str(error)}
+        run = ended([program, *words], script, env={**os.environ, **watch})
+        return run, list(calls_in(contents(self.told)))
 
 
 def replies(count):

@@ -272,7 +272,7 @@ impl<K: Copy + Eq + Hash + Drop, V: Drop, H: Copy + Default + Hasher> RecentTabl
         Ok(())
     }
 
-    /// The value of a key, to write. It is looked for as `get` does.
+    /// The value of a key, to write. Where it is the one found last, or stands behind it, it is not hashed.
     #[inline(always)]
     pub fn get_mut(&mut self, key: K) -> Option<&mut V>
         ensures* writes_back { sem 𝓛 (lends_value K.row V.row H.row K.Hash H.Clone H.Default H.Hasher self.entry key result) }
@@ -284,7 +284,7 @@ impl<K: Copy + Eq + Hash + Drop, V: Drop, H: Copy + Default + Hasher> RecentTabl
         }
     }
 
-    /// Sets the value of a key that has one, which is looked for as `get` does.
+    /// Sets the value of a key that has one, which is looked for as `get_mut` does.
     pub fn set(&mut self, key: K, value: V)
         requires { IsSome (lookup (K.eq key) self.old) }
         ensures { IsTurned K.eq self.old self.new key (Some value) }
@@ -295,8 +295,8 @@ impl<K: Copy + Eq + Hash + Drop, V: Drop, H: Copy + Default + Hasher> RecentTabl
         }
     }
 
-    /// Takes the entry of a key away, where there is one, which is looked for as `get` does. Behind the last entry nothing
-    /// stands: the one before it is looked for first then.
+    /// Takes the entry of a key away, where there is one, which is looked for as `get_mut` does. Behind the last entry
+    /// nothing stands: the one before it is looked for first then.
     pub fn remove(&mut self, key: K) -> Option<V>
         ensures turned { IsTurned K.eq self.old self.new key None }
         ensures value { result ≡ lookup (K.eq key) self.old }

@@ -1,5 +1,5 @@
 // The sessions by number, in the order in which they were opened.
-ghost use Rattle.std.specs.Prelude.{◌≡◌, ◌+◌, ◌<◌, ◌++◌, ◌∷◌, [], length, map, find, Some, None, IsSome, IsSomeAnd, OnOk, is_some, option_copied, if◌then◌else◌};
+ghost use Rattle.std.specs.Prelude.{◌≡◌, ◌+◌, ◌<◌, ◌++◌, ◌∷◌, [], length, map, find, Some, None, IsSome, IsSomeAnd, MatchOption, OnOk, is_some, option_copied, if◌then◌else◌};
 ghost use Rattle.std.specs.Option.{option_map};
 ghost use Rattle.std.specs.Map.{keys_of};
 ghost use Rattle.indexmap.specs.IndexMap.{spare};
@@ -27,6 +27,16 @@ pub fn row(rows: &Rows, number: u32) -> Option<&SessionRecord>
     ensures { option_copied result ≡ row_at rows.now.entries number }
 {
     rows.get(&number)
+}
+
+/// The session of a number and its place, where there is one.
+pub fn find_row(rows: &Rows, number: u32) -> Option<(usize, &SessionRecord)>
+    ensures { MatchOption result (row_at rows.now.entries number ≡ None) (λ found. row_at rows.now.entries number ≡ Some found.1.now) }
+{
+    match rows.get_full(&number) {
+        Some((place, _, record)) => Some((place, record)),
+        None => None,
+    }
 }
 
 /// Makes room for one more. Without memory the sessions are as before.

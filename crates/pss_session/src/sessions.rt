@@ -123,13 +123,16 @@ impl Sessions {
         ensures { MatchOption result (number_named self.now name.now ≡ None) (IsFound self.now name.now) }
     {
         let number = self.find(name)?;
-        if let Some(place) = self.register.rows.get_index_of(&number.0) {
-            self.last.set(place);
+        match rows::find_row(&self.register.rows, number.0) {
+            Some((place, record)) => {
+                self.last.set(place);
+                Some(Found {
+                    number,
+                    standing: record.standing(),
+                })
+            }
+            None => unreachable!(),
         }
-        Some(Found {
-            number,
-            standing: self.standing(number),
-        })
     }
 
     /// The session of a name, and its standing: `find` and `standing` by one look-up, and by none where it was the session found last.

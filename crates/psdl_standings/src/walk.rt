@@ -71,6 +71,18 @@ impl<'b, 'a> Walk<'b, 'a> {
         }
     }
 
+    // Resolves a name, and notes what is wrong with it.
+    fn used(&mut self, spot: Spot, need: Need, name: &Name) -> Result<Use, NoMemory>
+        ensures meant { IfOk result (λ used. Finds self.old self.new spot (of.use_of spot.limit need (name_view name.now) ∷ []) [] (meaning as_is (text_in self.old) spot.limit (path_in self.old spot) (name_view name.now)) used.meant) }
+        ensures defined { IfOk result (λ used. used.defined ≡ definition_in self.old spot (name_view name.now)) }
+    {
+        let number = DeclarationNo::new(spot.number);
+        let used = resolve(self.alloc, self.directory, spot.limit, number, name)?;
+        note_own(&mut self.faults.selves, spot.own, &used);
+        self.note_use(need, &used);
+        Ok(used)
+    }
+
     /// What a name means.
     pub(crate) fn meaning(
         &mut self,
@@ -80,10 +92,7 @@ impl<'b, 'a> Walk<'b, 'a> {
     ) -> Result<Option<DeclarationNo>, NoMemory>
         ensures { IfOk result (Finds self.old self.new spot (of.use_of spot.limit need (name_view name.now) ∷ []) [] (meaning as_is (text_in self.old) spot.limit (path_in self.old spot) (name_view name.now))) }
     {
-        let number = DeclarationNo::new(spot.number);
-        let used = resolve(self.alloc, self.directory, spot.limit, number, name)?;
-        note_own(&mut self.faults.selves, spot.own, &used);
-        self.note_use(need, &used);
+        let used = self.used(spot, need, name)?;
         Ok(used.meant)
     }
 
@@ -96,10 +105,7 @@ impl<'b, 'a> Walk<'b, 'a> {
     ) -> Result<Option<usize>, NoMemory>
         ensures { IfOk result (Finds self.old self.new spot (of.use_of spot.limit need (name_view name.now) ∷ []) [] (definition_in self.old spot (name_view name.now))) }
     {
-        let number = DeclarationNo::new(spot.number);
-        let used = resolve(self.alloc, self.directory, spot.limit, number, name)?;
-        note_own(&mut self.faults.selves, spot.own, &used);
-        self.note_use(need, &used);
+        let used = self.used(spot, need, name)?;
         Ok(index_of(used.defined))
     }
 

@@ -28,9 +28,6 @@ pub const LENGTH: usize = 12;
 /// Where the record begins in a change.
 pub const RECORD: usize = 16;
 
-/// Where the body begins behind the gate of its record.
-pub const BODY: u64 = 13;
-
 /// The epoch of the first root of a store.
 pub const FIRST_EPOCH: u64 = 1;
 

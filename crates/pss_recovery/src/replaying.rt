@@ -1,9 +1,9 @@
 // The bodies of a journal are made of the objects, one after the other.
-ghost use Rattle.std.specs.Prelude.{ℕ, ◌≡◌, ◌^◌, ◌<◌, Err, IfOk, IfSome, IsNone, length};
+ghost use Rattle.std.specs.Prelude.{ℕ, ◌≡◌, ◌<◌, Err, IfOk, IfSome, IsNone};
 ghost use Rattle.std.specs.List.{AllByRecursion};
 ghost use Rattle.pss_catalog.specs.Catalog.{Catalog};
 ghost use Rattle.storage_home.specs.Kept.{IsKept};
-ghost use Rattle.redo_journal.specs.Journal.{behind, journal_end, journal_start};
+ghost use Rattle.redo_journal.specs.Journal.{journal_end, journal_start};
 ghost use Rattle.page_format.specs.Objects.{IsRightPut};
 ghost use Rattle.pss_recovery.specs.Bodies.{Spells};
 ghost use Rattle.pss_recovery.specs.Noted.{AreNoted};
@@ -13,11 +13,10 @@ ghost use Rattle.pss_recovery.specs.declared.replaying.BodyStop.TheVariants.{Wro
 
 use crate::body::Body;
 use crate::decoding::decode_body;
-use crate::layout::BODY;
 use crate::noting::{append_puts, copy_puts};
 use crate::remaking::apply_body;
 use pss_base::{Bytes, NoMemory, Puts};
-use redo_journal::JOURNAL_START;
+use redo_journal::{JOURNAL_START, gate_after};
 use std::alloc::Global;
 use storage_home::Homes;
 use type_layout::Schema;
@@ -38,13 +37,6 @@ pub enum BodyStop {
     Wrong(u64),
     /// There was no memory. It may come in place of any other answer.
     NoMemory,
-}
-
-// The gate behind a record with this body.
-fn gate_after(gate: u64, body: &[u8]) -> u64
-    ensures { behind gate (length body.now) < 2 ^ 64 → result ≡ behind gate (length body.now) }
-{
-    gate.saturating_add(BODY + body.len() as u64)
 }
 
 // Makes what a body says, and answers it with a copy of its changes; none where it may not come over the objects.

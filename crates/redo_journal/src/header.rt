@@ -1,9 +1,10 @@
 // A gate and what stands behind it up to the body.
-ghost use Rattle.std.specs.Prelude.{◌≡◌, ◌⊎◌, ◌↔◌, IsTrue, false, length, slice_index, slice_range};
+ghost use Rattle.std.specs.Prelude.{◌≡◌, ◌^◌, ◌<◌, ◌⊎◌, ◌↔◌, IsTrue, false, length, slice_index, slice_range};
 ghost use Rattle.std.specs.Int.{from_be_bytes, to_be_bytes, w32, w64};
-ghost use Rattle.redo_journal.specs.Journal.{Fits, header, journal_start};
+ghost use Rattle.redo_journal.specs.Journal.{Fits, behind, header, journal_start};
 
 use crate::layout::{BODY, EPOCH, JOURNAL_END, JOURNAL_START, LENGTH, OPEN};
+use pss_disk::read_number4;
 
 /// A gate and what stands behind it, by an epoch.
 #[derive(Clone, Copy)]
@@ -30,6 +31,13 @@ impl Header {
     }
 }
 
+/// The gate behind a record with this body, where a `u64` has it.
+pub fn gate_after(gate: u64, body: &[u8]) -> u64
+    ensures { behind gate (length body.now) < 2 ^ 64 → result ≡ behind gate (length body.now) }
+{
+    gate.saturating_add(BODY as u64 + body.len() as u64)
+}
+
 /// Whether a record with a body of so many octets fits behind a gate.
 pub fn fits_behind(gate: u32, len: u32) -> bool
     ensures { IsTrue result ↔ Fits gate len }
@@ -45,16 +53,10 @@ pub fn read_header(octets: &[u8], epoch: u64) -> Header
     ensures len { from_be_bytes w32 (slice_range octets.now 9 13) ≡ result.len }
     ensures spelled { to_be_bytes w32 result.len ≡ slice_range octets.now 9 13 }
 {
-    let len = [
-        octets[LENGTH],
-        octets[LENGTH + 1],
-        octets[LENGTH + 2],
-        octets[LENGTH + 3],
-    ];
     Header {
         is_open: octets[0] == OPEN,
         has_epoch: octets[EPOCH..LENGTH] == epoch.to_be_bytes()[..],
-        len: u32::from_be_bytes(len),
+        len: read_number4(octets, LENGTH),
     }
 }
 

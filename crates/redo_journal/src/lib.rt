@@ -15,6 +15,7 @@ mod window;
 
 pub use bodies::Bodies;
 pub use fault::ReplayFault;
+pub use header::gate_after;
 pub use journal::Journal;
 pub use laws::a_journal_is_one_thing;
 pub use layout::{CLOSED, JOURNAL_END, JOURNAL_START, OPEN};

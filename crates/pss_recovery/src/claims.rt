@@ -14,7 +14,7 @@ pub fn tag(alloc: Global, key: KeyNo, bytes: &[u8]) -> Result<Bytes, NoMemory>
     ensures tagged { IfOk result (λ octets. octets ≡ tagged key.0 bytes.now) }
     ensures number { key.0 < 2 ^ 32 }
 {
-    let mut octets = Bytes::new(alloc);
+    let mut octets = Bytes::with_room(alloc, 4 + bytes.len())?;
     octets.extend(&key.0.to_be_bytes())?;
     octets.extend(bytes)?;
     Ok(octets)

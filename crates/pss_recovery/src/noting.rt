@@ -27,6 +27,7 @@ pub fn copy_puts(alloc: Global, puts: &[Put]) -> Result<Puts, NoMemory>
     ensures { IfOk result (λ copy. copy ≡ puts.now) }
 {
     let mut copy = Puts::new(alloc);
+    copy.reserve(puts.len())?;
     for put in puts {
         copy.push(copy_put(put)?)?;
     }

@@ -56,6 +56,7 @@ pub fn attach(
     ensures ok { OnOk result (meaning_of stock.new ≡ attached (meaning_of stock.old) slot view value was.entry) }
     ensures err { OnErr result (meaning_of stock.new ≡ meaning_of stock.old) }
 {
+    // Each count is at most the number of all entries.
     let _ = stock.entries.len();
     let pid = was.entry.pid;
     let row = stock.pool.add_row()?;

@@ -72,7 +72,7 @@ impl Titles {
     pub fn numbers_hold(&self)
         ensures { (n : ℕ) → IsSome (map.get self.now.called n) → n < self.now.next }
     {
-        let _ = self.table.get(OwnerNo(self.last));
+        let _ = &self.table;
     }
 
     /// An owner more, that of a basic session of this name. The answer is its number, the next one.

@@ -151,6 +151,7 @@ fn is_next(put: &Put, serial: u64) -> bool
     ensures left { IsTrue result → put.now.bytes ≡ Some (entry_left put.now).octets }
     ensures storable { IsTrue result → IsStorable (entry_left put.now) }
 {
+    // For the proof alone: the home that is read is a number of 32 bits.
     let _home = put.home;
     serial < put.serial && put.bytes.is_some()
 }

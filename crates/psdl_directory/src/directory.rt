@@ -59,7 +59,6 @@ impl<'a> Directory<'a> {
     fn of_flat(alloc: Global, flat: Flat<'a>) -> Result<Directory<'a>, NoMemory>
         ensures { IfOk result (λ d. all_of d ≡ all_in flat.entry) }
     {
-        let _ = flat.scopes.len();
         let keys = all_keys(alloc, &flat.declarations)?;
         let firsts = all_firsts(alloc, &keys, &flat.declarations)?;
         Ok(Directory {
@@ -90,7 +89,6 @@ impl<'a> Directory<'a> {
         requires { number < length (all_of self.now) }
         ensures { result ≡ number + 1 }
     {
-        let _ = self.declarations.len();
         number.index() + 1
     }
 

@@ -56,6 +56,7 @@ impl<'a> Scopes<'a> {
         ensures there { result < length self.now }
         ensures path { path_at self.now result ≡ [] }
     {
+        // For the proof alone: the law of the rows is at hand where they are read.
         let _rows = &self.rows;
         0
     }
@@ -81,6 +82,7 @@ impl<'a> Scopes<'a> {
         ensures path { path_in self.now result ≡ path_at self.now scope }
         ensures there { IfSome result (λ number. number + 1 ≡ scope) }
     {
+        // For the proof alone: the law of the rows is at hand where they are read.
         let _rows = &self.rows;
         if scope == 0 {
             return None;
@@ -125,6 +127,7 @@ impl<'a> Scopes<'a> {
         requires { scope < length self.now }
         ensures { IfOk result (λ names. map (λ n. n.now) names.items ≡ path_at self.now scope) }
     {
+        // For the proof alone: the law of the rows is at hand where they are read.
         let _rows = &self.rows;
         let mut names = Vec::new(alloc);
         let mut at = scope;

@@ -48,6 +48,7 @@ impl<'g> Asked<'g> {
         if from >= self.graph.len() {
             return Ok(from == to);
         }
+        // For the proof alone: what a graph's definitions name is of the graph.
         let _named = self.graph.parents(from);
         if to >= self.graph.len() {
             return Ok(false);

@@ -220,7 +220,6 @@ fn spelled_struct(
     requires { number < length (all_of directory.now) }
     ensures { IfOk result (λ k. (done : List Standing) → levels.now ≡ map depth done → k ≡ option_map cut (nesting_of (all_of directory.now) done number (at (all_of directory.now) number).path (whats.IsStruct (struct_view structure.now)))) }
 {
-    let _ = directory.len();
     let own = directory.origin(number);
     let body = Parts {
         directory,

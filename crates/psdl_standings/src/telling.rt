@@ -235,7 +235,6 @@ impl<'b, 'a> Walk<'b, 'a> {
         requires there { IfSome item (λ n. n < length self.old.types) }
         ensures { IfOk result (Tells self.old self.new (within number None) (of.in_expressions (number + 1) (map expression_view dimensions.now)) (of.bounds_of (number + 1) of.most_elements (map expression_view dimensions.now)) (as_type (option_and_then (arrays_by (names_in self.old (within number None)) (map expression_view dimensions.now)) (entry_type self.old.types item)))) }
     {
-        let _ = self.directory.len();
         let spot = Spot {
             limit: number + 1,
             number,
@@ -261,7 +260,6 @@ impl<'b, 'a> Walk<'b, 'a> {
         requires { number < length (text_in self.old) }
         ensures { IfOk result (IsTold self.old self.new number (whats.IsStruct (struct_view structure.now))) }
     {
-        let _ = self.directory.len();
         let spot = Spot {
             limit: number + 1,
             number,
@@ -312,7 +310,6 @@ impl<'b, 'a> Walk<'b, 'a> {
         requires kept { AreKeptBelow (length self.old.types) (length (text_in self.old)) kept.old.items }
         ensures { OnOk result (AddsStates self.old self.new (within number None) (store_uses number (what_view what.entry)) (body_bounds (number + 1) (what_view what.entry)) (state_types (what_view what.entry)) kept.old.items kept.new.items) }
     {
-        let _ = self.directory.len();
         let spot = Spot {
             limit: number + 1,
             number,

@@ -56,6 +56,7 @@ fn is_character(value: &Value) -> bool
 {
     match value {
         Value::Char(code) => {
+            // For the proof alone: the code that is read is an octet.
             let _code = *code;
             true
         }

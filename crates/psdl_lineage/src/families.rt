@@ -1,5 +1,6 @@
 // The families of homes, each named by its first home.
-ghost use Rattle.std.specs.Prelude.{◌≡◌, ◌<◌, length, slice_get, IfOk};
+ghost use Rattle.std.specs.Prelude.{◌≡◌, ◌<◌, List, length, slice_get, IfOk};
+ghost use Rattle.psdl_directory.specs.Declarations.{Declaration};
 ghost use Rattle.psdl_directory.specs.Directories.{all_of};
 ghost use Rattle.psdl_directory.specs.Headers as of;
 ghost use Rattle.psdl_lineage.specs.Descent.{family, base_home};
@@ -18,17 +19,12 @@ fn known(families: &[DeclarationNo], number: DeclarationNo) -> Option<Declaratio
 
 // The family of a declaration, by the families of those in front. A home whose base does not stand in front is its own base.
 fn family_of(
-    directory: &Directory<'_>,
     families: &[DeclarationNo],
     base: Option<DeclarationNo>,
     number: DeclarationNo,
 ) -> DeclarationNo
-    requires number { number < length (all_of directory.now) }
-    requires families { families.now ≡ families_before (all_of directory.now) number }
-    requires base { base ≡ base_home (all_of directory.now) number }
-    ensures { result ≡ family (all_of directory.now) number }
+    ensures { (all : List Declaration) → number < length all → families.now ≡ families_before all number → base ≡ base_home all number → result ≡ family all number }
 {
-    let _ = directory.len();
     match base {
         None => number,
         Some(home) => match known(families, home) {
@@ -51,7 +47,7 @@ pub(crate) fn families_of(
     for index in 0..headers.len() {
         let header = &headers[index];
         let base = first_home(directory, header.bases());
-        let family = family_of(directory, &families, base, DeclarationNo::new(index));
+        let family = family_of(&families, base, DeclarationNo::new(index));
         families.push(family)?;
     }
     Ok(families)

@@ -77,9 +77,8 @@ pub fn comes_before(kind: CheckKind, other: CheckKind) -> bool
 }
 
 // C2, C3, C4, C14 and C15.
-fn body_faults(text: &Text, standings: &Standings, least: &mut Least)
-    requires told { told_of standings.now ≡ judged text.now }
-    ensures { least.new ≡ noting least.old (of.body_faults (judged text.now) (standings_of (judged text.now))) }
+fn body_faults(standings: &Standings, least: &mut Least)
+    ensures { least.new ≡ noting least.old (of.body_faults (told_of standings.now) (standings_of (told_of standings.now))) }
 {
     note_found(standings.names_fault(), least);
     note_found(standings.strings_fault(), least);
@@ -143,7 +142,7 @@ fn note_all(
     ensures { OnOk result (least.new ≡ noting least.old (of.faults_by (judged text.now) (standings_of (judged text.now)))) }
 {
     redefined(alloc, text, least)?;
-    body_faults(text, standings, least);
+    body_faults(standings, least);
     definition_faults(alloc, text, standings, least)?;
     member_faults(alloc, text, standings, least)?;
     home_faults(alloc, text, least)?;

@@ -271,10 +271,9 @@ impl<'b, 'a> Walk<'b, 'a> {
 
     fn told_enumeration(
         &mut self,
-        number: usize,
         enumerators: &'a Identifiers,
     ) -> Result<NumberedStanding, NoMemory>
-        ensures { IfOk result (IsTold self.old self.new number (whats.IsEnumeration (identifiers_view enumerators.now))) }
+        ensures { IfOk result (λ told. (number : ℕ) → IsTold self.old self.new number (whats.IsEnumeration (identifiers_view enumerators.now)) told) }
     {
         let added = self.add(Node::Enumeration(enumerators))?;
         Ok(told_type(added))
@@ -351,7 +350,7 @@ impl<'b, 'a> Walk<'b, 'a> {
                 Ok(told)
             }
             What::Enumeration(enumerators) => {
-                let told = self.told_enumeration(number, enumerators)?;
+                let told = self.told_enumeration(enumerators)?;
                 Ok(told)
             }
             _ => {

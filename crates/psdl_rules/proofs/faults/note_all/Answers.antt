@@ -11,4 +11,4 @@ returns c =
     let done = standings all in
     five_found c.args.least.now c.redefined.new.least c.body_faults.new.least c.definition_faults.new.least c.member_faults.new.least c.home_faults.new.least
     (redefined_faults all) (body_faults all done) (definition_faults all done) (member_faults all done) (home_faults all)
-    c.in_ok-redefined.ensures c.body_faults.ensures c.in_ok-definition_faults.ensures c.in_ok-member_faults.ensures c.in_ok-home_faults.ensures
+    c.in_ok-redefined.ensures (rw c.requires.told at c.body_faults.ensures) c.in_ok-definition_faults.ensures c.in_ok-member_faults.ensures c.in_ok-home_faults.ensures

@@ -23,7 +23,7 @@ returns-in_ok-told-in-Struct-clause-kept c =
 
 pub returns-in_ok-told-in-Enumeration-clause-told : goal.returns-in_ok-told-in-Enumeration-clause-told
 returns-in_ok-told-in-Enumeration-clause-told c =
-    as_matched c.args.self.now c.told_enumeration.new.self c.args.number (what_view c.args.what) (IsEnumeration (identifiers_view c.in-Enumeration.enumerators.now)) c.in_ok-told-in-Enumeration.told (ap what_view c.in-Enumeration.is) c.in_ok-told-in-Enumeration.ensures
+    as_matched c.args.self.now c.told_enumeration.new.self c.args.number (what_view c.args.what) (IsEnumeration (identifiers_view c.in-Enumeration.enumerators.now)) c.in_ok-told-in-Enumeration.told (ap what_view c.in-Enumeration.is) (c.in_ok-told-in-Enumeration.ensures c.args.number)
 
 pub returns-in_ok-told-in-Enumeration-clause-kept : goal.returns-in_ok-told-in-Enumeration-clause-kept
 returns-in_ok-told-in-Enumeration-clause-kept c =

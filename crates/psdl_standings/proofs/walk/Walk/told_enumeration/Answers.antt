@@ -6,6 +6,6 @@ use Rattle.psdl_standings.proofs.Toldly.{told_added}
 use Rattle.psdl_standings.proofs.walk.Walk.told_enumeration.Goals as goal
 
 pub returns : goal.returns
-returns c =
+returns c = λ number.
     let e = identifiers_view c.args.enumerators.now in
-    told_added c.args.self.now c.add.new.self c.args.number (IsEnumeration e) (Enum (map (λ i. i.name) (all_identifiers e))) c.in_ok-added.added c.told_type.result c.in_ok-added.ensures refl c.told_type.ensures.is c.told_type.ensures.there refl
+    told_added c.args.self.now c.add.new.self number (IsEnumeration e) (Enum (map (λ i. i.name) (all_identifiers e))) c.in_ok-added.added c.told_type.result c.in_ok-added.ensures refl c.told_type.ensures.is c.told_type.ensures.there refl

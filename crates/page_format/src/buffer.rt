@@ -25,7 +25,7 @@ impl Model for Buffer {
 }
 
 impl Buffer {
-    /// No octets, and room for so many.
+    /// No octets, and room for so many. `NoMemory`: there was none.
     pub fn of_size(alloc: Global, size: usize) -> Result<Buffer, NoMemory>
         ensures { IfOk result (λ buffer. buffer ≡ record { size = size; octets = [] }) }
     {

@@ -10,7 +10,7 @@ use crate::slots::Slots;
 use pss_base::NoMemory;
 use std::alloc::Global;
 
-/// The least slots that are none of these, so many.
+/// The least slots that are none of these, so many. `NoMemory`: there was no room for them or for the flags.
 pub fn free_slots(alloc: Global, slots: &[u32], count: usize) -> Result<Slots, NoMemory>
     requires { length slots.now + count ≤ 16384 }
     ensures { IfOk result (λ free. AreLeastFree slots.now count free) }

@@ -7,7 +7,7 @@ use crate::layout::SLOTS;
 use pss_base::NoMemory;
 use std::alloc::Global;
 
-/// So many flags, none of them set.
+/// So many flags, none of them set. `NoMemory`: there was no room for them.
 pub fn flags(alloc: Global, count: usize) -> Result<Vec<bool>, NoMemory>
     ensures len { IfOk result (λ flags. length flags.items ≡ count) }
     ensures none { IfOk result (λ flags. (k : ℕ) → slice_index_or flags.items k false ≡ false) }

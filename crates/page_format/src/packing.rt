@@ -128,7 +128,7 @@ fn first_serial(puts: &[Put]) -> Option<u64> {
     }
 }
 
-/// Packs the entries that changes leave into pages.
+/// Packs the entries that changes leave into pages. `NoMemory`: there was no room for the list.
 pub fn pack(alloc: Global, puts: &[Put]) -> Result<Vec<Entries<'_>>, NoMemory>
     requires { AreStorable (entries_left puts.now) }
     ensures packed { IfOk result (λ pages. IsPacking (entries_left puts.now) pages.items) }

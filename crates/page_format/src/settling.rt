@@ -195,6 +195,7 @@ fn settle_anew(alloc: Global, mut changes: Vec<Put>) -> Result<Vec<Put>, NoMemor
 }
 
 /// What changes, made one after the other, leave of objects, by rising serial. Where they stand so already, none is moved.
+/// `NoMemory`: there was no room to sort them or for those that are left, and all are gone.
 pub fn settle(alloc: Global, changes: Vec<Put>) -> Result<Vec<Put>, NoMemory>
     requires { All IsRightPut changes.items }
     ensures settled { IfOk result (λ settled. entries_left settled.items ≡ entries_of (entries (over empty changes.items))) }

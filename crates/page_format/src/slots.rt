@@ -29,7 +29,7 @@ impl Slots {
         }
     }
 
-    /// None, to which so many are to be added.
+    /// None, to which so many are to be added. `NoMemory`: there was no room for them.
     pub fn with_room(alloc: Global, len: usize) -> Result<Slots, NoMemory>
         ensures { IfOk result (λ slots. slots ≡ []) }
     {
@@ -47,7 +47,7 @@ impl Slots {
         Ok(())
     }
 
-    /// The same slots once more.
+    /// The same slots once more. `NoMemory`: there was no room for the copy.
     pub fn copy(&self) -> Result<Slots, NoMemory>
         ensures { IfOk result (λ copy. copy ≡ self.now) }
     {

@@ -69,7 +69,7 @@ impl<'a> Directory<'a> {
         })
     }
 
-    /// The declarations of a tree.
+    /// The declarations of a tree. `NoMemory`: there was no room for their tables.
     pub fn new(alloc: Global, tree: &'a Tree) -> Result<Directory<'a>, NoMemory>
         ensures { IfOk result (λ d. all_of d ≡ all_declarations (tree_view tree.now)) }
     {
@@ -136,7 +136,7 @@ impl<'a> Directory<'a> {
         }
     }
 
-    /// The names of the modules round a declaration, the innermost first.
+    /// The names of the modules round a declaration, the innermost first. `NoMemory`: there was no room for the list.
     pub fn modules(&self, alloc: Global, number: DeclarationNo) -> Result<Vec<&'a [u8]>, NoMemory>
         ensures { IfOk result (λ names. map (λ n. n.now) names.items ≡ (at (all_of self.now) number).path) }
     {

@@ -227,7 +227,7 @@ fn header_of(
     })
 }
 
-/// The headers of all declarations, in their order.
+/// The headers of all declarations, in their order. `NoMemory`: there was no room for them.
 pub fn headers_of(alloc: Global, directory: &Directory<'_>) -> Result<Vec<Header>, NoMemory>
     ensures { IfOk result (λ v. v.items ≡ headers (all_of directory.now)) }
 {

@@ -15,7 +15,7 @@ pub enum Spelling {
     Lower,
 }
 
-/// A name with its letters small.
+/// A name with its letters small. `NoMemory`: there was no room for it.
 pub fn in_small_letters(alloc: Global, name: &[u8]) -> Result<Vec<u8>, NoMemory>
     ensures { IfOk result (λ v. v.items ≡ lower name.now) }
 {
@@ -28,7 +28,7 @@ impl Spelling {
     ghost use Rattle.std.specs.Prelude.{◌≡◌, Some, IfOk};
     ghost use Rattle.psdl_directory.specs.Spelled.{number_of, Keeps, spelled_by};
 
-    /// Notes a name by what it is compared. Answers its number.
+    /// Notes a name by what it is compared. Answers its number. What was noted keeps its number, also without memory.
     pub fn note(
         self,
         alloc: Global,
@@ -48,6 +48,7 @@ impl Spelling {
     }
 
     /// The number of a name by what it is compared, where that was noted.
+    /// `NoMemory`: there was no room for the name in small letters.
     pub fn number(
         self,
         alloc: Global,

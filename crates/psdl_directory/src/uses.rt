@@ -52,6 +52,7 @@ fn means_alike(
 }
 
 /// A name in the scope of a declaration, with what it means of the first so many declarations.
+/// `NoMemory`: there was no room for the name in small letters.
 pub fn resolve(
     alloc: Global,
     directory: &Directory<'_>,

@@ -72,7 +72,7 @@ impl<'l, 'd> Conformity<'l, 'd> {
     ghost use Rattle.psdl_lineage.specs.Descent as descent;
     ghost use Rattle.psdl_lineage.specs.Lineages.{text_of, asked_of};
 
-    /// Asks about the definitions of a text.
+    /// Asks about the definitions of a text. `NoMemory`: there was no room for a mark for each.
     pub fn new(alloc: Global, lineage: &'l Lineage<'l, 'd>) -> Result<Conformity<'l, 'd>, NoMemory>
         ensures { IfOk result (λ c. asked_of c ≡ text_of lineage.now) }
     {

@@ -57,6 +57,7 @@ impl<'l, 'd> Lineage<'l, 'd> {
     }
 
     /// The lineage of a text, by what the names in its headers mean.
+    /// `NoMemory`: there was no room for the graph and its lists.
     pub fn new(
         alloc: Global,
         directory: &'l Directory<'d>,

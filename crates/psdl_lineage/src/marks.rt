@@ -25,7 +25,7 @@ impl Model for Marks {
 }
 
 impl Marks {
-    /// So many, none of them marked.
+    /// So many, none of them marked. `NoMemory`: there was no room for them.
     pub fn new(alloc: Global, count: usize) -> Result<Marks, NoMemory>
         ensures { IfOk result (λ marks. marks ≡ replicate count false) }
     {

@@ -50,6 +50,7 @@ impl<'l> Sources<'l> {
     ghost use Rattle.psdl_lineage.specs.Sources.{sources_in};
 
     /// By which declarations have something of their own, in order.
+    /// `NoMemory`: there was no room for the lists, and `own` is gone.
     pub fn new(alloc: Global, lineage: &'l Lineage, own: Vec<bool>) -> Result<Sources<'l>, NoMemory>
         ensures graph { IfOk result (λ s. s.graph ≡ graph_of (text_of lineage.now)) }
         ensures own { IfOk result (λ s. s.own ≡ own.items) }
@@ -65,7 +66,8 @@ impl<'l> Sources<'l> {
         })
     }
 
-    /// The sources of a declaration, in the order of its lines, itself last where it is one.
+    /// The sources of a declaration, in the order of its lines, itself last where it is one. Without memory the next question
+    /// is answered as ever.
     #[tactic(auto, using(crate::proofs::Past::by_past))]
     pub fn of(
         &mut self,

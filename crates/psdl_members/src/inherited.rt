@@ -64,7 +64,7 @@ impl<'l, 'd> Inherited<'l, 'd> {
         })
     }
 
-    /// By the lineage of a text.
+    /// By the lineage of a text. `NoMemory`: there was no room for the lists of what its declarations have.
     pub fn new(alloc: Global, lineage: &'l Lineage<'l, 'd>) -> Result<Inherited<'l, 'd>, NoMemory>
         ensures { IfOk result (λ i. inherited_in i ≡ text_of lineage.now) }
     {
@@ -72,7 +72,8 @@ impl<'l, 'd> Inherited<'l, 'd> {
         Inherited::with_own(alloc, lineage, own)
     }
 
-    /// The members of a type: those of what it descends from, in that order, then its own.
+    /// The members of a type: those of what it descends from, in that order, then its own. Without memory the next question
+    /// is answered as ever.
     pub fn members(
         &mut self,
         alloc: Global,
@@ -126,7 +127,7 @@ impl<'l, 'd> Inherited<'l, 'd> {
     }
 
     /// Whether a type has two members, or a home two keys or two factories, that clash: their names are equal but for case
-    /// and, of keys and factories, their lists differ.
+    /// and, of keys and factories, their lists differ. Without memory the next question is answered as ever.
     pub fn has_clash(
         &mut self,
         alloc: Global,

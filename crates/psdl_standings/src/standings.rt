@@ -73,6 +73,7 @@ impl<'l, 'd> Standings<'l, 'd> {
     }
 
     /// The standings of a text, by what the names in its headers mean. All declarations of a tree are in turn.
+    /// `NoMemory`: there was no room for them and their types.
     pub fn new(
         alloc: Global,
         directory: &'l Directory<'d>,
@@ -112,7 +113,7 @@ impl<'l, 'd> Standings<'l, 'd> {
         }
     }
 
-    /// Which of the first so many declarations have states in their bodies.
+    /// Which of the first so many declarations have states in their bodies. `NoMemory`: there was no room for the list.
     pub fn stated(&self, alloc: Global, count: usize) -> Result<Vec<bool>, NoMemory>
         ensures { IfOk result (λ v. v.items ≡ flags (text_of self.now) count) }
     {
@@ -124,7 +125,7 @@ impl<'l, 'd> Standings<'l, 'd> {
         Ok(flags)
     }
 
-    /// The types of the states in these bodies, in order.
+    /// The types of the states in these bodies, in order. `NoMemory`: there was no room for the list.
     pub fn kept_in(
         &self,
         alloc: Global,

@@ -258,7 +258,7 @@ impl<'a> Types<'a> {
         &self.nodes[number]
     }
 
-    /// The type with that number.
+    /// The type with that number. `NoMemory`: there was no room for it.
     #[cycle(build)]
     pub fn build(&self, alloc: Global, number: usize) -> Result<Ty, NoMemory>
         requires number { number < length self.now }

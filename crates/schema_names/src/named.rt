@@ -180,7 +180,7 @@ impl NamedSchema {
     }
 
     /// The numbers of the members that the caller of a home's factory gives. None: the home is not there, or has no factory of
-    /// this name.
+    /// this name. `NoMemory`: there was no room for the numbers.
     pub fn factory_members(
         &self,
         alloc: Global,

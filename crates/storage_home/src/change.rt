@@ -101,7 +101,7 @@ impl Changes {
         }
     }
 
-    /// None, to which so many are to be added.
+    /// None, to which so many are to be added. `NoMemory`: there was no room for them.
     pub fn with_room(alloc: Global, count: usize) -> Result<Changes, NoMemory>
         ensures { IfOk result (λ changes. changes ≡ []) }
     {

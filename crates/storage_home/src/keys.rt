@@ -14,6 +14,7 @@ use type_layout::{HomeNo, KeyNo, Record, Schema, key_of, keys_at};
 
 /// The keys of a home, in its order, with the bytes that an object's record, in these octets, gives each. The octets
 /// are walked over once for all keys. Most homes have none, and then the octets are not looked at.
+/// `NoMemory`: there was no room for the list or for some key's bytes.
 pub fn keys_of_octets(
     alloc: Global,
     schema: &Schema,
@@ -50,6 +51,7 @@ fn keys_by_places(
 }
 
 /// The keys of a home, in its order, with the bytes that these values of an object give each.
+/// `NoMemory`: there was no room for the list or for some key's bytes.
 #[inline(always)]
 pub fn keys_of_record(
     alloc: Global,

@@ -22,6 +22,8 @@ impl Homes {
     /// Each of these homes waits with its next serial; the least of them is taken, again and again. So it takes time in the
     /// answer and in the homes, times a logarithm. Serials that are reserved and have no object are passed over: a
     /// commit reserves some just before it is applied.
+    ///
+    /// `NoMemory`: there was no room for the list or for the homes that wait.
     pub fn first(&self, home: HomeNo, n: u32) -> Result<Pids, NoMemory>
         ensures { IfOk result (λ pids. Keeping self.now (λ S M. pids ≡ take n (pids_where (is_of S home) M))) }
     {

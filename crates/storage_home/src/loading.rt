@@ -26,6 +26,8 @@ impl Homes {
     /// The objects of these rows, in any order. Each row has a record of the layout of a home of the schema; no two
     /// have one serial, and no key is held twice; and the sum over them of 16 and the length of the record is at most
     /// 2^64 - 1. It takes time in the octets for each key of a row's home.
+    ///
+    /// `NoMemory`: there was no room for the homes, and the rows are gone.
     pub fn from_rows(alloc: Global, schema: &Schema, rows: Puts) -> Result<Homes, NoMemory>
         requires sound { IsSoundSchema schema.now }
         requires rows { MayLoad schema.now rows }

@@ -38,7 +38,7 @@ impl Model for DeclaredFactories {
 }
 
 impl DeclaredFactories {
-    /// The factories, with a table of their names.
+    /// The factories, with a table of their names. `NoMemory`: there was no room for the table, and the factories are gone.
     pub fn new(
         alloc: Global,
         factories: Vec<DeclaredFactory>,

@@ -152,7 +152,7 @@ impl HeldFactories {
         HeldFactories { graph, place }
     }
 
-    /// Those of a home that derives from nothing.
+    /// Those of a home that derives from nothing. `NoMemory`: there was no room for their graph, and they are gone.
     pub fn alone(alloc: Global, declared: DeclaredFactories) -> Result<HeldFactories, NoMemory>
         ensures { IfOk result (λ held. held ≡ declared) }
     {

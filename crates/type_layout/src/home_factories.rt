@@ -50,6 +50,7 @@ impl Factories {
     }
 
     /// The numbers of the members that the caller of a factory gives. None: there is no factory of this name.
+    /// `NoMemory`: there was no room for the numbers.
     pub fn members_of(&self, alloc: Global, word: &[u8]) -> Result<Option<Indexes>, NoMemory>
         ensures { IfOk result (λ found. found ≡ option_map (λ f. f.members) (find (λ f. bytes_eq word.now f.name) self.now)) }
     {

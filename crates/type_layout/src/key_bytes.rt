@@ -18,6 +18,8 @@ use std::alloc::Global;
 /// order, without padding. Numbers, characters and booleans stand in their width, big-endian; an
 /// enumerator in four octets; a string behind its number of bytes in four octets. Two records have
 /// the same bytes exactly where these members have the same values. This form is the project's own.
+///
+/// `NoMemory`: there was no room for the bytes.
 pub fn key_of(alloc: Global, schema: &Schema, key: KeyNo, value: &Record) -> Result<Bytes, NoMemory>
     requires sound { IsSoundSchema schema.now }
     requires of { IsRecordWith schema.now key value.now }
@@ -38,7 +40,7 @@ pub fn key_of(alloc: Global, schema: &Schema, key: KeyNo, value: &Record) -> Res
 }
 
 /// The bytes of a key whose members have these values, in the key's order: those that `key_of` gives of
-/// a record in which they have them (`key_values_tell`).
+/// a record in which they have them (`key_values_tell`). `NoMemory`: there was no room for the bytes.
 pub fn key_of_values(
     alloc: Global,
     schema: &Schema,

@@ -32,6 +32,7 @@ impl Model for PlacedNames {
 
 impl PlacedNames {
     /// The names, with a table of their places where they are many.
+    /// `NoMemory`: there was no room for the table, and the names are gone.
     pub fn new(alloc: Global, names: Names) -> Result<PlacedNames, NoMemory>
         ensures { IfOk result (λ p. p ≡ names) }
     {

@@ -12,7 +12,7 @@ use pss_base::{Bytes, NoMemory};
 use std::alloc::Global;
 
 /// The shape text: what a store of the schema keeps, a line for each home, member and key in order.
-/// The text is the project's own.
+/// The text is the project's own. `NoMemory`: there was no room for it.
 pub fn shape_of(alloc: Global, schema: &Schema) -> Result<Bytes, NoMemory>
     ensures { IfOk result (λ text. text ≡ shape_text schema.now) }
 {

@@ -76,7 +76,7 @@ impl Values {
         }
     }
 
-    /// None, to which so many are to be added.
+    /// None, to which so many are to be added. `NoMemory`: there was no room for them.
     pub fn with_room(alloc: Global, count: usize) -> Result<Values, NoMemory>
         ensures { IfOk result (λ values. plain_values values ≡ []) }
     {

@@ -144,11 +144,11 @@ module _ {old new : Parts} {k : Kept} {d : Decision} {acting : Acting} {asked : 
   may = may_name (any_taken t) new left
 
   abbrev seat : MaySeat new acting n None
-  seat = may_seat_named may refl n n named refl
+  seat = may_seat_named may refl n named
 
   named_done : IsNamedNow may new
   named_done =
-      named_way may refl n n named refl new
+      named_way may refl n named new
       (seated_now seat new refl refl refl (attached seat.on.now acting.session n seat.can.entry seat.can.there (attached_here seat are new.attended.copies refl values (sym stands)) seat.on.way.attended))
 
   seated : AreSeated (any_taken t) None new

@@ -1,5 +1,5 @@
 -- Entries that a step may seat: the one that it names, and that of what it found.
-use Rattle.std.proofs.Common.{arith, ◌≡◌, ℕ, true, false, List, [], Option, Some, None, refl, sym, ap, ◌∙◌, subst, inl, inr}
+use Rattle.std.proofs.Common.{◌≡◌, ℕ, true, false, List, [], Option, Some, None, refl, sym, ap, ◌∙◌, subst, inl, inr}
 use Rattle.std.specs.Prelude.{◌⊎◌, IsSomeAnd, IfSome, unwrap_or}
 use Rattle.std.specs.Option.{option_map}
 use Rattle.std.specs.FinMap.{get}
@@ -30,7 +30,7 @@ use Rattle.data_calls.specs.Finishing.{made_in}
 use Rattle.data_calls.proofs.Alike.{Alike, alike_in_all}
 use Rattle.data_calls.proofs.Actors.{acts_with}
 use Rattle.data_calls.proofs.Changes.{changes_old}
-use Rattle.data_calls.proofs.Entries.{numbered_most, orderly_reached, few_reached, left_same}
+use Rattle.data_calls.proofs.Entries.{left_same}
 use Rattle.data_calls.proofs.Steps.{OfMember, IsOnCopy, either}
 use Rattle.data_calls.proofs.Seen.{Sees, FoundSeen, followed_seen, found_after, made_there, named_after}
 use Rattle.data_calls.proofs.Outdating.{owner_after, view_after, outdates_where}
@@ -158,8 +158,6 @@ module _ {S : Schema} {limits : Limits} {k : Kept} {acting : Acting} {asked : As
       by (Some e) there fair =
           let f = alike_left.there n e there in
           record {
-            small = (let most = numbered_most n 0 (copies_of k acting.session).last (copies_of k acting.session).entries e (orderly_reached S limits k t.reached acting.session).numbers there in
-                let last = (few_reached k t.performed t.few acting.session).last in omega (arith, most, last, t.left));
             entry = f.0;
             there = f.1;
             seen = λ loose. seen e f.0 there fair f.1 f.2 loose (either S k.catalog t.is.owner (copies_of k acting.session) asked);

@@ -38,13 +38,13 @@ module _ {c : Parts} {acting : Acting} {entry : Option ℕ} {answer : PlainAnswe
       by false = m.on.way
 
   -- one is
-  abbrev pub may_seat_named : is_done answer ≡ true → (n named : ℕ) → entry ≡ Some named → n ≡ named → MaySeat c acting n None
-  may_seat_named done n named is same = record { on = m.on; can = m.can done n (is ∙ ap Some (sym same)); made_is = tt }
+  abbrev pub may_seat_named : is_done answer ≡ true → (n : ℕ) → entry ≡ Some n → MaySeat c acting n None
+  may_seat_named done n is = record { on = m.on; can = m.can done n is; made_is = tt }
 
-  pub named_way : is_done answer ≡ true → (n named : ℕ) → entry ≡ Some named → n ≡ named → (new : Parts) → IsOnWay m.on.schema m.on.limits new m.on.to (seated_at m.on.now acting.session n) → IsNamedNow m new
-  named_way done n named is same new way =
+  pub named_way : is_done answer ≡ true → (n : ℕ) → entry ≡ Some n → (new : Parts) → IsOnWay m.on.schema m.on.limits new m.on.to (seated_at m.on.now acting.session n) → IsNamedNow m new
+  named_way done n is new way =
       subst (λ (b : Bool). IsOnWay m.on.schema m.on.limits new m.on.to (if b then named_at m.on.now acting.session entry else m.on.now)) (sym done)
-      (subst (λ (o : Option ℕ). IsOnWay m.on.schema m.on.limits new m.on.to (named_at m.on.now acting.session o)) (sym (is ∙ ap Some (sym same))) way)
+      (subst (λ (o : Option ℕ). IsOnWay m.on.schema m.on.limits new m.on.to (named_at m.on.now acting.session o)) (sym is) way)
 
 -- ---- an object that is obtained
 
@@ -71,7 +71,7 @@ module _ {c : Parts} {acting : Acting} {p : Pid} {made : Option (List PlainValue
   pub number_left : HasNoEntry c.attended.copies acting.session p → IsSomeAnd (get c.attended.copies.lasts acting.session) (λ last. last < 2 ^ 32 - 1)
   number_left none = subst (λ (o : Option ℕ). IsSomeAnd o (λ last. last < 2 ^ 32 - 1)) (sym told.last) m.can.last
 
-  module _ (new : Parts) (n : ℕ) (schema : new.schema ≡ c.schema) (limited : new.limits ≡ c.limits) (accounts : new.accounts ≡ c.accounts) (is : IsObtainedIn m.on.now acting.session p n new.attended) (small : n < 2 ^ 32) where
+  module _ (new : Parts) (n : ℕ) (schema : new.schema ≡ c.schema) (limited : new.limits ≡ c.limits) (accounts : new.accounts ≡ c.accounts) (is : IsObtainedIn m.on.now acting.session p n new.attended) where
     entries_now : copies_of (obtained_at m.on.now acting.session p) acting.session ≡ obtained p (copies_of m.on.now acting.session)
     entries_now = ap (λ (o : Option Copies). unwrap_or o no_copies) (with_here m.on.now.copies acting.session.0 (obtained p) ∙ ap (option_map (obtained p)) before_there)
 
@@ -96,7 +96,7 @@ module _ {c : Parts} {acting : Acting} {p : Pid} {made : Option (List PlainValue
     abbrev pub may_seat_obtained : MaySeat new acting n made
     may_seat_obtained = record {
       on = record { schema = m.on.schema; limits = m.on.limits; to = m.on.to; now = obtained_at m.on.now acting.session p; way = way_now; is = m.on.is };
-      can = record { small = small; entry = entry_now.entry; there = entry_now.there; seen = λ loose. subst (IsSeen m.on.to acting m.on.is) (sym entry_now.object) m.can.seen };
+      can = record { entry = entry_now.entry; there = entry_now.there; seen = λ loose. subst (IsSeen m.on.to acting m.on.is) (sym entry_now.object) m.can.seen };
       made_is = subst (λ (q : Pid). IfSome made (HasValues m.on.to acting m.on.is q)) (sym entry_now.object) m.made_is;
     }
 

@@ -141,11 +141,3 @@ module _ (k : Kept) (a : Parts) (m : Meaning) (same : m ≡ a.copies) (are : Are
       none_there : (o : Option (List PlainValue)) → is_some o ≡ false → o ≡ None
       none_there None h = refl
       none_there (Some values) h = absurd (cc)
-
--- no entry has so high a number
-pub none_high : (c : Held) (k : Kept) → IsAt c k → (s : SessionNo) (n : ℕ) → 2 ^ 32 ≤ n → copied_values (copies_of k s) (Some n) ≡ None
-none_high c k at s n high = (let is = numbers_left c k at s n high in rw is refl)
-
-pub if_none : (b : Bool) (o : Option (List PlainValue)) → o ≡ None → None ≡ (if b then o else None)
-if_none true o is = sym is
-if_none false o is = refl

@@ -93,7 +93,6 @@ HasValues to acting is p values = Some values ≡ option_map (λ (object : Objec
 
 -- an entry is there whose object the owner sees, unless it stands on a body already
 pub record CanSeat (to now : Kept) (acting : Acting) (is : IsActing to acting) (n : ℕ) : Type 0 where
-  pub small : n < 2 ^ 32
   pub entry : Entry
   pub there : entry_numbered (copies_of now acting.session) n ≡ Some entry
   pub seen : is_attached entry ≡ false → IsSeen to acting is entry.pid

@@ -30,7 +30,7 @@ pub fn set<L: Ledger>(
     match acts_in(parts, name.as_slice()) {
         Ok(acting) => {
             let entry = named(parts, acting, entry);
-            let asked = asking(parts, acting).set(&entry, member.as_slice(), value);
+            let asked = asking(parts, acting).set(entry, member.as_slice(), value);
             ask(parts, acting, asked, steps)
         }
         Err(reply) => Ok(reply),
@@ -50,7 +50,7 @@ pub fn destroy<L: Ledger>(
     match acts_in(parts, name.as_slice()) {
         Ok(acting) => {
             let entry = named(parts, acting, entry);
-            let asked = asking(parts, acting).destroy(&entry);
+            let asked = asking(parts, acting).destroy(entry);
             ask(parts, acting, asked, steps)
         }
         Err(reply) => Ok(reply),

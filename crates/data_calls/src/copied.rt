@@ -14,7 +14,7 @@ ghost use Rattle.data_calls.specs.Copied.{told_as, copy_tells};
 
 use crate::acting::Acting;
 use crate::looking::value_in;
-use connector_parts::{Parts, entry_number};
+use connector_parts::Parts;
 use pss_asking::Asked;
 use pss_base::{NoMemory, Pid, SessionNo};
 use pss_machine::{Answer, Op, View};
@@ -49,16 +49,13 @@ fn copy_of(parts: &Parts, session: SessionNo, number: u32) -> Option<&Record>
 }
 
 // The values of the own copy of the session on which an entry stands.
-fn copied(parts: &Parts, acting: Acting, entry: Option<u64>) -> Option<&Record>
+fn copied(parts: &Parts, acting: Acting, entry: Option<u32>) -> Option<&Record>
     ensures { (k : Kept) → IsAt parts.now k → option_copied result ≡ (if acting.basic then copied_values (copies_of k acting.session) entry else None) }
 {
     if !acting.basic {
         return None;
     }
-    let Some(entry) = entry else {
-        return None;
-    };
-    match entry_number(entry) {
+    match entry {
         Some(number) => copy_of(parts, acting.session, number),
         None => None,
     }

@@ -11,7 +11,7 @@ ghost use Rattle.type_layout.specs.Types.{Ref};
 ghost use Rattle.data_calls.specs.Copied.{MayAct, IsRead, IsLed};
 
 use crate::acting::Acting;
-use connector_parts::{Parts, entry_number};
+use connector_parts::Parts;
 use pss_asking::Asked;
 use pss_base::{NoMemory, Pid, SessionNo};
 use pss_machine::Op;
@@ -34,16 +34,13 @@ pub struct Followed {
 
 /// The values of the body on which an entry of the session stands.
 #[inline(always)]
-pub fn values_of(parts: &Parts, session: SessionNo, entry: Option<u64>) -> Option<&Record>
+pub fn values_of(parts: &Parts, session: SessionNo, entry: Option<u32>) -> Option<&Record>
     ensures hold { AreCopies parts.now.attended.copies }
     ensures values { IfSome (option_copied result) (λ values. IsSomeAnd entry (λ n. option_and_then (get parts.now.attended.copies.bodies) (body_under parts.now.attended.copies (slot session n)) ≡ Some values)) }
 {
     let copies = parts.attended.copies();
     copies.copies_hold();
-    let Some(entry) = entry else {
-        return None;
-    };
-    match entry_number(entry) {
+    match entry {
         Some(number) => copies.value(session, number),
         None => None,
     }

@@ -6,7 +6,7 @@ ghost use Rattle.data_calls.specs.Ways.{MayObtain, MayName, MayFind, IsObtainedN
 
 use crate::acting::Acting;
 use crate::seating::seat;
-use connector_parts::{Parts, entry_number};
+use connector_parts::Parts;
 use pss_base::{NoMemory, Pid};
 use pss_machine::Answer;
 use type_layout::Record;
@@ -27,7 +27,7 @@ fn is_done(answer: &Answer) -> bool
 pub fn seat_named(
     parts: &mut Parts,
     acting: Acting,
-    entry: Option<u64>,
+    entry: Option<u32>,
     answer: &Answer,
 ) -> Result<(), NoMemory>
     requires { MayName parts.old acting entry (plain_answer answer.now) }
@@ -36,12 +36,9 @@ pub fn seat_named(
     if !is_done(answer) {
         return Ok(());
     }
-    let Some(entry) = entry else {
-        return Ok(());
-    };
-    match entry_number(entry) {
+    match entry {
         Some(number) => seat(parts, acting, number, None),
-        None => unreachable!(),
+        None => Ok(()),
     }
 }
 

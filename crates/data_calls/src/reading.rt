@@ -25,7 +25,7 @@ pub fn exists<L: Ledger>(
     match acts_in(parts, name.as_slice()) {
         Ok(acting) => {
             let entry = named(parts, acting, entry);
-            let asked = asking(parts, acting).exists(&entry);
+            let asked = asking(parts, acting).exists(entry);
             ask(parts, acting, asked, steps)
         }
         Err(reply) => Ok(reply),
@@ -46,7 +46,7 @@ pub fn get<L: Ledger>(
     match acts_in(parts, name.as_slice()) {
         Ok(acting) => {
             let entry = named(parts, acting, entry);
-            let asked = asking(parts, acting).get(&entry, member.as_slice());
+            let asked = asking(parts, acting).get(entry, member.as_slice());
             ask(parts, acting, asked, steps)
         }
         Err(reply) => Ok(reply),
@@ -68,7 +68,7 @@ pub fn follow<L: Ledger>(
     match acts_in(parts, name.as_slice()) {
         Ok(acting) => {
             let entry = named(parts, acting, entry);
-            let asked = asking(parts, acting).follow(&entry, member.as_slice());
+            let asked = asking(parts, acting).follow(entry, member.as_slice());
             ask(parts, acting, asked, steps)
         }
         Err(reply) => Ok(reply),

@@ -10,7 +10,7 @@ ghost use Rattle.data_calls.specs.Acting.{IsActing};
 ghost use Rattle.data_calls.specs.Ways.{IsOnWay, HasValues, MaySee, MaySeat, IsLoose};
 
 use crate::acting::Acting;
-use connector_parts::{Parts, entry_number};
+use connector_parts::Parts;
 use pss_base::{NoMemory, Pid};
 use pss_machine::View;
 use type_layout::Record;

@@ -1,14 +1,13 @@
 -- What the answers of calls tell of what a command asks.
-use Rattle.std.specs.Prelude.{ℕ, ◌≡◌, List, Result, Ok, Err}
+use Rattle.std.specs.Prelude.{ℕ, ◌≡◌, List, Option, Result, Ok, Err}
 use Rattle.std.specs.Option.{option_map}
-use Rattle.pss_base.specs.declared.pid.Pid.{Pid}
 use Rattle.type_layout.specs.declared.schema.Schema.{Schema}
 use Rattle.type_layout.specs.Members.{plain_member}
 use Rattle.pss_machine.specs.declared.command.Rest.{Rest}
 use Rattle.pss_machine.specs.declared.reply.Reply.{Reply}
 use Rattle.pss_machine.specs.declared.reply.Reply.TheVariants as reply
 use Rattle.pss_machine.specs.Operations.{PlainOp, plain_op}
-use Rattle.pss_machine.specs.Asking.{Asked as PlainAsked, Place as PlainPlace, ◌>>=◌, read_entry, finding}
+use Rattle.pss_machine.specs.Asking.{Asked as PlainAsked, Place as PlainPlace, ◌>>=◌, finding}
 use Rattle.pss_machine.specs.Copies.{Copies, entry_numbered}
 use Rattle.pss_asking.specs.declared.asked.Asked.{Asked}
 use Rattle.pss_asking.specs.declared.asked.Named.{Named}
@@ -47,14 +46,10 @@ Tells view (Err fault) told = Refuses fault told
 abbrev pub plain_place : Place → PlainPlace
 plain_place place = record { number = place.number; member = plain_member place.member.now }
 
--- the object of an entry
-abbrev pub pid_in : Copies → ℕ → Result Pid Reply
-pid_in copies n = read_entry copies n >>= λ e. Ok e.pid
-
 -- what is asked of the object that holds a key
 abbrev pub finding_to : (PlainOp → PlainAsked) → Schema → List ℕ → List ℕ → Rest → Result PlainAsked Reply
 finding_to f S home key rest = finding S home key rest >>= λ op. Ok (f op)
 
--- the session has an entry with this number for this object, or none with this number
-abbrev pub IsNamed : Copies → Named → Type 0
-IsNamed copies named = option_map (λ e. e.pid) (entry_numbered copies named.number) ≡ named.pid
+-- the session's entry of a number, where it has one, as a command names it
+abbrev pub entry_named : Copies → ℕ → Option Named
+entry_named copies n = option_map (λ e. record { number = n; pid = e.pid }) (entry_numbered copies n)

@@ -10,15 +10,15 @@ use pss_machine::Op;
 #[derive(Drop)]
 pub struct Asked {
     pub op: Op,
-    pub entry: Option<u64>,
+    pub entry: Option<u32>,
     pub obtains: bool,
 }
 
-/// The number of an entry in a command, and the object that the session's entry of this number is for, where it has one.
+/// An entry of the session that a command names: its number, and the object that it is for.
 #[derive(Clone, Copy, Debug, PartialEq, Eq, Drop)]
 pub struct Named {
-    pub number: u64,
-    pub pid: Option<Pid>,
+    pub number: u32,
+    pub pid: Pid,
 }
 
 /// Why the words of a command ask nothing.

@@ -1,5 +1,5 @@
 // What each data command asks.
-ghost use Rattle.std.specs.Prelude.{◌≡◌, ◌+◌, ◌<◌, ◌^◌, length, ok_or};
+ghost use Rattle.std.specs.Prelude.{ℕ, ◌≡◌, ◌+◌, ◌<◌, ◌^◌, length, ok_or};
 ghost use Rattle.pss_asking.specs.Given.{members_given, making_of};
 ghost use Rattle.type_layout.specs.Views.{plain_values};
 ghost use Rattle.type_layout.specs.Keys.{key_members};
@@ -10,11 +10,11 @@ ghost use Rattle.pss_machine.specs.Asking.{obtaining as obtains, only as only_as
 ghost use Rattle.pss_machine.specs.Values.{types_of};
 ghost use Rattle.pss_machine.specs.Names.{factory_named, key_named};
 ghost use Rattle.pss_machine.specs.declared.reply.Reply.TheVariants as reply;
-ghost use Rattle.pss_asking.specs.Telling.{Tells, IsNamed, plain_asked, finding_to};
+ghost use Rattle.pss_asking.specs.Telling.{Tells, entry_named, plain_asked, finding_to};
 
 use crate::asked::{AskFault, Asked, Named, Refusal};
 use crate::making::made;
-use crate::naming::{home_called, is_reference, member_called, object_of, only_reads};
+use crate::naming::{entry_called, home_called, is_reference, member_called, only_reads};
 use crate::reading::{read_chosen, read_members, read_one};
 use pss_machine::{Access, Op, Rest};
 use schema_names::NamedSchema;
@@ -56,7 +56,7 @@ fn only(op: Op) -> Asked
 }
 
 // The entry of this number is named.
-fn by_entry(number: u64, op: Op) -> Asked
+fn by_entry(number: u32, op: Op) -> Asked
     ensures { plain_asked result ≡ names_entry number (plain_op op) }
 {
     Asked {
@@ -187,28 +187,33 @@ impl Asking<'_> {
     }
 
     /// `exists`: whether the object of an entry is there.
-    pub fn exists(&self, named: &Named) -> Result<Asked, AskFault>
-        ensures { (copies : Copies) → IsNamed copies named.now → Tells plain_asked result (asking_whether copies named.now.number) }
+    pub fn exists(&self, named: Option<Named>) -> Result<Asked, AskFault>
+        ensures { (copies : Copies) (n : ℕ) → named ≡ entry_named copies n → Tells plain_asked result (asking_whether copies n) }
     {
-        let pid = object_of(named)?;
+        let pid = entry_called(named)?.pid;
         Ok(only(Op::Exists { pid }))
     }
 
     /// `get`: the value of a member of an entry's object.
-    pub fn get(&self, named: &Named, member: &[u8]) -> Result<Asked, AskFault>
-        ensures { (copies : Copies) → IsNamed copies named.now → Tells plain_asked result (getting self.now.names.now copies named.now.number member.now) }
+    pub fn get(&self, named: Option<Named>, member: &[u8]) -> Result<Asked, AskFault>
+        ensures { (copies : Copies) (n : ℕ) → named ≡ entry_named copies n → Tells plain_asked result (getting self.now.names.now copies n member.now) }
     {
-        let pid = object_of(named)?;
+        let Named { number, pid } = entry_called(named)?;
         let member = member_called(self.names, pid, member)?.number;
-        Ok(by_entry(named.number, Op::Get { pid, member }))
+        Ok(by_entry(number, Op::Get { pid, member }))
     }
 
     /// `set`: a member of an entry's object is to have a value.
-    pub fn set(&self, named: &Named, member: &[u8], value: &Rest<'_>) -> Result<Asked, AskFault>
+    pub fn set(
+        &self,
+        named: Option<Named>,
+        member: &[u8],
+        value: &Rest<'_>,
+    ) -> Result<Asked, AskFault>
         requires { value.now.column + length value.now.text < 2 ^ 32 }
-        ensures { (session : Session) (copies : Copies) → session.access ≡ self.now.access → IsNamed copies named.now → Tells plain_asked result (setting self.now.names.now session copies named.now.number member.now value.now) }
+        ensures { (session : Session) (copies : Copies) (n : ℕ) → session.access ≡ self.now.access → named ≡ entry_named copies n → Tells plain_asked result (setting self.now.names.now session copies n member.now value.now) }
     {
-        let pid = object_of(named)?;
+        let Named { number, pid } = entry_called(named)?;
         let place = member_called(self.names, pid, member)?;
         let value = read_one(self.alloc, place.member, value)?;
         if only_reads(self.access) {
@@ -218,7 +223,7 @@ impl Asking<'_> {
             return Err(AskFault::Refused(Refusal::ReadOnly));
         }
         Ok(by_entry(
-            named.number,
+            number,
             Op::Set {
                 pid,
                 member: place.number,
@@ -228,10 +233,10 @@ impl Asking<'_> {
     }
 
     /// `destroy`: the object of an entry is to go.
-    pub fn destroy(&self, named: &Named) -> Result<Asked, AskFault>
-        ensures { (session : Session) (copies : Copies) → session.access ≡ self.now.access → IsNamed copies named.now → Tells plain_asked result (destroying session copies named.now.number) }
+    pub fn destroy(&self, named: Option<Named>) -> Result<Asked, AskFault>
+        ensures { (session : Session) (copies : Copies) (n : ℕ) → session.access ≡ self.now.access → named ≡ entry_named copies n → Tells plain_asked result (destroying session copies n) }
     {
-        let pid = object_of(named)?;
+        let pid = entry_called(named)?.pid;
         if only_reads(self.access) {
             return Err(AskFault::Refused(Refusal::ReadOnly));
         }
@@ -239,10 +244,10 @@ impl Asking<'_> {
     }
 
     /// `follow`: the object that a member of an entry's object refers to, to be obtained.
-    pub fn follow(&self, named: &Named, member: &[u8]) -> Result<Asked, AskFault>
-        ensures { (copies : Copies) → IsNamed copies named.now → Tells plain_asked result (following self.now.names.now copies named.now.number member.now) }
+    pub fn follow(&self, named: Option<Named>, member: &[u8]) -> Result<Asked, AskFault>
+        ensures { (copies : Copies) (n : ℕ) → named ≡ entry_named copies n → Tells plain_asked result (following self.now.names.now copies n member.now) }
     {
-        let pid = object_of(named)?;
+        let Named { number, pid } = entry_called(named)?;
         let place = member_called(self.names, pid, member)?;
         if !is_reference(&place.member.ty) {
             return Err(AskFault::Refused(Refusal::NotRef));
@@ -252,7 +257,7 @@ impl Asking<'_> {
                 pid,
                 member: place.number,
             },
-            entry: Some(named.number),
+            entry: Some(number),
             obtains: true,
         })
     }

@@ -1,10 +1,10 @@
 // What the words of a command name.
-ghost use Rattle.std.specs.Prelude.{◌≡◌};
+ghost use Rattle.std.specs.Prelude.{◌≡◌, ok_or};
 ghost use Rattle.pss_machine.specs.Sessions.{Session, is_read_only};
-ghost use Rattle.pss_machine.specs.Copies.{Copies};
 ghost use Rattle.pss_machine.specs.Asking.{read_home, read_member, is_reference as refers};
+ghost use Rattle.pss_machine.specs.declared.reply.Reply.TheVariants as reply;
 ghost use Rattle.type_layout.specs.Views.{plain_type};
-ghost use Rattle.pss_asking.specs.Telling.{Tells, IsNamed, plain_place, pid_in};
+ghost use Rattle.pss_asking.specs.Telling.{Tells, plain_place};
 
 use crate::asked::{AskFault, Named, Refusal};
 use pss_base::Pid;
@@ -29,12 +29,12 @@ pub fn home_called(names: &NamedSchema, word: &[u8]) -> Result<HomeNo, AskFault>
     }
 }
 
-/// The object of the entry that a command names.
-pub fn object_of(named: &Named) -> Result<Pid, AskFault>
-    ensures { (copies : Copies) → IsNamed copies named.now → Tells (λ pid. pid) result (pid_in copies named.now.number) }
+/// The entry that a command names, where the session has it.
+pub fn entry_called(named: Option<Named>) -> Result<Named, AskFault>
+    ensures { Tells (λ entry. entry) result (ok_or named reply.NoEntry) }
 {
-    match named.pid {
-        Some(pid) => Ok(pid),
+    match named {
+        Some(entry) => Ok(entry),
         None => Err(AskFault::Refused(Refusal::NoEntry)),
     }
 }

@@ -1,4 +1,4 @@
-use Rattle.std.proofs.Common.{arith, refl}
+use Rattle.std.proofs.Common.{refl}
 use Rattle.data_calls.proofs.Places.{session_there, has_room, count_left, number_left, may_seat_obtained, obtained_way}
 use Rattle.data_calls.proofs.obtaining.obtain.Goals as goal
 
@@ -8,9 +8,9 @@ obtain-requires c = record { session = session_there c.requires; room = has_room
 pub seat-requires : goal.seat-requires
 seat-requires c =
     let m = c.requires in
-    may_seat_obtained m _ c.in_ok-number.number refl refl refl (c.in_ok-number.ensures.ok m.on.now m.can.orderly m.on.way.attended) (omega arith)
+    may_seat_obtained m _ c.in_ok-number.number refl refl refl (c.in_ok-number.ensures.ok m.on.now m.can.orderly m.on.way.attended)
 
 pub returns : goal.returns
 returns c m =
     let is = c.in_ok-number.ensures.ok m.on.now m.can.orderly m.on.way.attended in
-    obtained_way m _ c.in_ok-number.number refl refl refl is (omega arith) _ (c.in_ok-seat.ensures (may_seat_obtained m _ c.in_ok-number.number refl refl refl is (omega arith)))
+    obtained_way m _ c.in_ok-number.number refl refl refl is _ (c.in_ok-seat.ensures (may_seat_obtained m _ c.in_ok-number.number refl refl refl is))

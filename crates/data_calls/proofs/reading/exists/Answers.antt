@@ -1,4 +1,4 @@
-use Rattle.std.proofs.Common.{refl, ap, subst}
+use Rattle.std.proofs.Common.{refl}
 use Rattle.std.specs.Prelude.{Result}
 use Rattle.pss_machine.specs.declared.command.Command.TheVariants as command
 use Rattle.pss_machine.specs.declared.reply.Reply.{Reply}
@@ -19,7 +19,7 @@ ask-requires g c =
     let named = named_as c.as_slice.result.now c.args.name.now c.as_slice.ensures (c.in-Ok.ensures k at) in
     any_asks c.args.parts.now k at c.args.name.now c.in-Ok.acting named (command.Exists c.args.name.now c.args.entry) (λ s session. asking_whether (copies_of k s) c.args.entry) (λ owners. refl)
     (whether_right c.args.parts.now.schema (copies_of k c.in-Ok.acting.session) c.args.entry) c.exists-asked.result
-    (subst (Tells plain_asked c.exists-asked.result) (ap (asking_whether (copies_of k c.in-Ok.acting.session)) c.named-entry.ensures.number) (c.exists-asked.ensures (copies_of k c.in-Ok.acting.session) (c.named-entry.ensures.object k at)))
+    (c.exists-asked.ensures (copies_of k c.in-Ok.acting.session) c.args.entry (c.named-entry.ensures k at))
 
 pub returns-in-Ok : goal.returns-in-Ok
 returns-in-Ok g c =
@@ -31,7 +31,7 @@ returns-in-Ok g c =
     let named = named_as c.as_slice.result.now c.args.name.now c.as_slice.ensures (c.in-Ok.ensures k at) in
     comes c.args.parts.now k at c.args.name.now c.in-Ok.acting named (command.Exists c.args.name.now c.args.entry) (λ s session. asking_whether (copies_of k s) c.args.entry) (λ owners. refl)
     (whether_right c.args.parts.now.schema (copies_of k c.in-Ok.acting.session) c.args.entry) c.exists-asked.result
-    (subst (Tells plain_asked c.exists-asked.result) (ap (asking_whether (copies_of k c.in-Ok.acting.session)) c.named-entry.ensures.number) (c.exists-asked.ensures (copies_of k c.in-Ok.acting.session) (c.named-entry.ensures.object k at))) reply c.ask.new.parts h)
+    (c.exists-asked.ensures (copies_of k c.in-Ok.acting.session) c.args.entry (c.named-entry.ensures k at)) reply c.ask.new.parts h)
     c.ask.ensures
 
 pub returns-in-Err : goal.returns-in-Err

@@ -1,6 +1,6 @@
 -- The values of a session's own copies, as the tables have them.
-use Rattle.std.proofs.Common.{◌≡◌, ℕ, ◌≤◌, ◌^◌, Bool, true, false, List, Option, Some, None, IsSome, refl, sym, ap, ◌∙◌, subst}
-use Rattle.std.specs.Prelude.{is_some, if◌then◌else◌}
+use Rattle.std.proofs.Common.{◌≡◌, ℕ, true, false, List, Option, Some, None, IsSome, refl, sym, ap, ◌∙◌, subst}
+use Rattle.std.specs.Prelude.{is_some}
 use Rattle.std.specs.Option.{option_map, option_and_then}
 use Rattle.std.specs.FinMap.{get}
 use Rattle.pss_base.specs.declared.pid.Pid.{Pid}
@@ -19,9 +19,6 @@ use Rattle.pss_copies.specs.declared.parts.Parts.{Parts}
 use Rattle.pss_copies.specs.Told.{stand_told, entry_told}
 use Rattle.pss_copies.specs.Seats.{Attends}
 use Rattle.pss_copies.proofs.Held.{told_at}
-use Rattle.connector_parts.specs.declared.parts.Parts.{Parts as Held}
-use Rattle.connector_parts.specs.Stands.{IsAt}
-use Rattle.connector_parts.proofs.Bounds.{numbers_left}
 use Rattle.data_calls.proofs.Own.{own_view, own_stands}
 
 module _ (k : Kept) (a : Parts) (are : AreCopies a.copies) (at : Attends k a) (s : SessionNo) (n : ℕ) where

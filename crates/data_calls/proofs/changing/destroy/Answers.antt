@@ -19,7 +19,7 @@ ask-requires g c =
     let named = named_as c.as_slice.result.now c.args.name.now c.as_slice.ensures (c.in-Ok.ensures k at) in
     any_asks c.args.parts.now k at c.args.name.now c.in-Ok.acting named (command.Destroy c.args.name.now c.args.entry) (λ s session. destroying session (copies_of k s) c.args.entry) (λ owners. refl)
     (destroying_right c.args.parts.now.schema (copies_of k c.in-Ok.acting.session) named.is.session c.args.entry) c.destroy-asked.result
-    (c.destroy-asked.ensures named.is.session (copies_of k c.in-Ok.acting.session) (named.is.access_is ∙ sym c.asking.ensures.access) c.args.entry (c.named-entry.ensures k at))
+    (c.destroy-asked.ensures named.is.session (copies_of k c.in-Ok.acting.session) c.args.entry (named.is.access_is ∙ sym c.asking.ensures.access) (c.named-entry.ensures k at))
 
 pub returns-in-Ok : goal.returns-in-Ok
 returns-in-Ok g c =
@@ -31,7 +31,7 @@ returns-in-Ok g c =
     let named = named_as c.as_slice.result.now c.args.name.now c.as_slice.ensures (c.in-Ok.ensures k at) in
     comes c.args.parts.now k at c.args.name.now c.in-Ok.acting named (command.Destroy c.args.name.now c.args.entry) (λ s session. destroying session (copies_of k s) c.args.entry) (λ owners. refl)
     (destroying_right c.args.parts.now.schema (copies_of k c.in-Ok.acting.session) named.is.session c.args.entry) c.destroy-asked.result
-    (c.destroy-asked.ensures named.is.session (copies_of k c.in-Ok.acting.session) (named.is.access_is ∙ sym c.asking.ensures.access) c.args.entry (c.named-entry.ensures k at)) reply c.ask.new.parts h)
+    (c.destroy-asked.ensures named.is.session (copies_of k c.in-Ok.acting.session) c.args.entry (named.is.access_is ∙ sym c.asking.ensures.access) (c.named-entry.ensures k at)) reply c.ask.new.parts h)
     c.ask.ensures
 
 pub returns-in-Err : goal.returns-in-Err

@@ -19,7 +19,7 @@ ask-requires g c =
     let named = named_as c.as_slice.result.now c.args.name.now c.as_slice.ensures (c.in-Ok.ensures k at) in
     any_asks c.args.parts.now k at c.args.name.now c.in-Ok.acting named (command.Set c.args.name.now c.args.entry c.args.member.now c.args.value.now) (λ s session. setting c.args.parts.now.schema session (copies_of k s) c.args.entry c.args.member.now c.args.value.now) (λ owners. refl)
     (setting_right c.args.parts.now.schema (copies_of k c.in-Ok.acting.session) named.is.session c.args.entry c.args.member.now c.args.value.now) c.set-asked.result
-    (subst (Tells plain_asked c.set-asked.result) (ap (λ S. setting S named.is.session (copies_of k c.in-Ok.acting.session) c.args.entry c.as_slice-in-Ok.result.now c.args.value.now) c.asking.ensures.schema ∙ ap (λ w. setting c.args.parts.now.schema named.is.session (copies_of k c.in-Ok.acting.session) c.args.entry w c.args.value.now) c.as_slice-in-Ok.ensures) (c.set-asked.ensures named.is.session (copies_of k c.in-Ok.acting.session) (named.is.access_is ∙ sym c.asking.ensures.access) c.args.entry (c.named-entry.ensures k at)))
+    (subst (Tells plain_asked c.set-asked.result) (ap (λ S. setting S named.is.session (copies_of k c.in-Ok.acting.session) c.args.entry c.as_slice-in-Ok.result.now c.args.value.now) c.asking.ensures.schema ∙ ap (λ w. setting c.args.parts.now.schema named.is.session (copies_of k c.in-Ok.acting.session) c.args.entry w c.args.value.now) c.as_slice-in-Ok.ensures) (c.set-asked.ensures named.is.session (copies_of k c.in-Ok.acting.session) c.args.entry (named.is.access_is ∙ sym c.asking.ensures.access) (c.named-entry.ensures k at)))
 
 pub returns-in-Ok : goal.returns-in-Ok
 returns-in-Ok g c =
@@ -31,7 +31,7 @@ returns-in-Ok g c =
     let named = named_as c.as_slice.result.now c.args.name.now c.as_slice.ensures (c.in-Ok.ensures k at) in
     comes c.args.parts.now k at c.args.name.now c.in-Ok.acting named (command.Set c.args.name.now c.args.entry c.args.member.now c.args.value.now) (λ s session. setting c.args.parts.now.schema session (copies_of k s) c.args.entry c.args.member.now c.args.value.now) (λ owners. refl)
     (setting_right c.args.parts.now.schema (copies_of k c.in-Ok.acting.session) named.is.session c.args.entry c.args.member.now c.args.value.now) c.set-asked.result
-    (subst (Tells plain_asked c.set-asked.result) (ap (λ S. setting S named.is.session (copies_of k c.in-Ok.acting.session) c.args.entry c.as_slice-in-Ok.result.now c.args.value.now) c.asking.ensures.schema ∙ ap (λ w. setting c.args.parts.now.schema named.is.session (copies_of k c.in-Ok.acting.session) c.args.entry w c.args.value.now) c.as_slice-in-Ok.ensures) (c.set-asked.ensures named.is.session (copies_of k c.in-Ok.acting.session) (named.is.access_is ∙ sym c.asking.ensures.access) c.args.entry (c.named-entry.ensures k at))) reply c.ask.new.parts h)
+    (subst (Tells plain_asked c.set-asked.result) (ap (λ S. setting S named.is.session (copies_of k c.in-Ok.acting.session) c.args.entry c.as_slice-in-Ok.result.now c.args.value.now) c.asking.ensures.schema ∙ ap (λ w. setting c.args.parts.now.schema named.is.session (copies_of k c.in-Ok.acting.session) c.args.entry w c.args.value.now) c.as_slice-in-Ok.ensures) (c.set-asked.ensures named.is.session (copies_of k c.in-Ok.acting.session) c.args.entry (named.is.access_is ∙ sym c.asking.ensures.access) (c.named-entry.ensures k at))) reply c.ask.new.parts h)
     c.ask.ensures
 
 pub returns-in-Err : goal.returns-in-Err

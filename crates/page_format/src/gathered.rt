@@ -9,7 +9,7 @@ ghost use Rattle.page_format.specs.declared.stop.PageStop.TheVariants.{Damaged a
 
 use crate::layout::{ENTRIES, PAGE, RECORD};
 use crate::page::{EntryHead, PageHead, read_entry};
-use crate::places::{Places, add_place, is_new, no_places};
+use crate::places::{Places, add_place, no_places};
 use crate::stop::PageStop;
 use pss_base::{Bytes, DamageKind, NoMemory, Put, Puts};
 use std::alloc::Global;
@@ -48,13 +48,6 @@ pub fn nothing(alloc: Global) -> Gathered
     }
 }
 
-// Whether a serial is given and new.
-fn is_given(places: &Places, serial: u64, next: u64) -> bool
-    ensures { IsTrue result ↔ IsGiven next (keys_of places.now.entries) serial }
-{
-    serial != 0 && serial < next && is_new(places, serial)
-}
-
 // Adds an object to the rows.
 fn add_row(alloc: Global, rows: &mut Puts, entry: EntryHead, octets: &[u8]) -> Result<(), NoMemory>
     ensures { OnOk result (rows.new ≡ rows.old ++ (record { home = entry.home; serial = entry.serial; bytes = Some octets.now }) ∷ []) }
@@ -67,20 +60,26 @@ fn add_row(alloc: Global, rows: &mut Puts, entry: EntryHead, octets: &[u8]) -> R
     })
 }
 
-// Adds an object that is new.
+// Adds an object whose serial is given and new, and tells whether it is. Of one that is not no row is added.
 fn add_entry(
-    gathered: &mut Gathered,
-    slot: u32,
+    page: &ReadPage<'_>,
     entry: EntryHead,
     octets: &[u8],
-) -> Result<(), NoMemory>
-    requires { (k : ℕ) → k < length (keys_of gathered.old.places.entries) → slice_index (keys_of gathered.old.places.entries) k ≢ entry.serial }
-    ensures places { OnOk result (gathered.new.places.entries ≡ gathered.old.places.entries ++ (entry.serial, slot) ∷ []) }
-    ensures rows { OnOk result (gathered.new.rows ≡ gathered.old.rows ++ (record { home = entry.home; serial = entry.serial; bytes = Some octets.now }) ∷ []) }
+    gathered: &mut Gathered,
+) -> Result<bool, NoMemory>
+    ensures given { IfOk result (λ is_given. IsTrue is_given ↔ IsGiven page.now.next (keys_of gathered.old.places.entries) entry.serial) }
+    ensures places { IfOk result (λ is_given. IsTrue is_given → gathered.new.places.entries ≡ gathered.old.places.entries ++ (entry.serial, page.now.slot) ∷ []) }
+    ensures rows { IfOk result (λ is_given. IsTrue is_given → gathered.new.rows ≡ gathered.old.rows ++ (record { home = entry.home; serial = entry.serial; bytes = Some octets.now }) ∷ []) }
     ensures small { gathered.new.small ≡ gathered.old.small }
 {
+    if entry.serial == 0 || entry.serial >= page.next {
+        return Ok(false);
+    }
+    if !add_place(&mut gathered.places, entry.serial, page.slot)? {
+        return Ok(false);
+    }
     add_row(gathered.alloc, &mut gathered.rows, entry, octets)?;
-    add_place(&mut gathered.places, entry.serial, slot)
+    Ok(true)
 }
 
 // Gathers the entry at a place of a page, and answers the place behind it.
@@ -104,17 +103,10 @@ fn take_entry(
     let Some(entry) = read_entry(page.octets, at, end) else {
         return Err(PageStop::Damaged(at as u32, DamageKind::Entry));
     };
-    if !is_given(&gathered.places, entry.serial, page.next) {
-        return Err(PageStop::Damaged(at as u32, DamageKind::Serial));
-    }
     let behind = at + RECORD + entry.len as usize;
-    match add_entry(
-        gathered,
-        page.slot,
-        entry,
-        &page.octets[at + RECORD..behind],
-    ) {
-        Ok(()) => Ok(behind),
+    match add_entry(page, entry, &page.octets[at + RECORD..behind], gathered) {
+        Ok(true) => Ok(behind),
+        Ok(false) => Err(PageStop::Damaged(at as u32, DamageKind::Serial)),
         Err(_) => Err(PageStop::NoMemory),
     }
 }

@@ -30,7 +30,8 @@ fn is_open<W: Station>(w: &mut W, gate: u64) -> Result<bool, Failed>
     Ok(octet[0] == OPEN)
 }
 
-// Makes sure of a content that is settled already.
+// Makes sure of a content of which nothing is pending. The gate that was read may be what a run left that was killed before its sync:
+// the system shows it then, and no contract tells whether the disk has it.
 fn make_sure<W: Station>(w: &mut W) -> Result<(), Failed>
     requires settled { IsSettled (W.content w.old) (W.now w.old) }
     ensures content { W.content w.new ≡ W.content w.old }

@@ -88,7 +88,8 @@ fn leads<C: Committed>(view: &View<'_, C>, pid: Pid, value: &Value) -> Answer
     ensures { (v : Sees C.shows view.now) → plain_answer result ≡ followed (seen_with v.catalog (changes_in view.now.overlay.now)) pid (plain_value value.now) }
 {
     match value {
-        Value::Ref(target) => reference_leads(view, pid, *target),
+        Value::Ref(Some(target)) => target_leads(view, *target),
+        Value::Ref(None) => Answer::Nil,
         Value::Int(_) => Answer::Gone(pid),
         Value::Char(_) => Answer::Gone(pid),
         Value::Bool(_) => Answer::Gone(pid),
@@ -96,16 +97,6 @@ fn leads<C: Committed>(view: &View<'_, C>, pid: Pid, value: &Value) -> Answer
         Value::Str(_) => Answer::Gone(pid),
         Value::List(_) => Answer::Gone(pid),
         Value::Struct(_) => Answer::Gone(pid),
-    }
-}
-
-fn reference_leads<C: Committed>(view: &View<'_, C>, pid: Pid, target: Option<Pid>) -> Answer
-    requires { Sees C.shows view.now }
-    ensures { (v : Sees C.shows view.now) → plain_answer result ≡ followed (seen_with v.catalog (changes_in view.now.overlay.now)) pid (Ref target) }
-{
-    match target {
-        Some(target) => target_leads(view, target),
-        None => Answer::Nil,
     }
 }
 

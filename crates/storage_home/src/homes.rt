@@ -49,7 +49,7 @@ impl Homes {
         let _ = &self.parts;
     }
 
-    /// The home and the octets of the object with a serial, where there is one. It is found by hash.
+    /// The home and the octets of the object with a serial, where there is one. One near the last is not hashed.
     pub fn get(&self, serial: u64) -> Option<(HomeNo, &[u8])>
         ensures { Keeping self.now (λ S M. option_map {U = HomeNo × List ℕ} (λ found. (found.0, found.1.now)) result ≡ option_map {U = HomeNo × List ℕ} (λ object. (object.home, object_spelling S object)) (get M serial)) }
     {

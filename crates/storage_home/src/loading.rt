@@ -25,7 +25,7 @@ use type_layout::{Home, HomeNo, KeyNo, Schema};
 impl Homes {
     /// The objects of these rows, in any order. Each row has a record of the layout of a home of the schema; no two
     /// have one serial, and no key is held twice; and the sum over them of 16 and the length of the record is at most
-    /// 2^64 - 1. It takes time in the octets for each key of a row's home.
+    /// 2^64 - 1. It takes time in the octets, once for all keys of a row's home, and in the bytes of these keys.
     ///
     /// `NoMemory`: there was no room for the homes, and the rows are gone.
     pub fn from_rows(alloc: Global, schema: &Schema, rows: Puts) -> Result<Homes, NoMemory>

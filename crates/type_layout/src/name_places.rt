@@ -19,7 +19,7 @@ pub(crate) fn place_of(places: &Places, name: &[u8]) -> Option<u32>
     }
 }
 
-/// A name has this place, unless it has one.
+/// A name has this place, unless it has one. More places than a `u32` counts take more memory than there is.
 pub(crate) fn enter(
     alloc: Global,
     places: &mut Places,

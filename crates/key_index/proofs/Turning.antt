@@ -46,7 +46,7 @@ given_ok (Ok a) f p = f a p
 given_ok (Err e) f p = p
 
 -- how the table of short keys turns
-pub short_turned : (key : List ℕ) (old new : List (List ℕ × Slot)) (slot : Option Slot) → ((q : List ℕ) → slot_at q new ≡ cond (bytes_eq key q) slot (slot_at q old)) → Turns old new key slot
+short_turned : (key : List ℕ) (old new : List (List ℕ × Slot)) (slot : Option Slot) → ((q : List ℕ) → slot_at q new ≡ cond (bytes_eq key q) slot (slot_at q old)) → Turns old new key slot
 short_turned key old new slot turns q = turns q ∙ ap (λ b. cond b slot (slot_at q old)) (bytes_swap key q)
 
 -- how the table of long keys turns

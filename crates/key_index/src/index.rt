@@ -3,7 +3,7 @@ ghost use Rattle.std.specs.Prelude.{◌≡◌, None, OnOk, OnErr, true};
 ghost use Rattle.std.specs.FinMap as map;
 ghost use Rattle.std.specs.FinSet as set;
 
-use crate::slots::{Slot, Slots, add, empty, find, read, remove, write};
+use crate::slots::{Slot, Slots, add, empty, find, remove, write};
 use pss_base::NoMemory;
 use std::alloc::Global;
 use std::marker::Model;
@@ -85,7 +85,7 @@ impl KeyIndex {
         ensures held { self.new.held ≡ map.remove self.old.held key.now }
         ensures reserved { self.new.reserved ≡ self.old.reserved }
     {
-        match read(&self.slots, key) {
+        match find(&self.slots, key) {
             Some(slot) => {
                 let serial = slot.serial();
                 if slot.is_reserved() {

@@ -79,17 +79,7 @@ pub fn empty(alloc: Global) -> Slots
     }
 }
 
-/// The slot of a key, where it has one.
-pub fn read(slots: &Slots, key: &[u8]) -> Option<Slot>
-    ensures { result ≡ slot_at key.now (slots_of slots.now) }
-{
-    match short_of(key) {
-        Some(short) => slots.short.get(&short).copied(),
-        None => slots.long.get(key).copied(),
-    }
-}
-
-/// The slot of a key, as `read` answers it. Short keys that are found in the order of the table are not hashed.
+/// The slot of a key, where it has one. Short keys that are found in the order of the table are not hashed.
 pub fn find(slots: &Slots, key: &[u8]) -> Option<Slot>
     ensures { result ≡ slot_at key.now (slots_of slots.now) }
 {
@@ -157,7 +147,7 @@ fn write_short(table: &mut Table<ShortKey>, ahead: &Cell<usize>, key: &ShortKey,
     }
 }
 
-// The place of a key that is there. Where it is the next one, it is not hashed.
+// The place of a key that is there. Where it is the next one, or the one before that, it is not hashed.
 fn known_place(table: &Table<ShortKey>, ahead: &Cell<usize>, key: &ShortKey) -> usize
     requires { IsSome (slot_at key.now table.now.entries) }
     ensures { key_at result table.now.entries ≡ Some key.now }
@@ -165,6 +155,10 @@ fn known_place(table: &Table<ShortKey>, ahead: &Cell<usize>, key: &ShortKey) -> 
     let next = ahead.get();
     if stands_at(table, next, key) {
         return next;
+    }
+    let last = next.wrapping_sub(1);
+    if stands_at(table, last, key) {
+        return last;
     }
     match table.get_full(key) {
         Some((place, _, _)) => place,
@@ -191,18 +185,25 @@ fn write_long(table: &mut Table<Vec<u8>>, key: &[u8], slot: Slot)
     }
 }
 
-/// Takes the slot of a key away, where it has one.
+/// Takes the slot that a key has away.
 pub fn remove(slots: &mut Slots, key: &[u8])
+    requires { IsSome (slot_at key.now (slots_of slots.old)) }
     ensures { Turns (slots_of slots.old) (slots_of slots.new) key.now None }
 {
     match short_of(key) {
-        Some(short) => {
-            let _ = slots.short.swap_remove(&short);
-        }
+        Some(short) => remove_short(&mut slots.short, &slots.ahead, &short),
         None => {
             let _ = slots.long.swap_remove(key);
         }
     }
+}
+
+fn remove_short(table: &mut Table<ShortKey>, ahead: &Cell<usize>, key: &ShortKey)
+    requires { IsSome (slot_at key.now table.old.entries) }
+    ensures { Turns table.old.entries table.new.entries key.now None }
+{
+    let place = known_place(table, ahead, key);
+    let _ = table.swap_remove_index(place);
 }
 
 /// Puts a slot for a key, and answers the one that it had. The key is looked for there next.

@@ -14,12 +14,12 @@ use crate::places::count_at;
 use crate::width::{Width, width_of};
 use pss_base::{Bytes, NoMemory};
 use std::alloc::Global;
-use type_layout::{KeyNo, Member, Schema, Ty};
+use type_layout::{KeyNo, Member, Schema, Ty, key_at};
 
 pub(crate) fn indexes_of(schema: &Schema, key: KeyNo) -> &[u32]
     ensures { result.now ≡ indexes_at schema.now key }
 {
-    match schema.keys.as_slice().get(key.0 as usize) {
+    match key_at(schema, key) {
         Some(found) => found.members.as_slice(),
         None => &[],
     }

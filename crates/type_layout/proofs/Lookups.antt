@@ -13,10 +13,6 @@ got xs i x lt is = slice_get_read xs (length xs) i x refl lt is
 pub got_mapped : {A B : Type 0} (f : A → B) (xs : List A) (i : ℕ) (x : A) → i < length xs → x ≡ get_or xs i x → slice_get (map f xs) i ≡ Some (f x)
 got_mapped f xs i x lt is = slice_get-map f xs i ∙ ap (option_map f) (got xs i x lt is)
 
--- the same in a list that equals the one that was looked into
-pub got_in : {A : Type 0} (ys xs : List A) (i : ℕ) (x : A) → ys ≡ xs → i < length ys → x ≡ get_or ys i x → slice_get xs i ≡ Some x
-got_in ys xs i x same lt is = ap (λ l. slice_get l i) (sym same) ∙ got ys i x lt is
-
 -- past the end there is nothing
 pub nothing_mapped : {A B : Type 0} (f : A → B) (xs : List A) (i : ℕ) → length xs ≤ i → slice_get (map f xs) i ≡ None
 nothing_mapped f [] i le = refl

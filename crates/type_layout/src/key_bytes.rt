@@ -9,7 +9,7 @@ ghost use Rattle.type_layout.specs.Values.{Of, IsRecord};
 ghost use Rattle.type_layout.specs.Sound.{IsSoundSchema};
 ghost use Rattle.type_layout.specs.Keys.{key_part, part_at, key_bytes, IsRecordWith, FitsAt, AreFit, chosen, key_members, parts, value_bytes};
 
-use crate::numbers::members_at;
+use crate::numbers::{key_at, members_at};
 use crate::{KeyNo, Member, Record, Schema, Ty, Value};
 use pss_base::{Bytes, NoMemory};
 use std::alloc::Global;
@@ -26,7 +26,7 @@ pub fn key_of(alloc: Global, schema: &Schema, key: KeyNo, value: &Record) -> Res
     ensures { IfOk result (λ bytes. bytes ≡ key_bytes schema.now key value.now) }
 {
     let mut bytes = Bytes::new(alloc);
-    let Some(found) = schema.keys.as_slice().get(key.0 as usize) else {
+    let Some(found) = key_at(schema, key) else {
         return Ok(bytes);
     };
     let members = members_at(schema, found.home);
@@ -51,7 +51,7 @@ pub fn key_of_values(
     ensures { IfOk result (λ bytes. bytes ≡ value_bytes schema.now key (map plain_value values.now)) }
 {
     let mut bytes = Bytes::new(alloc);
-    let Some(found) = schema.keys.as_slice().get(key.0 as usize) else {
+    let Some(found) = key_at(schema, key) else {
         return Ok(bytes);
     };
     let members = members_at(schema, found.home);

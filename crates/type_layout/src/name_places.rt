@@ -6,6 +6,9 @@ use pss_base::{Bytes, NoMemory};
 use std::alloc::Global;
 use std::collections::BTreeMap;
 
+/// So many names are found by a walk. It is as quick as a table, which would take memory.
+pub(crate) const FEW: usize = 8;
+
 /// Names by their first places.
 pub(crate) type Places = BTreeMap<Vec<u8>, u32>;
 

@@ -3,13 +3,10 @@ ghost use Rattle.std.specs.Prelude.{◌≡◌, ◌≤◌, ◌<◌, length, IfOk,
 ghost use Rattle.type_layout.specs.NamePlaces.{few, place_among, MayFind};
 
 use crate::Names;
-use crate::name_places::{Places, place_of, places_of};
+use crate::name_places::{FEW, Places, place_of, places_of};
 use pss_base::{Bytes, NoMemory};
 use std::alloc::Global;
 use std::marker::Model;
-
-// So many names are found by a walk. It is as quick as a table, which would take memory.
-const FEW: usize = 8;
 
 /// Names in order. The first place of each is found by it.
 #[derive(Drop)]

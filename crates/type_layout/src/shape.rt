@@ -7,6 +7,7 @@ ghost use Rattle.type_layout.specs.Views.{plain_type, plain_field};
 ghost use Rattle.type_layout.specs.Members.{plain_member};
 ghost use Rattle.type_layout.specs.ShapeText.{shape_text, lines_from, home_lines, home_line, base_number, member_line, key_line, key_text, type_text, bound_text, listed, field_texts};
 
+use crate::numbers::key_at;
 use crate::{Field, Home, HomeNo, Key, KeyNo, Member, Schema, Ty};
 use pss_base::{Bytes, NoMemory};
 use std::alloc::Global;
@@ -97,7 +98,7 @@ fn put_keys(text: &mut Bytes, schema: &Schema, keys: &[KeyNo]) -> Result<(), NoM
 fn put_key(text: &mut Bytes, schema: &Schema, key: KeyNo) -> Result<(), NoMemory>
     ensures { OnOk result (text.new ≡ text.old ++ key_line schema.now key) }
 {
-    let Some(found) = schema.keys.as_slice().get(key.0 as usize) else {
+    let Some(found) = key_at(schema, key) else {
         return Ok(());
     };
     put_key_text(text, found)?;

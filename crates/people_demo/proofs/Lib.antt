@@ -9,4 +9,3 @@ pub mod Unmounted
 pub mod Shown
 pub mod Stopping
 pub mod Made
-pub mod Spared

@@ -1,5 +1,5 @@
 // The demonstration.
-ghost use Rattle.std.specs.Prelude.{◌≡◌, ◌≢◌, ◌≤◌, ◌⊎◌, List, ℕ, Err, IfErr, IfOk, IfSome, OnOk, false};
+ghost use Rattle.std.specs.Prelude.{◌≡◌, ◌<◌, ◌≤◌, ◌⊎◌, List, ℕ, Err, IfErr, IfOk, IfSome, OnOk, false, length};
 ghost use Rattle.std.specs.declared.option.Option.{Option};
 ghost use Rattle.pss_base.specs.Causes.{HasCauseIf};
 ghost use Rattle.pss_disk.specs.Moments.{IsSettled, Through};
@@ -80,7 +80,7 @@ fn init<W: Station>(alloc: Global, station: &mut W, schema: &Schema) -> Result<(
     ensures ended { IfErr result (λ why. ShowsNothing why (W.content station.old) (W.content station.new)) }
     ensures silent { IsSilent W.now W.history W.speak_faults station.old station.new }
     ensures disk { HasCauseIf (W.disk_faults station.old) (W.disk_faults station.new) (is_disk_fault result) }
-    ensures spared { result ≡ Err stop.NotEmpty → IfSome (W.content station.old) (λ octets. OnlyReads W.now W.content W.history W.speak_faults station.old station.new) }
+    ensures filled { IfSome (W.content station.old) (λ octets. 0 < length octets → OnlyReads W.now W.content W.history W.speak_faults station.old station.new) }
 {
     let Ok(shape) = shape_of(alloc, schema) else {
         return Err(DemoStop::NoMemory);
@@ -99,7 +99,6 @@ fn mount<W: Station>(alloc: Global, station: &mut W, schema: &Schema) -> Result<
     ensures settled { OnOk result (IsSettled (W.content station.new) (W.now station.new)) }
     ensures silent { IsSilent W.now W.history W.speak_faults station.old station.new }
     ensures disk { HasCauseIf (W.disk_faults station.old) (W.disk_faults station.new) (is_disk_fault result) }
-    ensures taken { result ≢ Err stop.NotEmpty }
 {
     an_image_is_one_thing();
     match Store::mount(alloc, station, schema) {
@@ -120,7 +119,7 @@ fn make_store<W: Station>(
     ensures settled { OnOk result (IsSettled (W.content station.new) (W.now station.new)) }
     ensures silent { IsSilent W.now W.history W.speak_faults station.old station.new }
     ensures disk { HasCauseIf (W.disk_faults station.old) (W.disk_faults station.new) (is_disk_fault result) }
-    ensures spared { result ≡ Err stop.NotEmpty → IfSome (W.content station.old) (λ octets. OnlyReads W.now W.content W.history W.speak_faults station.old station.new) }
+    ensures filled { IfSome (W.content station.old) (λ octets. 0 < length octets → OnlyReads W.now W.content W.history W.speak_faults station.old station.new) }
 {
     match init(alloc, station, schema) {
         Ok(()) => mount(alloc, station, schema),
@@ -149,7 +148,7 @@ fn begin<W: Station>(alloc: Global, station: &mut W) -> Result<Show, DemoStop>
     ensures settled { OnOk result (IsSettled (W.content station.new) (W.now station.new)) }
     ensures silent { IsSilent W.now W.history W.speak_faults station.old station.new }
     ensures disk { HasCauseIf (W.disk_faults station.old) (W.disk_faults station.new) (is_disk_fault result) }
-    ensures spared { result ≡ Err stop.NotEmpty → IfSome (W.content station.old) (λ octets. OnlyReads W.now W.content W.history W.speak_faults station.old station.new) }
+    ensures filled { IfSome (W.content station.old) (λ octets. 0 < length octets → OnlyReads W.now W.content W.history W.speak_faults station.old station.new) }
 {
     let Ok(schema) = people(alloc) else {
         return Err(DemoStop::NoMemory);
@@ -173,7 +172,7 @@ fn run_rounds<W: Station>(alloc: Global, station: &mut W, rounds: u32) -> Result
     ensures settled { OnOk result (IsSettled (W.content station.new) (W.now station.new)) }
     ensures silent { IsSilent W.now W.history W.speak_faults station.old station.new }
     ensures disk { HasCauseIf (W.disk_faults station.old) (W.disk_faults station.new) (is_disk_fault result) }
-    ensures spared { result ≡ Err stop.NotEmpty → IfSome (W.content station.old) (λ octets. OnlyReads W.now W.content W.history W.speak_faults station.old station.new) }
+    ensures filled { IfSome (W.content station.old) (λ octets. 0 < length octets → OnlyReads W.now W.content W.history W.speak_faults station.old station.new) }
 {
     a_mounted_store_stands();
     match begin(alloc, station) {
@@ -223,8 +222,8 @@ pub fn run_demo<W: Station>(alloc: Global, rounds: u32, station: &mut W) -> Resu
         (λ m. IsWhole line (W.now station.old).spoken m.spoken ⊎ ((result ≡ Err stop.SpeakFault) × (m.spoken ≡ (W.now station.new).spoken))) }
     ensures disk { HasCauseIf (W.disk_faults station.old) (W.disk_faults station.new) (is_disk_fault result) }
     ensures speech { HasCauseIf (W.speak_faults station.old) (W.speak_faults station.new) (is_speak_fault result) }
-    // A file that is refused was only read.
-    ensures spared { result ≡ Err stop.NotEmpty → IfSome (W.content station.old) (λ octets. OnlyReads W.now W.content W.history W.speak_faults station.old station.new) }
+    // A file that has octets was only read, whatever the answer.
+    ensures filled { IfSome (W.content station.old) (λ octets. 0 < length octets → OnlyReads W.now W.content W.history W.speak_faults station.old station.new) }
 {
     match run_rounds(alloc, station, rounds) {
         Ok(tally) => tell(alloc, station, rounds, tally),

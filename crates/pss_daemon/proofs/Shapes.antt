@@ -4,7 +4,7 @@ use Rattle.std.specs.Fmt.{decimal}
 use Rattle.std.proofs.lemmas.Fmt.{decimal_injective}
 use Rattle.pss_daemon.specs.declared.forms.Plan.{Plan}
 use Rattle.pss_daemon.specs.declared.forms.Plan.TheVariants.{Check, Init, Run, Demo}
-use Rattle.pss_daemon.specs.Ends.{IsCheck, IsDemo, IsNoPlan}
+use Rattle.pss_daemon.specs.Ends.{IsCheck, IsDemo, IsInit, IsNoPlan}
 use Rattle.pss_daemon.specs.Forms.{HasOneName, HasTwoNames, IsPlanOf}
 
 pub one_name : (words : List (List ℕ)) (command : List ℕ) → (length words ≡ 2) × (slice_get words 0 ≡ Some command) → HasOneName words command
@@ -48,3 +48,6 @@ module _ (words : List (List ℕ)) (asked : Plan) (is : IsPlanOf words asked) (o
 
   pub no_demo : ((rounds store : ℕ) → asked ≡ Demo rounds store → ⊥) → IsDemo words ⊎ IsNoPlan words → ⊥
   no_demo other may = ⊎_elim (λ demo. other demo.0 demo.1 (only (Demo demo.0 demo.1) demo.2)) (λ none. none asked is) may
+
+  pub no_store : ((schema store : ℕ) → asked ≡ Init schema store → ⊥) → ((rounds store : ℕ) → asked ≡ Demo rounds store → ⊥) → IsInit words ⊎ IsDemo words → ⊥
+  no_store init demo may = ⊎_elim (λ is. init is.0 is.1 (only (Init is.0 is.1) is.2)) (λ is. demo is.0 is.1 (only (Demo is.0 is.1) is.2)) may

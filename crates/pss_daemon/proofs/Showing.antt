@@ -11,7 +11,7 @@ use Rattle.people_demo.specs.Shows.{IsShownLine}
 use Rattle.people_demo.specs.declared.demo.DemoStop.{DemoStop}
 use Rattle.people_demo.specs.declared.demo.DemoStop.TheVariants as stop
 use Rattle.pss_serving.specs.Making.{TellsFilled}
-use Rattle.pss_serving.specs.Outcomes.{Call, TellsRefusal}
+use Rattle.pss_serving.specs.Outcomes.{Call, IsSpared, TellsRefusal}
 use Rattle.pss_serving.specs.Spoken.{IsCut}
 use Rattle.pss_serving.specs.declared.status.Status.{Status}
 use Rattle.pss_serving.specs.declared.status.Status.TheVariants as status
@@ -44,6 +44,9 @@ unmounted_shows rounds status.SchemaRefused why call untold told = absurd told
 unmounted_shows rounds status.ReadFault why call untold told = absurd told
 unmounted_shows rounds status.DiskFault why call untold told = absurd told
 unmounted_shows rounds status.ScriptTooLong why call untold told = absurd told
+
+pub unmounted_spared : (held : Option (List ℕ)) (a b : List Moment) (first : Moment) → held ≡ None → IsSpared held a b first
+unmounted_spared held a b first untold = subst (λ (o : Option (List ℕ)). IsSpared o a b first) (sym untold) tt
 
 -- ---- moments
 

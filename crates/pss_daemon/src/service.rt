@@ -2,11 +2,12 @@
 ghost use Rattle.std.specs.Prelude.{◌≡◌, ◌≤◌, ◌⊎◌, ℕ, List, IsTrue};
 ghost use Rattle.std.specs.declared.option.Option.{Option};
 ghost use Rattle.pss_disk.specs.Moments.{Through};
+ghost use Rattle.store_refusals.specs.Lines.{IsFilled};
 ghost use Rattle.pss_serving.specs.Counts.{HasCauses, counts_of};
 ghost use Rattle.pss_serving.specs.Outcomes.{IsAlwaysKept, IsAlwaysRight, IsSpared, call_of, ends_before_script};
 ghost use Rattle.pss_serving.specs.Spoken.{IsCut};
 ghost use Rattle.pss_daemon.specs.Complete.{IsComplete};
-ghost use Rattle.pss_daemon.specs.Ends.{Ends, IsCheck, IsDemo, IsNoPlan, IsRun, SaidWhole};
+ghost use Rattle.pss_daemon.specs.Ends.{Ends, IsCheck, IsDemo, IsInit, IsNoPlan, IsRun, SaidWhole};
 ghost use Rattle.pss_daemon.specs.Shows.{EndsShowing, WholeShowing};
 
 use crate::forms::Plan;
@@ -36,6 +37,7 @@ fn demonstrate<W: Station>(alloc: Global, rounds: u32, station: &mut W) -> Statu
     ensures moments { Through (W.history station.old) (W.history station.new)
         (λ m. WholeShowing rounds (W.content station.old) (W.now station.old).spoken m.spoken ⊎ IsCut result (W.now station.new).spoken m.spoken) }
     ensures spared { IsTrue (ends_before_script result) → IsSpared (W.content station.old) (W.history station.old) (W.history station.new) (W.now station.old) }
+    ensures filled { IsFilled (W.content station.old) → IsSpared (W.content station.old) (W.history station.old) (W.history station.new) (W.now station.old) }
 {
     match run_demo(alloc, rounds, station) {
         Ok(()) => Status::Ok,
@@ -84,6 +86,8 @@ pub fn pssd<P: Source, C: Source, W: Station>(
     ensures untouched { (IsCheck words.now ⊎ IsNoPlan words.now) → (W.content station.new ≡ W.content station.old) × ((W.now station.new).disk ≡ (W.now station.old).disk) }
     // Where words, text or file are refused, a crash at any moment leaves the file as it was.
     ensures spared { IsTrue (ends_before_script result) → IsSpared (W.content station.old) (W.history station.old) (W.history station.new) (W.now station.old) }
+    // Under `init` and `demo` a file that has octets is as it was after a crash at any moment, whatever the answer.
+    ensures filled { (IsInit words.now ⊎ IsDemo words.now) → IsFilled (W.content station.old) → IsSpared (W.content station.old) (W.history station.old) (W.history station.new) (W.now station.old) }
     // The schema's text is not read under `demo`, nor where the words are none of the forms.
     ensures unasked_schema { (IsDemo words.now ⊎ IsNoPlan words.now) → schema.new ≡ schema.old }
     // Each reply is spoken in one call: at each moment whole replies were spoken. Where speech failed, the last one may

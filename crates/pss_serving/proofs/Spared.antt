@@ -1,5 +1,5 @@
 -- What calls leave that spare the file.
-use Rattle.std.proofs.Common.{◌≡◌, ◌⊎◌, ◌<◌, ⊎_elim, inl, inr, ℕ, List, length, IfSome, IsTrue, None, Some, ap, subst, sym, ◌∙◌}
+use Rattle.std.proofs.Common.{◌≡◌, ◌⊎◌, ◌<◌, ⊎_elim, inl, inr, ℕ, List, length, IfSome, IsTrue, None, Some, ap, refl, subst, sym, ◌∙◌}
 use Rattle.std.proofs.lemmas.Bool.{false≢true}
 use Rattle.std.specs.declared.option.Option.{Option}
 use Rattle.pss_disk.specs.Moments.{Disk, IsOnlyImage, IsSettled, IsStill, Moment, Through}
@@ -17,7 +17,7 @@ module _ (held : Option (List ℕ)) (first : Moment) where
   Spares m = (m.disk ≡ first.disk) ⊎ IsSettled held m
 
   -- a line was spoken over the disk as it was
-  pub spoken_spares : (a b : List Moment) (after : Option (List ℕ)) (disk : Option Disk) → disk ≡ first.disk → Through a b (HasSpoken after disk) → Through a b Spares
+  spoken_spares : (a b : List Moment) (after : Option (List ℕ)) (disk : Option Disk) → disk ≡ first.disk → Through a b (HasSpoken after disk) → Through a b Spares
   spoken_spares a b after disk same = weaker a b (HasSpoken after disk) Spares (λ m is. inl (is.disk_is ∙ same))
 
   still_spares : (a b : List Moment) → Through a b (IsStill first) → Through a b Spares
@@ -41,31 +41,23 @@ pub spared_by : (held : Option (List ℕ)) (a b : List Moment) (first : Moment) 
 spared_by None a b first came = tt
 spared_by (Some octets) a b first came = came
 
+-- a line was spoken and nothing else done
+pub spoken_spared : (held : Option (List ℕ)) (first : Moment) (a b : List Moment) (after : Option (List ℕ)) → Through a b (HasSpoken after first.disk) → IsSpared held a b first
+spoken_spared held first a b after said = spared_by held a b first (spoken_spares held first a b after first.disk refl said)
+
 -- a file that has octets was only read, and the line that tells it was spoken
 module _ {S : Type 0} (now : S → Moment) (content : S → Option (List ℕ)) (history : S → List Moment) (speak_faults : S → ℕ) (old mid : S) (c : List Moment) (after : Option (List ℕ)) where
-  filled_by : (held : Option (List ℕ)) → IsFilled held → IfSome held (λ octets. 0 < length octets → OnlyReads now content history speak_faults old mid)
-      → Through (history mid) c (HasSpoken after (now mid).disk) → IsSpared held (history old) c (now old)
-  filled_by None filled reads said = tt
-  filled_by (Some octets) filled reads said =
+  filled_by : (held : Option (List ℕ)) → IfSome held (λ octets. 0 < length octets → OnlyReads now content history speak_faults old mid)
+      → Through (history mid) c (HasSpoken after (now mid).disk) → IsFilled held → IsSpared held (history old) c (now old)
+  filled_by None reads said filled = tt
+  filled_by (Some octets) reads said filled =
       let read = reads filled in
       then_come (history old) (history mid) c (Spares (Some octets) (now old)) (still_spares (Some octets) (now old) (history old) (history mid) read.time)
       (spoken_spares (Some octets) (now old) (history mid) c after (now mid).disk (ap (λ (m : Moment). m.disk) read.still) said)
 
-  pub filled_spared : IsFilled (content old) → IfSome (content old) (λ octets. 0 < length octets → OnlyReads now content history speak_faults old mid)
-      → Through (history mid) c (HasSpoken after (now mid).disk) → IsSpared (content old) (history old) c (now old)
+  pub filled_spared : IfSome (content old) (λ octets. 0 < length octets → OnlyReads now content history speak_faults old mid)
+      → Through (history mid) c (HasSpoken after (now mid).disk) → IsFilled (content old) → IsSpared (content old) (history old) c (now old)
   filled_spared = filled_by (content old)
-
--- the same of a file that was only read
-read_by : {S : Type 0} (now : S → Moment) (content : S → Option (List ℕ)) (history : S → List Moment) (speak_faults : S → ℕ) (old mid : S) (c : List Moment) (after held : Option (List ℕ))
-    → IfSome held (λ octets. OnlyReads now content history speak_faults old mid) → Through (history mid) c (HasSpoken after (now mid).disk) → IsSpared held (history old) c (now old)
-read_by now content history speak_faults old mid c after None reads said = tt
-read_by now content history speak_faults old mid c after (Some octets) reads said =
-    then_come (history old) (history mid) c (Spares (Some octets) (now old)) (still_spares (Some octets) (now old) (history old) (history mid) reads.time)
-    (spoken_spares (Some octets) (now old) (history mid) c after (now mid).disk (ap (λ (m : Moment). m.disk) reads.still) said)
-
-pub read_spared : {S : Type 0} (now : S → Moment) (content : S → Option (List ℕ)) (history : S → List Moment) (speak_faults : S → ℕ) (old mid : S) (c : List Moment) (after : Option (List ℕ))
-    → IfSome (content old) (λ octets. OnlyReads now content history speak_faults old mid) → Through (history mid) c (HasSpoken after (now mid).disk) → IsSpared (content old) (history old) c (now old)
-read_spared now content history speak_faults old mid c after = read_by now content history speak_faults old mid c after (content old)
 
 -- no way in which serving a script ends comes before it
 pub no_ending : (end : Ending) (T : Type 0) → IsTrue (ends_before_script (status_of_ending end)) → T

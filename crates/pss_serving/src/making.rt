@@ -6,7 +6,7 @@ ghost use Rattle.pss_disk.specs.Moments.{Through};
 ghost use Rattle.type_layout.specs.Sound.{IsSoundSchema};
 ghost use Rattle.line_service.specs.Spoken.{HasSpoken};
 ghost use Rattle.line_service.specs.Turns.{IsWhole};
-ghost use Rattle.store_refusals.specs.Lines.{not_empty_line};
+ghost use Rattle.store_refusals.specs.Lines.{IsFilled, not_empty_line};
 ghost use Rattle.pss_serving.specs.Checked.{IsOneThing};
 ghost use Rattle.pss_serving.specs.Counts.{HasCauses, counts_of, has_disk_failed, has_speech_failed};
 ghost use Rattle.pss_serving.specs.Making.{EndsMaking, MakesStore, TellsFilled, WholeMaking};
@@ -49,6 +49,7 @@ fn make_store<W: Station>(alloc: Global, schema: &Schema, station: &mut W) -> St
     ensures speech { HasCauseIf (W.speak_faults station.old) (W.speak_faults station.new) (has_speech_failed result) }
     ensures disk { HasCauseIf (W.disk_faults station.old) (W.disk_faults station.new) (has_disk_failed result) }
     ensures spared { IsTrue (ends_before_script result) → IsSpared (W.content station.old) (W.history station.old) (W.history station.new) (W.now station.old) }
+    ensures filled { IsFilled (W.content station.old) → IsSpared (W.content station.old) (W.history station.old) (W.history station.new) (W.now station.old) }
 {
     let Ok(shape) = shape_of(alloc, schema) else {
         return Status::NoMemory;
@@ -77,6 +78,8 @@ pub fn init_store<P: Source, W: Station>(alloc: Global, schema: &mut P, station:
         (λ m. WholeMaking (P.left schema.old) (W.now station.old).spoken m.spoken ⊎ IsCut result (W.now station.new).spoken m.spoken) }
     // Where text or file are refused, a crash at any moment leaves the file as it was.
     ensures spared { IsTrue (ends_before_script result) → IsSpared (W.content station.old) (W.history station.old) (W.history station.new) (W.now station.old) }
+    // Where the file has octets, so it does whatever the answer.
+    ensures filled { IsFilled (W.content station.old) → IsSpared (W.content station.old) (W.history station.old) (W.history station.new) (W.now station.old) }
 {
     text_is_sound();
     match read_checked(alloc, schema) {

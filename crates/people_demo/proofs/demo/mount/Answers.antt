@@ -1,13 +1,10 @@
-use Rattle.std.proofs.Common.{◌≡◌, IfSome, subst, sym}
+use Rattle.std.proofs.Common.{IfSome, subst, sym}
 use Rattle.type_layout.specs.declared.schema.Schema.{Schema}
 use Rattle.pss_recovery.specs.Mounts.{HasMounted}
 use Rattle.pss_recovery.specs.Stands.{IsRefusal}
 use Rattle.people_demo.specs.declared.demo.DemoStop.{DemoStop}
 use Rattle.people_demo.specs.inner.Begun.{ShowsNothing}
 use Rattle.people_demo.proofs.Beginning.{made_is, not_begun, sound_as}
-use Rattle.people_demo.specs.inner.Begun.{of_mount}
-use Rattle.people_demo.specs.declared.demo.DemoStop.TheVariants as stop
-use Rattle.people_demo.proofs.Spared.{mount_taken}
 use Rattle.people_demo.proofs.demo.mount.Goals as goal
 
 pub mount-requires : goal.mount-requires
@@ -25,6 +22,3 @@ returns-in-Err-clause-ended g c = λ held is.
     let new = g.W.Station.content c.mount.new.w in
     let refused = subst (λ (S : Schema). IfSome old (IsRefusal S c.in-Err.fault)) c.requires.schema c.in-Err.ensures.refused in
     subst (λ (why : DemoStop). ShowsNothing why held new) (sym c.of_mount.ensures) (not_begun c.an_image_is_one_thing.ensures c.in-Err.fault old new refused held is)
-
-pub returns-in-Err-clause-taken : goal.returns-in-Err-clause-taken
-returns-in-Err-clause-taken g c = λ is. mount_taken c.in-Err.fault (let same : of_mount c.in-Err.fault ≡ stop.NotEmpty = cc (c.of_mount.ensures, is) in same)

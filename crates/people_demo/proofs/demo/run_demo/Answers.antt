@@ -2,9 +2,6 @@ use Rattle.std.proofs.Common.{ℕ, List, Option, subst, sym}
 use Rattle.people_demo.specs.Shows.{HoldsShown, shown_line}
 use Rattle.people_demo.specs.Tally.{demo_line}
 use Rattle.people_demo.proofs.Shown.{any_line, quiet_moments, shows_told, told_moments}
-use Rattle.std.specs.Prelude.{Result}
-use Rattle.people_demo.specs.inner.Telling.{Tells}
-use Rattle.people_demo.specs.declared.demo.DemoStop.{DemoStop}
 use Rattle.people_demo.proofs.demo.run_demo.Goals as goal
 
 pub returns-in-Ok-clause-shows : goal.returns-in-Ok-clause-shows
@@ -34,7 +31,3 @@ returns-in-Err-clause-moments g c =
       quiet_moments _ (shown_line c.args.rounds) (now c.run_rounds.new.station).spoken (history c.args.station.now) (history c.run_rounds.new.station) (now c.args.station.now)
           c.run_rounds.ensures.silent.moments,
     )
-
-pub returns-in-Ok-clause-spared : goal.returns-in-Ok-clause-spared
-returns-in-Ok-clause-spared g c = λ is.
-    absurd (subst (λ (r : Result (Unit {0}) DemoStop). Tells r (demo_line c.args.rounds c.in-Ok.tally) (g.W.Station.now c.run_rounds.new.station).spoken (g.W.Station.now c.tell.new.station).spoken) is c.tell.ensures.told)

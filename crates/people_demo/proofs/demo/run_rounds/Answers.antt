@@ -2,10 +2,6 @@ use Rattle.people_demo.specs.declared.tally.Tally.{Tally}
 use Rattle.people_demo.proofs.Onward.{silent_then}
 use Rattle.people_demo.proofs.Stopping.{nothing_shown, stopped_by}
 use Rattle.people_demo.proofs.Shown.{line_shown, stands_shown}
-use Rattle.std.proofs.Common.{◌≡◌}
-use Rattle.people_demo.specs.inner.Begun.{of_store}
-use Rattle.people_demo.specs.declared.demo.DemoStop.TheVariants as stop
-use Rattle.people_demo.proofs.Spared.{store_taken}
 use Rattle.people_demo.proofs.demo.run_rounds.Goals as goal
 
 pub returns-in-Ok-serve_all-clause-shown : goal.returns-in-Ok-serve_all-clause-shown
@@ -32,6 +28,3 @@ pub returns-in-Ok-clause-disk : goal.returns-in-Ok-clause-disk
 returns-in-Ok-clause-disk g c =
     stopped_by Tally (g.W.Station.disk_faults c.args.station.now) (g.W.Station.disk_faults c.begin.new.station) (g.W.Station.disk_faults c.serve_all.new.station) c.in-Err-serve_all.stop c.of_store.result c.of_store.ensures c.in-Ok.ensures.disk
     c.in-Err-serve_all.ensures.cause
-
-pub returns-in-Ok-clause-spared : goal.returns-in-Ok-clause-spared
-returns-in-Ok-clause-spared g c = λ is. absurd (store_taken c.in-Err-serve_all.stop (let same : of_store c.in-Err-serve_all.stop ≡ stop.NotEmpty = cc (c.of_store.ensures, is) in same))

@@ -1,11 +1,11 @@
-use Rattle.std.proofs.Common.{◌∙◌, ap, refl, subst, sym, Err, ℕ, List}
+use Rattle.std.proofs.Common.{◌∙◌, refl, subst, ℕ, List}
 use Rattle.std.specs.declared.option.Option.{Option}
 use Rattle.pss_disk.specs.Moments.{Moment}
 use Rattle.pss_serving.specs.Making.{TellsFilled}
-use Rattle.pss_serving.specs.Outcomes.{IsSpared, TellsRefusal}
+use Rattle.pss_serving.specs.Outcomes.{TellsRefusal}
 use Rattle.pss_serving.specs.declared.status.Status.TheVariants as status
-use Rattle.pss_serving.proofs.Spared.{read_spared}
-use Rattle.pss_daemon.proofs.Showing.{filled_shown, filled_shows, shown_moments, unmounted_shown, unmounted_shows}
+use Rattle.pss_serving.proofs.Spared.{filled_spared}
+use Rattle.pss_daemon.proofs.Showing.{filled_shown, filled_shows, shown_moments, unmounted_shown, unmounted_shows, unmounted_spared}
 use Rattle.pss_daemon.proofs.service.demonstrate.Goals as goal
 
 -- ---- it ended as the demonstration did
@@ -43,17 +43,23 @@ returns-in-Err-NotEmpty-clause-moments g c =
     (λ failed. cc (c.in-Err-NotEmpty.is, c.in-Err-NotEmpty.field-0-is, failed)) (rw c.in-Err-NotEmpty.field-0-is at c.in-Err-NotEmpty.ensures.shows).1 c.refuse_file.ensures.told
     c.run_demo.ensures.moments c.refuse_file.ensures.moments
 
+pub returns-in-Err-NotEmpty-clause-filled : goal.returns-in-Err-NotEmpty-clause-filled
+returns-in-Err-NotEmpty-clause-filled g c =
+    filled_spared g.W.Station.now g.W.Station.content g.W.Station.history g.W.Station.speak_faults c.args.station.now c.run_demo.new.station (g.W.Station.history c.refuse_file.new.station)
+    (g.W.Station.now c.refuse_file.new.station).spoken c.run_demo.ensures.filled c.refuse_file.ensures.moments
+
 pub returns-in-Err-NotEmpty-clause-spared : goal.returns-in-Err-NotEmpty-clause-spared
-returns-in-Err-NotEmpty-clause-spared g c = λ before.
-    read_spared g.W.Station.now g.W.Station.content g.W.Station.history g.W.Station.speak_faults c.args.station.now c.run_demo.new.station (g.W.Station.history c.refuse_file.new.station)
-    (g.W.Station.now c.refuse_file.new.station).spoken (c.run_demo.ensures.spared (c.in-Err-NotEmpty.is ∙ ap Err c.in-Err-NotEmpty.field-0-is)) c.refuse_file.ensures.moments
+returns-in-Err-NotEmpty-clause-spared g c = λ before. returns-in-Err-NotEmpty-clause-filled g c (rw c.in-Err-NotEmpty.field-0-is at c.in-Err-NotEmpty.ensures.shows).0
 
 -- ---- what was made is not mounted
 
 pub returns-in-Err-Refused-clause-spared : goal.returns-in-Err-Refused-clause-spared
-returns-in-Err-Refused-clause-spared g c = λ before.
-    let shows = (rw c.in-Err-Refused.field-0-is at c.in-Err-Refused.ensures.shows) in
-    subst (λ (held : Option (List ℕ)). IsSpared held (g.W.Station.history c.args.station.now) (g.W.Station.history c.refuse_store.new.station) (g.W.Station.now c.args.station.now)) (sym shows.0) tt
+returns-in-Err-Refused-clause-spared g c = λ before. unmounted_spared (g.W.Station.content c.args.station.now) (g.W.Station.history c.args.station.now) (g.W.Station.history c.refuse_store.new.station) (g.W.Station.now c.args.station.now)
+    (rw c.in-Err-Refused.field-0-is at c.in-Err-Refused.ensures.shows).0
+
+pub returns-in-Err-Refused-clause-filled : goal.returns-in-Err-Refused-clause-filled
+returns-in-Err-Refused-clause-filled g c = λ filled. unmounted_spared (g.W.Station.content c.args.station.now) (g.W.Station.history c.args.station.now) (g.W.Station.history c.refuse_store.new.station) (g.W.Station.now c.args.station.now)
+    (rw c.in-Err-Refused.field-0-is at c.in-Err-Refused.ensures.shows).0
 
 pub returns-in-Err-Refused-clause-ends : goal.returns-in-Err-Refused-clause-ends
 returns-in-Err-Refused-clause-ends g c = λ schema script left.

@@ -2,10 +2,10 @@ use Rattle.std.proofs.Common.{inr, refl}
 use Rattle.pss_daemon.specs.declared.forms.Plan.TheVariants.{Check, Demo, Init, Run}
 use Rattle.pss_serving.specs.Outcomes.{call_of}
 use Rattle.pss_serving.specs.declared.status.Status.TheVariants as status
-use Rattle.pss_serving.proofs.Spared.{spared_by, spoken_spares}
+use Rattle.pss_serving.proofs.Spared.{spoken_spared}
 use Rattle.pss_daemon.proofs.Complete.{check_complete, demo_complete, init_complete, run_complete, usage_complete}
 use Rattle.pss_daemon.proofs.Ending.{check_moments, cut_moments, demo_moments, init_moments, run_moments, usage_moments}
-use Rattle.pss_daemon.proofs.Shapes.{no_check, no_demo}
+use Rattle.pss_daemon.proofs.Shapes.{no_check, no_demo, no_store}
 use Rattle.pss_daemon.proofs.service.pssd.Goals as goal
 
 -- ---- the words are no form
@@ -23,12 +23,13 @@ pub returns-in-Ok-speak-clause-right : goal.returns-in-Ok-speak-clause-right
 returns-in-Ok-speak-clause-right g c = c.scripts_are_right.ensures (g.P.Source.left c.args.schema.now) (g.C.Source.left c.args.script.now)
 
 pub returns-in-Ok-speak-clause-spared : goal.returns-in-Ok-speak-clause-spared
-returns-in-Ok-speak-clause-spared g c = λ before.
-    let held = g.W.Station.content c.args.station.now in
-    let first = g.W.Station.now c.args.station.now in
-    let a = g.W.Station.history c.args.station.now in
-    let b = g.W.Station.history c.speak.new.station in
-    spared_by held a b first (spoken_spares held first a b _ _ refl c.speak.ensures.moments)
+returns-in-Ok-speak-clause-spared g c = λ before. spoken_spared (g.W.Station.content c.args.station.now) (g.W.Station.now c.args.station.now) (g.W.Station.history c.args.station.now) (g.W.Station.history c.speak.new.station) _ c.speak.ensures.moments
+
+pub returns-in-Ok-speak-clause-filled : goal.returns-in-Ok-speak-clause-filled
+returns-in-Ok-speak-clause-filled g c = λ asked filled. spoken_spared (g.W.Station.content c.args.station.now) (g.W.Station.now c.args.station.now) (g.W.Station.history c.args.station.now) (g.W.Station.history c.speak.new.station) _ c.speak.ensures.moments
+
+pub returns-in-Err-clause-filled : goal.returns-in-Err-clause-filled
+returns-in-Err-clause-filled g c = λ asked filled. spoken_spared (g.W.Station.content c.args.station.now) (g.W.Station.now c.args.station.now) (g.W.Station.history c.args.station.now) (g.W.Station.history c.speak.new.station) _ c.speak.ensures.moments
 
 pub returns-in-Err-clause-complete : goal.returns-in-Err-clause-complete
 returns-in-Err-clause-complete g c = usage_complete c.args.words.now (call_of g.P.Source.left g.C.Source.left g.W.Station.now g.W.Station.content c.args.schema.now c.args.script.now c.args.script.now c.args.station.now c.speak.new.station) _ _ status.SpeakFault (λ plan is. c.in_default.not-Ok plan (c.plan.ensures.only plan is))
@@ -64,6 +65,10 @@ pub returns-in-Check-clause-unasked_schema : goal.returns-in-Check-clause-unaske
 returns-in-Check-clause-unasked_schema g c = λ may.
     absurd (no_demo c.args.words.now (Check c.in-Check.schema) (rw c.in-Check.is at c.in-Ok.ensures.ok) (λ plan is. cc (c.in-Ok.is, c.in-Check.is, c.plan.ensures.only plan is)) (λ rounds store same. cc same) may)
 
+pub returns-in-Check-clause-filled : goal.returns-in-Check-clause-filled
+returns-in-Check-clause-filled g c = λ asked.
+    absurd (no_store c.args.words.now (Check c.in-Check.schema) (rw c.in-Check.is at c.in-Ok.ensures.ok) (λ plan is. cc (c.in-Ok.is, c.in-Check.is, c.plan.ensures.only plan is)) (λ schema store same. cc same) (λ rounds store same. cc same) asked)
+
 -- ---- a script is served
 
 pub returns-in-Run-clause-complete : goal.returns-in-Run-clause-complete
@@ -80,6 +85,10 @@ returns-in-Run-clause-untouched g c = λ may.
 pub returns-in-Run-clause-unasked_schema : goal.returns-in-Run-clause-unasked_schema
 returns-in-Run-clause-unasked_schema g c = λ may.
     absurd (no_demo c.args.words.now (Run c.in-Run.schema c.in-Run.store) (rw c.in-Run.is at c.in-Ok.ensures.ok) (λ plan is. cc (c.in-Ok.is, c.in-Run.is, c.plan.ensures.only plan is)) (λ rounds store same. cc same) may)
+
+pub returns-in-Run-clause-filled : goal.returns-in-Run-clause-filled
+returns-in-Run-clause-filled g c = λ asked.
+    absurd (no_store c.args.words.now (Run c.in-Run.schema c.in-Run.store) (rw c.in-Run.is at c.in-Ok.ensures.ok) (λ plan is. cc (c.in-Ok.is, c.in-Run.is, c.plan.ensures.only plan is)) (λ schema store same. cc same) (λ rounds store same. cc same) asked)
 
 -- ---- a store is made
 

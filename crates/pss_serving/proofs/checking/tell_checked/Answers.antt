@@ -8,7 +8,7 @@ use Rattle.pss_serving.specs.Outcomes.{OfText}
 use Rattle.pss_serving.specs.declared.status.Status.TheVariants as status
 use Rattle.pss_serving.proofs.Outcomes.{checking_whole, checking_cut}
 use Rattle.pss_serving.proofs.Found.{sound_of, text_of}
-use Rattle.pss_serving.proofs.Spared.{spared_by, spoken_spares}
+use Rattle.pss_serving.proofs.Spared.{spoken_spared}
 use Rattle.pss_serving.proofs.Unread.{unread_causes, unread_checks, unread_moments, unread_one}
 use Rattle.pss_serving.proofs.checking.tell_checked.Goals as goal
 
@@ -52,5 +52,5 @@ returns g c =
       disk = (end.disk, end.content);
       moments = unread_moments a b first.spoken after first.disk (λ spoken. OfText (λ told. IsWhole told first.spoken spoken) text) c.status_of_unread.result c.in-Err.why text c.in-Err.ensures.found (λ of. inl of)
           (λ unknown. ap g.W.Station.history (end.untold unknown)) end.told end.moments;
-      spared = λ before. spared_by (g.W.Station.content c.args.station.now) a b first (spoken_spares (g.W.Station.content c.args.station.now) first a b after first.disk refl end.moments);
+      spared = λ before. spoken_spared (g.W.Station.content c.args.station.now) first a b after end.moments;
     }

@@ -8,7 +8,7 @@ use Rattle.type_layout.specs.Sound.{IsSoundSchema}
 use Rattle.pss_serving.specs.Making.{Made, MakesStore, WholeMaking}
 use Rattle.pss_serving.proofs.Found.{sound_of}
 use Rattle.pss_serving.proofs.NewStores.{making_causes, making_ends, making_moments}
-use Rattle.pss_serving.proofs.Spared.{spared_by, spoken_spares}
+use Rattle.pss_serving.proofs.Spared.{spoken_spared}
 use Rattle.pss_serving.proofs.Unread.{unread_causes, unread_makes, unread_moments, unread_one}
 use Rattle.pss_serving.proofs.making.init_store.Goals as goal
 
@@ -57,6 +57,7 @@ returns-in-Err g c =
     let b : List Moment = g.W.Station.history c.status_of_unread.new.station in
     let end = c.status_of_unread.ensures in
     let made : Made = record { text = text; before = first.spoken; after = last.spoken; held = held; holds = g.W.Station.content c.status_of_unread.new.station; disk = last.disk } in
+    let spared = spoken_spared held first a b last.spoken end.moments in
     let read = subst (λ (failed : Bool). HasCauseIf (g.P.Source.faults c.args.schema.now) (g.P.Source.faults c.read_checked.new.schema) failed) (sym end.read) c.in-Err.ensures.cause in
     record {
       ends = unread_makes c.status_of_unread.result c.in-Err.why made _ _ c.in-Err.ensures.found read end.told end.content;
@@ -64,5 +65,6 @@ returns-in-Err g c =
       causes = λ script. unread_causes c.status_of_unread.result c.in-Err.why first.spoken last.spoken _ _ read refl end.speech end.other end.told;
       moments = unread_moments a b first.spoken last.spoken first.disk (λ spoken. WholeMaking text first.spoken spoken) c.status_of_unread.result c.in-Err.why text c.in-Err.ensures.found (λ of. inl of)
           (λ unknown. ap g.W.Station.history (end.untold unknown)) end.told end.moments;
-      spared = λ before. spared_by held a b first (spoken_spares held first a b last.spoken first.disk refl end.moments);
+      spared = λ before. spared;
+      filled = λ filled. spared;
     }

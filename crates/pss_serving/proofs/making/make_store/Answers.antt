@@ -10,10 +10,13 @@ use Rattle.pss_serving.proofs.NewStores.{filled_makes, refused_file_moments}
 use Rattle.pss_serving.proofs.Spared.{filled_spared}
 use Rattle.pss_serving.proofs.making.make_store.Goals as goal
 
-pub returns-in-Err-NotEmpty-clause-spared : goal.returns-in-Err-NotEmpty-clause-spared
-returns-in-Err-NotEmpty-clause-spared g c = λ before.
+pub returns-in-Err-NotEmpty-clause-filled : goal.returns-in-Err-NotEmpty-clause-filled
+returns-in-Err-NotEmpty-clause-filled g c =
     filled_spared g.W.Station.now g.W.Station.content g.W.Station.history g.W.Station.speak_faults c.args.station.now c.init.new.w (g.W.Station.history c.refuse_file.new.station) (g.W.Station.now c.refuse_file.new.station).spoken
-    (c.in-Err-NotEmpty.ensures.not_empty (ap Err c.in-Err-NotEmpty.field-0-is)) c.init.ensures.filled c.refuse_file.ensures.moments
+    c.init.ensures.filled c.refuse_file.ensures.moments
+
+pub returns-in-Err-NotEmpty-clause-spared : goal.returns-in-Err-NotEmpty-clause-spared
+returns-in-Err-NotEmpty-clause-spared g c = λ before. returns-in-Err-NotEmpty-clause-filled g c (c.in-Err-NotEmpty.ensures.not_empty (ap Err c.in-Err-NotEmpty.field-0-is))
 
 pub returns-in-Err-NotEmpty-clause-ends : goal.returns-in-Err-NotEmpty-clause-ends
 returns-in-Err-NotEmpty-clause-ends g c = λ text.

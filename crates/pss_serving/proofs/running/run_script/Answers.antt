@@ -7,7 +7,7 @@ use Rattle.type_layout.specs.Sound.{IsSoundSchema}
 use Rattle.pss_serving.specs.Outcomes.{Call, WholeServing}
 use Rattle.pss_serving.proofs.EndOfRun.{causes_of, ends_of, kept_of, moments_of}
 use Rattle.pss_serving.proofs.Found.{sound_of}
-use Rattle.pss_serving.proofs.Spared.{spared_by, spoken_spares}
+use Rattle.pss_serving.proofs.Spared.{spoken_spared}
 use Rattle.pss_serving.proofs.Unread.{unread_causes, unread_kept, unread_moments, unread_one, unread_serves}
 use Rattle.pss_serving.proofs.running.run_script.Goals as goal
 
@@ -78,6 +78,6 @@ returns-in-Err g c =
       moments = unread_moments a b first.spoken last.spoken first.disk (λ spoken. WholeServing text held script first.spoken spoken) c.status_of_unread.result c.in-Err.why text c.in-Err.ensures.found
           (λ of. inr (inl of)) (λ unknown. ap g.W.Station.history (end.untold unknown)) end.told end.moments;
       kept = unread_kept held script first.spoken a b first c.in-Err.why text c.in-Err.ensures.found c.in-Err.ensures.one (λ unknown. ap g.W.Station.history (end.untold unknown));
-      spared = λ before. spared_by held a b first (spoken_spares held first a b last.spoken first.disk refl end.moments);
+      spared = λ before. spoken_spared held first a b last.spoken end.moments;
       right = c.scripts_are_right.ensures text script;
     }

@@ -22,7 +22,6 @@ pub mod NumbersIn
 pub mod Referring
 pub mod Rising
 pub mod SmallTypes
-pub mod Stated
 pub mod Texts
 pub mod TypedMembers
 pub mod Keyed

@@ -1,32 +1,33 @@
 // The layouts of homes.
-ghost use Rattle.std.specs.Prelude.{◌≡◌, ℕ, List, None, map, option_map, slice_get, IfOk, IfSome, IsTrue};
+ghost use Rattle.std.specs.Prelude.{◌≡◌, ℕ, List, None, length, map, option_map, slice_get, IfOk, IfSome, IsTrue};
+ghost use Rattle.std.specs.List.{flat_map};
 ghost use Rattle.type_layout.specs.declared.home.HomeNo.{HomeNo};
 ghost use Rattle.type_layout.specs.Schemas.{given};
 ghost use Rattle.type_layout.specs.Types.{PlainType};
-ghost use Rattle.psdl_lineage.specs.Graph.{graph_of};
-ghost use Rattle.psdl_members.specs.Bodies.{member_view, member_views};
-ghost use Rattle.psdl_members.specs.Texts.{inherited_in};
+ghost use Rattle.psdl_directory.specs.Directories.{all_of};
+ghost use Rattle.psdl_members.specs.Bodies.{member_view, member_views, own_members};
+ghost use Rattle.psdl_rules.specs.inner.Typed.{HaveMembers};
 ghost use Rattle.psdl_standings.specs.Standings.{all_there};
-ghost use Rattle.psdl_standings.specs.States.{type_kept, is_kept_below, AreKeptBelow};
-ghost use Rattle.psdl_check.specs.inner.Stated.{AreStated};
+ghost use Rattle.psdl_standings.specs.States.{type_kept, is_kept_below, AreKeptBelow, own_types};
+ghost use Rattle.psdl_standings.specs.Texts.{types_in};
+ghost use Rattle.psdl_check.specs.inner.Texts.{text_in, IsOne};
 ghost use Rattle.psdl_check.specs.inner.TypedMembers.{type_by, typed_view, typed_views, is_there, AreThere, laid_out, laid};
 
 use crate::members::{MemberType, TypedMember};
 use crate::text::Text;
-use psdl_directory::DeclarationNo;
+use psdl_directory::{DeclarationNo, Directory};
 use psdl_lineage::Sources;
-use psdl_members::{Inherited, Member};
+use psdl_members::{Member, members_of};
 use psdl_standings::StateEntry;
 use pss_base::NoMemory;
 use std::alloc::Global;
 
-/// What is asked to lay types out: their members, and the declarations that have these in their bodies.
+/// What is asked to lay types out: the declarations that have their members in their bodies.
 #[derive(Drop)]
 pub(crate) struct Layouts<'t, 'd> {
-    inherited: Inherited<'t, 'd>,
+    directory: &'t Directory<'d>,
     sources: Sources<'t>,
-    ghost graphed: { sources.graph ≡ graph_of (inherited_in inherited) },
-    ghost stated: { AreStated (inherited_in inherited) sources.own },
+    ghost have: { HaveMembers (all_of directory.now) sources },
 }
 
 // The type of a member, where it is there.
@@ -80,6 +81,24 @@ fn typed_members<'d>(
     Ok(Some(typed))
 }
 
+// The members in bodies with their types, where these are all there.
+fn typed_in<'d>(
+    alloc: Global,
+    text: &Text,
+    directory: &Directory<'d>,
+    bodies: &[DeclarationNo],
+) -> Result<Option<Vec<TypedMember<'d>>>, NoMemory>
+    requires one { IsOne text.now }
+    requires same { all_of directory.now ≡ text_in text.now }
+    ensures views { IfOk result (λ r. (homes : ℕ → List HomeNo) → option_map (λ v. typed_views (types_in text.now.standings.now) homes v.items) r ≡ all_there (laid (flat_map (own_members (text_in text.now)) bodies.now) (flat_map (own_types (text_in text.now) homes) bodies.now))) }
+    ensures there { IfOk result (λ r. IfSome r (λ v. AreThere (length (types_in text.now.standings.now)) (length (text_in text.now)) v.items)) }
+{
+    let members = members_of(alloc, directory, bodies)?;
+    let kept = text.standings.kept_in(alloc, bodies)?;
+    let typed = typed_members(alloc, &members, &kept)?;
+    Ok(typed)
+}
+
 impl<'t, 'd> Layouts<'t, 'd> {
     ghost use Rattle.std.specs.Prelude.{◌≡◌, ℕ, List, [], length, IfOk};
     ghost use Rattle.type_layout.specs.declared.home.HomeNo.{HomeNo};
@@ -96,10 +115,10 @@ impl<'t, 'd> Layouts<'t, 'd> {
         requires { IsOne text.now }
         ensures { IfOk result (λ l. laid_text l ≡ text_in text.now) }
     {
-        let inherited = Inherited::new(alloc, text.lineage)?;
-        let flags = text.standings.stated(alloc, text.directory().len())?;
+        let directory = text.directory();
+        let flags = text.standings.stated(alloc, directory.len())?;
         let sources = Sources::new(alloc, text.lineage, flags)?;
-        Ok(Layouts { inherited, sources })
+        Ok(Layouts { directory, sources })
     }
 
     // The members of a type with their types, none where the type of one is not there.
@@ -115,10 +134,8 @@ impl<'t, 'd> Layouts<'t, 'd> {
         ensures there { IfOk result (λ v. AreThere (length (types_in text.now.standings.now)) (length (text_in text.now)) v.items) }
         ensures members { IfOk result (λ v. (homes : ℕ → List HomeNo) → typed_views (types_in text.now.standings.now) homes v.items ≡ given (layout (text_in text.now) (standings (text_in text.now)) homes number) [] (λ ms. ms)) }
     {
-        let members = self.inherited.members(alloc, number)?;
         let bodies = self.sources.of(alloc, number)?;
-        let kept = text.standings.kept_in(alloc, &bodies)?;
-        match typed_members(alloc, &members, &kept)? {
+        match typed_in(alloc, text, self.directory, &bodies)? {
             Some(typed) => Ok(typed),
             None => Ok(Vec::new(alloc)),
         }

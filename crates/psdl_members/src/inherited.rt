@@ -8,9 +8,7 @@ ghost use Rattle.psdl_members.specs.inner.Heirs.{AreClashes};
 use crate::clashes::Clashes;
 use crate::firsts::Firsts;
 use crate::list_clash::lists_clash;
-use crate::member::Member;
 use crate::own::{Own, own_of, owners};
-use crate::owners::members_of;
 use crate::type_clash::have_clash;
 use psdl_directory::{DeclarationNo, What};
 use psdl_lineage::{Lineage, Sources};
@@ -38,7 +36,6 @@ impl<'l, 'd> Inherited<'l, 'd> {
     ghost use Rattle.psdl_directory.specs.inner.Nodes.{what_view};
     ghost use Rattle.psdl_lineage.specs.Descent.{members, home_keys, home_factories};
     ghost use Rattle.psdl_lineage.specs.Lineages.{text_of};
-    ghost use Rattle.psdl_members.specs.Bodies.{member_views};
     ghost use Rattle.psdl_members.specs.Clashes as clashes;
     ghost use Rattle.psdl_members.specs.Texts.{inherited_in};
     ghost use Rattle.psdl_members.specs.inner.Had.{AreHad};
@@ -70,21 +67,6 @@ impl<'l, 'd> Inherited<'l, 'd> {
     {
         let own = own_of(alloc, lineage.directory())?;
         Inherited::with_own(alloc, lineage, own)
-    }
-
-    /// The members of a type: those of what it descends from, in that order, then its own. Without memory the next question
-    /// is answered as ever.
-    pub fn members(
-        &mut self,
-        alloc: Global,
-        number: DeclarationNo,
-    ) -> Result<Vec<Member<'d>>, NoMemory>
-        ensures same { inherited_in self.new ≡ inherited_in self.old }
-        ensures members { IfOk result (λ v. member_views v.items ≡ members (inherited_in self.old) number) }
-    {
-        let sources = self.sources.of(alloc, number)?;
-        let members = members_of(alloc, self.lineage.directory(), &sources)?;
-        Ok(members)
     }
 
     fn members_clash(&mut self, alloc: Global, number: DeclarationNo) -> Result<bool, NoMemory>

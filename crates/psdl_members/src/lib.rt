@@ -39,4 +39,5 @@ pub use listed::Listed;
 pub use masks::mask_at;
 pub use member::Member;
 pub use own_lists::add_lists;
+pub use owners::members_of;
 pub use spelled::{add_number, add_numbers};

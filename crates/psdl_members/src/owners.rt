@@ -10,8 +10,8 @@ use psdl_directory::{DeclarationNo, Directory};
 use pss_base::NoMemory;
 use std::alloc::Global;
 
-/// The members that some declarations have in their bodies.
-pub(crate) fn members_of<'d>(
+/// The members that these declarations have in their bodies, in order. `NoMemory`: there was no room for the list.
+pub fn members_of<'d>(
     alloc: Global,
     directory: &Directory<'d>,
     declarations: &[DeclarationNo],

@@ -1,5 +1,5 @@
 -- The types of members, body by body.
-use Rattle.std.proofs.Common.{◌≡◌, ℕ, ◌≤◌, List, [], ◌∷◌, ◌++◌, Bool, false, length, map, get_or, Option, nat_lt, refl, sym, ap, ◌∙◌, arith, ⊎_elim}
+use Rattle.std.proofs.Common.{◌≡◌, ℕ, ◌≤◌, List, [], ◌∷◌, ◌++◌, Bool, false, length, map, get_or, Option, nat_lt, refl, sym, ap, subst, ◌∙◌, arith, ⊎_elim}
 use Rattle.std.specs.List.{flat_map}
 use Rattle.std.proofs.lemmas.Bool.{cases_Bool, ltb-true, ltb-false}
 use Rattle.std.proofs.lemmas.List.{map-append}
@@ -11,16 +11,17 @@ use Rattle.type_layout.specs.Types.{PlainType}
 use Rattle.psdl_directory.specs.Declarations.{Declaration}
 use Rattle.psdl_directory.specs.Lookup.{at}
 use Rattle.psdl_directory.specs.Parts.{states, state_names}
-use Rattle.psdl_lineage.specs.Descent.{StateMember, members_in}
+use Rattle.psdl_lineage.specs.Descent.{StateMember, members, members_in}
+use Rattle.psdl_lineage.specs.Sources.{Inheritance, sources_in}
 use Rattle.psdl_members.specs.Bodies.{own_members}
 use Rattle.psdl_members.specs.inner.Numbered.{AreOwners}
 use Rattle.psdl_members.proofs.Cutting.{length-map_is}
-use Rattle.psdl_members.proofs.Numbering.{own_past}
+use Rattle.psdl_members.proofs.Numbering.{own_past, members_by}
 use Rattle.psdl_standings.specs.declared.state_entry.StateEntry.{StateEntry}
 use Rattle.psdl_standings.specs.Standings.{standings}
 use Rattle.psdl_standings.specs.States.{types_of_state, state_types, body_type, own_types, type_kept, has_states, flags}
 use Rattle.psdl_rules.specs.Layouts.{member_type}
-use Rattle.psdl_rules.specs.inner.Typed.{AreTypes}
+use Rattle.psdl_rules.specs.inner.Typed.{AreTypes, HaveMembers}
 
 module _ (all : List Declaration) (n : ℕ) (homes : ℕ → List HomeNo) where
   abbrev in_body : StateType → Option PlainType
@@ -48,6 +49,12 @@ bodies_are all homes (d ∷ ds) =
     ap (λ (l : List (Option PlainType)). l ++ flat_map (own_types all homes) ds) (states_are all d homes (states (at all d).what))
     ∙ ap (λ (l : List (Option PlainType)). map (member_type all (standings all) homes) (own_members all d) ++ l) (bodies_are all homes ds)
     ∙ sym (map-append (member_type all (standings all) homes) (own_members all d) (flat_map (own_members all) ds))
+
+-- of a type, by the bodies that have its members
+pub types_by : (all : List Declaration) (types : List PlainType) (s : Inheritance) (n : ℕ) (bodies : List ℕ) (kept : List StateEntry) → HaveMembers all s → bodies ≡ sources_in s.graph s.own n
+    → ((homes : ℕ → List HomeNo) → map (type_kept types homes) kept ≡ flat_map (own_types all homes) bodies) → AreTypes all types (members all n) kept
+types_by all types s n bodies kept have is of =
+    subst (λ (ms : List StateMember). AreTypes all types ms kept) (members_by all s.graph s.own n bodies have.graphed have.owned is) (λ homes. of homes ∙ bodies_are all homes bodies)
 
 pub as_many : (all : List Declaration) (types : List PlainType) (ms : List StateMember) (kept : List StateEntry) → AreTypes all types ms kept → length kept ≡ length ms
 as_many all types ms kept are = length-map_is (type_kept types (λ _. [])) (member_type all (standings all) (λ _. [])) kept ms (are (λ _. []))

@@ -7,5 +7,4 @@ pub mod Related
 pub mod Typed
 pub mod Early
 pub mod Listing
-pub mod Tables
 pub mod Pairs

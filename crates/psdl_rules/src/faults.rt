@@ -35,7 +35,6 @@ use member_clash::member_clash;
 use not_implemented::not_implemented;
 use provides::not_provided;
 use psdl_directory::{CheckFault, CheckKind, Least};
-use psdl_members::Inherited;
 use psdl_standings::Standings;
 use pss_base::NoMemory;
 use redefined::redefined;
@@ -113,9 +112,8 @@ fn member_faults(
     requires told { told_of standings.now ≡ judged text.now }
     ensures { OnOk result (least.new ≡ noting least.old (of.member_faults (judged text.now) (standings_of (judged text.now)))) }
 {
-    let mut inherited = Inherited::new(alloc, text.lineage())?;
-    member_clash(alloc, text, &mut inherited, least)?;
-    listed_members(alloc, text, standings, inherited, least)?;
+    member_clash(alloc, text, least)?;
+    listed_members(alloc, text, standings, least)?;
     Ok(())
 }
 

@@ -1,8 +1,8 @@
 -- The text whose types are laid out.
 use Rattle.std.specs.Prelude.{List}
 use Rattle.psdl_directory.specs.Declarations.{Declaration}
-use Rattle.psdl_members.specs.Texts.{inherited_in}
+use Rattle.psdl_directory.specs.Directories.{all_of}
 use Rattle.psdl_check.specs.declared.layouts.Layouts.{Layouts}
 
 abbrev pub laid_text : Layouts → List Declaration
-laid_text l = inherited_in l.inherited
+laid_text l = all_of l.directory.now

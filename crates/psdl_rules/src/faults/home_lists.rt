@@ -10,24 +10,22 @@ ghost use Rattle.psdl_lineage.specs.Descent as descent;
 ghost use Rattle.psdl_members.specs.Bodies.{member_views};
 ghost use Rattle.psdl_members.specs.Listings.{identifiers_of_each, identifiers_of};
 ghost use Rattle.psdl_members.specs.declared.list_kind.ListKind.TheVariants as kinds;
-ghost use Rattle.psdl_members.specs.Texts.{inherited_in};
 ghost use Rattle.psdl_rules.specs.Faults as faults;
 ghost use Rattle.psdl_rules.specs.Texts.{judged};
 ghost use Rattle.psdl_rules.specs.inner.Early.{list_early};
 ghost use Rattle.psdl_rules.specs.inner.Listing.{listed_faults};
-ghost use Rattle.psdl_rules.specs.inner.Tables.{AreTables};
-ghost use Rattle.psdl_rules.specs.inner.Typed.{AreTypes};
+ghost use Rattle.psdl_rules.specs.inner.Typed.{AreTypes, HaveMembers};
 ghost use Rattle.psdl_standings.specs.Standings.{standings as standings_of};
 ghost use Rattle.psdl_standings.specs.Texts.{text_of as told_of, types_in};
 
 use crate::early_lists::any_list_early;
 use crate::faults::key_type::all_key_types;
 use crate::faults::list_member::all_list_members;
-use crate::member_types::{member_sources, types_of_members};
+use crate::member_types::member_sources;
 use crate::text::Text;
 use psdl_directory::{CheckKind, DeclarationNo, Least, What};
 use psdl_lineage::Sources;
-use psdl_members::{Inherited, ListKind, Listed, Member, add_lists};
+use psdl_members::{ListKind, Listed, Member, add_lists};
 use psdl_standings::{Standings, StateEntry};
 use pss_base::NoMemory;
 use std::alloc::Global;
@@ -44,13 +42,6 @@ pub(crate) struct Lists<'a> {
 pub(crate) struct TypeMembers<'d> {
     pub members: Vec<Member<'d>>,
     pub types: Vec<StateEntry>,
-}
-
-/// What members are found by: what types inherit, and the declarations from which each has members.
-#[derive(Drop)]
-pub(crate) struct MemberTables<'t, 'd> {
-    pub inherited: Inherited<'t, 'd>,
-    pub sources: Sources<'t>,
 }
 
 fn lists_in<'a>(alloc: Global, kind: ListKind, what: What<'a>) -> Result<Vec<Listed<'a>>, NoMemory>
@@ -72,17 +63,18 @@ fn lists_of<'a>(alloc: Global, what: What<'a>) -> Result<Lists<'a>, NoMemory>
 
 fn members_of<'d>(
     alloc: Global,
-    standings: &Standings,
-    tables: &mut MemberTables<'_, 'd>,
+    standings: &Standings<'_, 'd>,
+    sources: &mut Sources<'_>,
     number: DeclarationNo,
 ) -> Result<TypeMembers<'d>, NoMemory>
-    requires { AreTables (told_of standings.now) tables.old }
-    ensures same { AreTables (told_of standings.now) tables.new }
+    requires { HaveMembers (told_of standings.now) sources.old }
+    ensures same { sources.new ≡ sources.old }
     ensures members { IfOk result (λ m. member_views m.members.items ≡ descent.members (told_of standings.now) number) }
     ensures types { IfOk result (λ m. AreTypes (told_of standings.now) (types_in standings.now) (descent.members (told_of standings.now) number) m.types.items) }
 {
-    let members = tables.inherited.members(alloc, number)?;
-    let types = types_of_members(alloc, standings, &mut tables.sources, number)?;
+    let bodies = sources.of(alloc, number)?;
+    let members = psdl_members::members_of(alloc, standings.directory(), &bodies)?;
+    let types = standings.kept_in(alloc, &bodies)?;
     Ok(TypeMembers { members, types })
 }
 
@@ -131,20 +123,20 @@ fn note_lists(
 fn lists_wrong(
     alloc: Global,
     standings: &Standings,
-    tables: &mut MemberTables<'_, '_>,
+    sources: &mut Sources<'_>,
     home_type: DeclarationNo,
     lists: &Lists<'_>,
     least: &mut Least,
 ) -> Result<(), NoMemory>
-    requires { AreTables (told_of standings.now) tables.old }
-    ensures same { AreTables (told_of standings.now) tables.new }
+    requires { HaveMembers (told_of standings.now) sources.old }
+    ensures same { sources.new ≡ sources.old }
     ensures noted { OnOk result (least.new ≡ noting least.old (listed_faults (told_of standings.now) (standings_of (told_of standings.now)) (descent.members (told_of standings.now) home_type) (identifiers_of_each lists.now.keys.items) (identifiers_of_each lists.now.factories.items))) }
 {
     let early = lists_early(least, lists);
     if !early {
         return Ok(());
     }
-    let members = members_of(alloc, standings, tables, home_type)?;
+    let members = members_of(alloc, standings, sources, home_type)?;
     note_lists(alloc, standings, &members, lists, least)?;
     Ok(())
 }
@@ -153,35 +145,21 @@ fn listed_at(
     alloc: Global,
     text: &Text,
     standings: &Standings,
-    tables: &mut MemberTables<'_, '_>,
+    sources: &mut Sources<'_>,
     number: DeclarationNo,
     least: &mut Least,
 ) -> Result<(), NoMemory>
     requires told { told_of standings.now ≡ judged text.now }
-    requires tables { AreTables (told_of standings.now) tables.old }
-    ensures same { AreTables (told_of standings.now) tables.new }
+    requires sources { HaveMembers (told_of standings.now) sources.old }
+    ensures same { sources.new ≡ sources.old }
     ensures noted { OnOk result (least.new ≡ noting least.old (faults.listed_wrong (judged text.now) (standings_of (judged text.now)) number (at (judged text.now) number))) }
 {
     let Some(home_type) = text.lineage().type_of_home(number) else {
         return Ok(());
     };
     let lists = lists_of(alloc, text.what(number))?;
-    lists_wrong(alloc, standings, tables, home_type, &lists, least)?;
+    lists_wrong(alloc, standings, sources, home_type, &lists, least)?;
     Ok(())
-}
-
-fn tables_of<'t, 'd>(
-    alloc: Global,
-    text: &Text<'t, '_>,
-    standings: &Standings,
-    inherited: Inherited<'t, 'd>,
-) -> Result<MemberTables<'t, 'd>, NoMemory>
-    requires told { told_of standings.now ≡ judged text.now }
-    requires same { inherited_in inherited ≡ told_of standings.now }
-    ensures { IfOk result (λ t. AreTables (told_of standings.now) t) }
-{
-    let sources = member_sources(alloc, text, standings)?;
-    Ok(MemberTables { inherited, sources })
 }
 
 /// C8, C9 and C10: a key or a factory names no member of the type of its home, or one twice, or a key has a member that is a
@@ -190,17 +168,15 @@ pub(crate) fn listed_members(
     alloc: Global,
     text: &Text,
     standings: &Standings,
-    inherited: Inherited,
     least: &mut Least,
 ) -> Result<(), NoMemory>
     requires told { told_of standings.now ≡ judged text.now }
-    requires same { inherited_in inherited ≡ told_of standings.now }
     ensures { OnOk result (least.new ≡ noting least.old (each (faults.listed_wrong (judged text.now) (standings_of (judged text.now))) (judged text.now))) }
 {
-    let mut tables = tables_of(alloc, text, standings, inherited)?;
+    let mut sources = member_sources(alloc, text, standings)?;
     for index in 0..text.len() {
         let number = DeclarationNo::new(index);
-        listed_at(alloc, text, standings, &mut tables, number, least)?;
+        listed_at(alloc, text, standings, &mut sources, number, least)?;
     }
     Ok(())
 }

@@ -41,19 +41,13 @@ fn member_clash_at(
 
 /// C7: two members of a type have names that are equal but for case, or two keys or two factories of a home, with
 /// different lists.
-pub(crate) fn member_clash(
-    alloc: Global,
-    text: &Text,
-    inherited: &mut Inherited,
-    least: &mut Least,
-) -> Result<(), NoMemory>
-    requires same { inherited_in inherited.old ≡ judged text.now }
-    ensures same { inherited_in inherited.new ≡ judged text.now }
-    ensures noted { OnOk result (least.new ≡ noting least.old (each (conditions.member_clash (judged text.now)) (judged text.now))) }
+pub(crate) fn member_clash(alloc: Global, text: &Text, least: &mut Least) -> Result<(), NoMemory>
+    ensures { OnOk result (least.new ≡ noting least.old (each (conditions.member_clash (judged text.now)) (judged text.now))) }
 {
+    let mut inherited = Inherited::new(alloc, text.lineage())?;
     for index in 0..text.len() {
         let number = DeclarationNo::new(index);
-        member_clash_at(alloc, text, inherited, number, least)?;
+        member_clash_at(alloc, text, &mut inherited, number, least)?;
     }
     Ok(())
 }

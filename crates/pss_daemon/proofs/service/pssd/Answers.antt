@@ -1,4 +1,4 @@
-use Rattle.std.proofs.Common.{inr, refl}
+use Rattle.std.proofs.Common.{inr}
 use Rattle.pss_daemon.specs.declared.forms.Plan.TheVariants.{Check, Demo, Init, Run}
 use Rattle.pss_serving.specs.Outcomes.{call_of}
 use Rattle.pss_serving.specs.declared.status.Status.TheVariants as status

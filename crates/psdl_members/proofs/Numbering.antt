@@ -20,7 +20,7 @@ use Rattle.psdl_members.specs.Bodies.{own_members, member_view, member_views}
 use Rattle.psdl_members.specs.Clashes.{members_clash}
 use Rattle.psdl_members.specs.inner.Flat.{flat, begins, piece, piece_of}
 use Rattle.psdl_members.specs.inner.Noted.{Within}
-use Rattle.psdl_members.specs.inner.Numbered.{small_number, AreNumbered, AreOwners}
+use Rattle.psdl_members.specs.inner.Numbered.{small_number, AreNumberedBy, AreNumbered, AreNumberedAs, AreOwners}
 use Rattle.psdl_members.proofs.Cutting.{piece_is, map_piece, length-map_is, is_piece, no_piece}
 
 -- ---- piece by piece
@@ -29,7 +29,7 @@ pub own_past : (all : List Declaration) (n : ℕ) → length all ≤ n → own_m
 own_past all n past = ap (λ (d : Declaration). flat_map (members_in n) (states d.what)) (get_or_past all n nothing past)
 
 -- the numbers of a declaration's members
-pub own_numbers : (all : List Declaration) (s : Spellings) (numbers starts : List ℕ) (n : ℕ) → AreNumbered all s numbers starts → map (λ k. Some k) (piece_of starts n numbers) ≡ map (small_number s) (own_members all n)
+own_numbers : (all : List Declaration) (s : Spellings) (numbers starts : List ℕ) (n : ℕ) → AreNumberedBy all s numbers starts → map (λ k. Some k) (piece_of starts n numbers) ≡ map (small_number s) (own_members all n)
 own_numbers all s numbers starts n are =
     ⊎_elim
     (λ t.
@@ -50,7 +50,7 @@ own_numbers all s numbers starts n are =
     ∙ sym (ap (λ (l : List StateMember). map (small_number s) l) (own_past all n past)))
     (cases_Bool (nat_lt n (length all)))
 
-pub all_numbers : (all : List Declaration) (s : Spellings) (numbers starts : List ℕ) (ns : List ℕ) → AreNumbered all s numbers starts
+all_numbers : (all : List Declaration) (s : Spellings) (numbers starts : List ℕ) (ns : List ℕ) → AreNumberedBy all s numbers starts
     → map (λ k. Some k) (flat_map (λ n. piece_of starts n numbers) ns) ≡ map (small_number s) (flat_map (own_members all) ns)
 all_numbers all s numbers starts [] are = refl
 all_numbers all s numbers starts (n ∷ ns) are =
@@ -73,7 +73,7 @@ any_alike s k m (j ∷ ks) (x ∷ ms) here e =
     ap (λ (b : Bool). b || list_any (λ i. k == i) ks) (same_number s (lower m.name.name) (lower x.name.name) k j (sym here) (sym first))
     ∙ ap (λ (b : Bool). members_clash m x || b) (any_alike s k m ks ms here rest)
 
-pub distinct_alike : (s : Spellings) (ks : List ℕ) (ms : List StateMember) → map (λ j. Some j) ks ≡ map (small_number s) ms → are_distinct (λ a b. a == b) ks ≡ are_distinct members_clash ms
+distinct_alike : (s : Spellings) (ks : List ℕ) (ms : List StateMember) → map (λ j. Some j) ks ≡ map (small_number s) ms → are_distinct (λ a b. a == b) ks ≡ are_distinct members_clash ms
 distinct_alike s [] [] e = refl
 distinct_alike s [] (x ∷ ms) e = absurd (cc)
 distinct_alike s (k ∷ ks) [] e = absurd (cc)
@@ -82,6 +82,16 @@ distinct_alike s (k ∷ ks) (x ∷ ms) e =
     let rest : map (λ (i : ℕ). Some i) ks ≡ map (small_number s) ms = cc in
     ap (λ (b : Bool). not b && are_distinct (λ a b. a == b) ks) (any_alike s k x ks ms first rest)
     ∙ ap (λ (b : Bool). not (list_any (members_clash x) ms) && b) (distinct_alike s ks ms rest)
+
+-- ---- whose spellings are gone
+
+pub numbered_as : (s : Spellings) (ms : List StateMember) (numbers starts : List ℕ) → map (λ k. Some k) numbers ≡ map (small_number s) ms → AreNumberedAs ms starts numbers starts
+numbered_as s ms numbers starts e all whole from =
+    let by : AreNumberedBy all s numbers starts = record { numbers_are = e ∙ ap (map (small_number s)) whole; starts_are = from } in
+    record {
+      as_many = λ n. length-map_is (λ (k : ℕ). Some k) (small_number s) (piece_of starts n numbers) (own_members all n) (own_numbers all s numbers starts n by);
+      alike = λ ns. distinct_alike s (flat_map (λ m. piece_of starts m numbers) ns) (flat_map (own_members all) ns) (all_numbers all s numbers starts ns by);
+    }
 
 -- ---- members by descent
 
@@ -98,15 +108,14 @@ members_by all graph own n sources g are e =
     ap (λ l. flat_map (own_members all) l) (e ∙ ap (λ k. sources_in k own n) g)
     ∙ sym (inherited (own_members all) all own n (none_own all own are))
 
-pub clash_by : (all : List Declaration) (s : Spellings) (numbers starts : List ℕ) (graph : List (List ℕ)) (own : List Bool) (n : ℕ) (sources : List ℕ) → AreNumbered all s numbers starts → graph ≡ graph_of all → AreOwners all own
+pub clash_by : (all : List Declaration) (numbers starts : List ℕ) (graph : List (List ℕ)) (own : List Bool) (n : ℕ) (sources : List ℕ) → AreNumbered all numbers starts → graph ≡ graph_of all → AreOwners all own
     → sources ≡ sources_in graph own n → not (are_distinct (λ a b. a == b) (flat_map (λ m. piece_of starts m numbers) sources)) ≡ not (are_distinct members_clash (members all n))
-clash_by all s numbers starts graph own n sources are g owns e =
-    ap not (distinct_alike s (flat_map (λ m. piece_of starts m numbers) sources) (flat_map (own_members all) sources) (all_numbers all s numbers starts sources are)
-    ∙ ap (λ l. are_distinct members_clash l) (members_by all graph own n sources g owns e))
+clash_by all numbers starts graph own n sources are g owns e =
+    ap not (are.alike sources ∙ ap (λ l. are_distinct members_clash l) (members_by all graph own n sources g owns e))
 
 -- ---- what is kept of a text
 
-within_all : (s : Spellings) (limit : ℕ) → ((name : List ℕ) (n : ℕ) → number_of s name ≡ Some n → n < limit) → (ks : List ℕ) (ms : List StateMember) → map (λ j. Some j) ks ≡ map (small_number s) ms → Within limit ks
+pub within_all : (s : Spellings) (limit : ℕ) → ((name : List ℕ) (n : ℕ) → number_of s name ≡ Some n → n < limit) → (ks : List ℕ) (ms : List StateMember) → map (λ j. Some j) ks ≡ map (small_number s) ms → Within limit ks
 within_all s limit below [] ms e n h = absurd (cc)
 within_all s limit below (k ∷ ks) [] e n h = absurd (cc)
 within_all s limit below (k ∷ ks) (m ∷ ms) e n h =
@@ -117,8 +126,8 @@ within_all s limit below (k ∷ ks) (m ∷ ms) e n h =
     (λ f. within_all s limit below ks ms rest n (sym (ap (λ v. v || has ks n) f) ∙ h))
     (cases_Bool (k == n))
 
-pub fit : (all : List Declaration) (s : Spellings) (numbers starts : List ℕ) (limit : ℕ) → AreNumbered all s numbers starts → ((name : List ℕ) (n : ℕ) → number_of s name ≡ Some n → n < limit) → Within limit numbers
-fit all s numbers starts limit are below = within_all s limit below numbers (flat (own_members all) (length all)) are.numbers_are
+pub within_more : (limit more : ℕ) (ks : List ℕ) → limit ≤ more → Within limit ks → Within more ks
+within_more limit more ks le within n h = omega (arith, le, within n h)
 
 -- ---- one name more is noted
 

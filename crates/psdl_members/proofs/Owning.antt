@@ -1,9 +1,8 @@
 -- Which declarations have something of their own.
-use Rattle.std.proofs.Common.{◌≡◌, ℕ, ◌<◌, List, [], ◌∷◌, Bool, true, false, ◌||◌, length, map, get_or, Some, nat_lt, refl, sym, ap, ◌∙◌, arith, ⊎_elim}
+use Rattle.std.proofs.Common.{◌≡◌, ℕ, ◌<◌, List, [], ◌∷◌, Bool, true, false, ◌||◌, length, map, get_or, nat_lt, refl, sym, ap, ◌∙◌, arith, ⊎_elim}
 use Rattle.std.specs.List.{range_with_len}
 use Rattle.std.proofs.lemmas.Bool.{cases_Bool, ltb-true, ltb-false}
 use Rattle.std.proofs.lemmas.List.FromFn.{get_or-map-range_with_len}
-use Rattle.psdl_directory.specs.declared.spellings.Spellings.{Spellings}
 use Rattle.psdl_directory.specs.Declarations.{Declaration}
 use Rattle.psdl_lineage.specs.Sources.{is_own}
 use Rattle.psdl_members.specs.declared.firsts.Firsts.{Firsts}
@@ -11,11 +10,9 @@ use Rattle.psdl_members.specs.declared.own.Own.{Own}
 use Rattle.psdl_members.specs.Bodies.{own_members}
 use Rattle.psdl_members.specs.inner.Flat.{piece_of}
 use Rattle.psdl_members.specs.inner.Had.{AreHad, AreFlags, has_some, has_own, IsMost, Fits}
-use Rattle.psdl_members.specs.inner.Numbered.{small_number}
 use Rattle.psdl_members.specs.inner.Room.{HasRoom, SameRoom}
 use Rattle.psdl_members.specs.inner.Rowed.{row_of}
-use Rattle.psdl_members.proofs.Cutting.{length-map_is}
-use Rattle.psdl_members.proofs.Numbering.{own_numbers, own_past}
+use Rattle.psdl_members.proofs.Numbering.{own_past}
 
 none : {A : Type 0} (xs : List A) → has_some xs ≡ false → xs ≡ []
 none [] h = refl
@@ -37,11 +34,7 @@ module _ (all : List Declaration) (o : Own) (own : List Bool) (had : AreHad all 
       (none names off_all.0, (none (row_of o.lists.keys n) off_all.1.0, none (row_of o.lists.factories n) off_all.1.1))
 
   no_member : (n : ℕ) → n < length all → is_own own n ≡ false → length (own_members all n) ≡ 0
-  no_member n lt off =
-      let s : Spellings = o.names.spellings in
-      let names : List ℕ = piece_of o.names.starts.items n o.names.numbers.items in
-      let same : length names ≡ length (own_members all n) = length-map_is (λ (k : ℕ). Some k) (small_number s) names (own_members all n) (own_numbers all s o.names.numbers.items o.names.starts.items n had.numbered) in
-      sym same ∙ ap (λ (l : List ℕ). length l) ((each n lt off).0)
+  no_member n lt off = sym (had.numbered.as_many n) ∙ ap (λ (l : List ℕ). length l) ((each n lt off).0)
 
   pub are_flags : AreFlags all o own
   are_flags =
@@ -55,7 +48,7 @@ module _ (all : List Declaration) (o : Own) (own : List Bool) (had : AreHad all 
 pub fits_by : (o : Own) (f : Firsts) (most : ℕ) → IsMost o most → HasRoom f most → Fits o f
 fits_by o f most is room =
     record {
-      members = λ name n e. omega (arith, is.members name n e, room.marks);
+      members = omega (arith, is.members, room.marks);
       keys = record { marks = omega (arith, is.keys, room.marks); lists = omega (arith, is.keys, room.lists) };
       factories = record { marks = omega (arith, is.factories, room.marks); lists = omega (arith, is.factories, room.lists) };
     }
@@ -66,7 +59,7 @@ room_kept old new names same room = record { marks = omega (arith, same.marks, r
 pub fits_kept : (o : Own) (old new : Firsts) → SameRoom old new → Fits o old → Fits o new
 fits_kept o old new same fits =
     record {
-      members = λ name n e. omega (arith, fits.members name n e, same.marks);
+      members = omega (arith, fits.members, same.marks);
       keys = room_kept old new o.lists.keys.names same fits.keys;
       factories = room_kept old new o.lists.factories.names same fits.factories;
     }

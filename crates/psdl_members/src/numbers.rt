@@ -4,7 +4,8 @@ ghost use Rattle.psdl_directory.specs.Directories.{all_of};
 ghost use Rattle.psdl_directory.specs.Spelled.{Keeps};
 ghost use Rattle.psdl_members.specs.Bodies.{member_views, own_members};
 ghost use Rattle.psdl_members.specs.inner.Flat.{flat, begins};
-ghost use Rattle.psdl_members.specs.inner.Numbered.{small_number, AreNumbered};
+ghost use Rattle.psdl_members.specs.inner.Noted.{Within};
+ghost use Rattle.psdl_members.specs.inner.Numbered.{small_number, AreNumbered, AreNumberedAs};
 
 use crate::member::Member;
 use crate::own_members::add_own;
@@ -23,9 +24,11 @@ struct Bodies<'d> {
 /// The numbers of the names of all members in small letters, and where those of each declaration begin.
 #[derive(Drop)]
 pub(crate) struct Numbers {
-    pub spellings: Spellings,
     pub numbers: Vec<usize>,
     pub starts: Vec<usize>,
+    /// The numbers of all names are less than that.
+    pub names: usize,
+    ghost below: { Within names numbers.items },
 }
 
 fn all_bodies<'d>(alloc: Global, directory: &Directory<'d>) -> Result<Bodies<'d>, NoMemory>
@@ -62,25 +65,26 @@ fn small_numbers(
     Ok(numbers)
 }
 
+// The spellings are of no use behind this: which names are equal is all that is asked.
 fn of_bodies(alloc: Global, bodies: Bodies<'_>) -> Result<Numbers, NoMemory>
-    ensures numbers { IfOk result (λ n. map (λ k. Some k) n.numbers.items ≡ map (small_number n.spellings) (member_views bodies.entry.members.items)) }
-    ensures starts { IfOk result (λ n. n.starts.items ≡ bodies.entry.starts.items) }
+    ensures { IfOk result (λ n. AreNumberedAs (member_views bodies.entry.members.items) bodies.entry.starts.items n.numbers.items n.starts.items) }
 {
     let mut spellings = Spellings::new(alloc);
     let numbers = small_numbers(alloc, &mut spellings, &bodies.members)?;
     Ok(Numbers {
-        spellings,
         numbers,
         starts: bodies.starts,
+        names: spellings.len(),
     })
 }
 
 /// The numbers of the names of all members of a text.
 pub(crate) fn numbers_of(alloc: Global, directory: &Directory<'_>) -> Result<Numbers, NoMemory>
-    ensures { IfOk result (λ n. AreNumbered (all_of directory.now) n.spellings n.numbers.items n.starts.items) }
+    ensures { IfOk result (λ n. AreNumbered (all_of directory.now) n.numbers.items n.starts.items) }
 {
     let bodies = all_bodies(alloc, directory)?;
-    of_bodies(alloc, bodies)
+    let numbers = of_bodies(alloc, bodies)?;
+    Ok(numbers)
 }
 
 impl Numbers {

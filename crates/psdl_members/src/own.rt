@@ -83,6 +83,6 @@ impl Own {
         ensures { IsMost self.now result }
     {
         let lists = larger(self.lists.keys.names, self.lists.factories.names);
-        larger(self.names.spellings.len(), lists)
+        larger(self.names.names, lists)
     }
 }

@@ -1,7 +1,6 @@
 -- What declarations have in their bodies, by number.
-use Rattle.std.specs.Prelude.{◌≡◌, ℕ, ◌<◌, ◌≤◌, List, [], length, Some, Bool, false, ◌||◌, nat_lt}
+use Rattle.std.specs.Prelude.{◌≡◌, ℕ, ◌≤◌, List, [], length, Bool, false, ◌||◌, nat_lt}
 use Rattle.psdl_directory.specs.Declarations.{Declaration}
-use Rattle.psdl_directory.specs.Spelled.{number_of}
 use Rattle.psdl_lineage.specs.Sources.{is_own}
 use Rattle.psdl_members.specs.declared.list_kind.ListKind.TheVariants as kinds
 use Rattle.psdl_members.specs.declared.own.Listings.{Listings}
@@ -20,7 +19,7 @@ pub record AreListsHad (all : List Declaration) (l : Listings) : Type 0 where
   pub no_factory : (n : ℕ) → length all ≤ n → row_of l.factories n ≡ []
 
 pub record AreHad (all : List Declaration) (o : Own) : Type 0 where
-  pub numbered : AreNumbered all o.names.spellings o.names.numbers.items o.names.starts.items
+  pub numbered : AreNumbered all o.names.numbers.items o.names.starts.items
   pub listed : AreListsHad all o.lists
 
 abbrev pub has_some : {A : Type 0} → List A → Bool
@@ -37,12 +36,12 @@ pub record AreFlags (all : List Declaration) (o : Own) (own : List Bool) : Type 
 
 -- the numbers of all names are less than that
 pub record IsMost (o : Own) (most : ℕ) : Type 0 where
-  pub members : (name : List ℕ) (n : ℕ) → number_of o.names.spellings name ≡ Some n → n < most
+  pub members : o.names.names ≤ most
   pub keys : o.lists.keys.names ≤ most
   pub factories : o.lists.factories.names ≤ most
 
 -- there is room for all names
 pub record Fits (o : Own) (f : Firsts) : Type 0 where
-  pub members : (name : List ℕ) (n : ℕ) → number_of o.names.spellings name ≡ Some n → n < length f.marks
+  pub members : o.names.names ≤ length f.marks
   pub keys : HasRoom f o.lists.keys.names
   pub factories : HasRoom f o.lists.factories.names

@@ -17,7 +17,7 @@ abbrev pub changes_in : Overlay → Changes
 changes_in overlay = changes_of (slots_in overlay)
 
 abbrev pub indexes_in : Overlay → KeyIndexes
-indexes_in overlay = overlay.indexes.entries
+indexes_in overlay = overlay.indexes
 
 -- a state may be put at the serial, and each of the keys
 pub record IsReady (serial : ℕ) (pairs : List Pair) (overlay : Overlay) : Type 0 where

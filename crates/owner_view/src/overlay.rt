@@ -15,6 +15,9 @@ use std::alloc::Global;
 use storage_home::indexes::{self, KeyIndexes};
 use type_layout::KeyNo;
 
+// The most indexes whose places stay when all are taken away.
+const MOST_INDEXES: usize = 64;
+
 /// An owner's changes by serial, and an index for each key that was reserved for them.
 #[derive(Drop)]
 pub struct Overlay {
@@ -32,7 +35,7 @@ impl Overlay {
         Overlay {
             alloc,
             states: States::new(alloc),
-            indexes: indexes::none(alloc),
+            indexes: KeyIndexes::new(alloc),
         }
     }
 
@@ -42,7 +45,7 @@ impl Overlay {
         ensures indexes { indexes_in self.new ≡ [] }
     {
         states::clear(&mut self.states, self.alloc);
-        indexes::clear(&mut self.indexes, self.alloc);
+        self.indexes.clear(self.alloc, MOST_INDEXES);
     }
 
     /// The serial of the only state, or of the only one that is reserved.

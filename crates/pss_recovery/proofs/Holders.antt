@@ -25,8 +25,8 @@ same_option (Some x) None e = cc
 same_option (Some x) (Some y) e = cc
 
 module _ (S : Schema) (M : Catalog) (homes : Homes) (kept : IsKept S M homes) (key : KeyNo) (bytes : List ℕ) where
-  pub found_is : (found : Option ℕ) → map (λ (pid : Pid). pid.serial) (holders S M key bytes) ≡ option_to_list found → found_at homes.keys.entries key.0 bytes ≡ found
-  found_is found e = sym (same_option found (found_at homes.keys.entries key.0 bytes) (sym e ∙ holder_is S M homes kept key bytes))
+  pub found_is : (found : Option ℕ) → map (λ (pid : Pid). pid.serial) (holders S M key bytes) ≡ option_to_list found → found_at homes.keys key.0 bytes ≡ found
+  found_is found e = sym (same_option found (found_at homes.keys key.0 bytes) (sym e ∙ holder_is S M homes kept key bytes))
 
   pub held : (serial : ℕ) → map (λ (pid : Pid). pid.serial) (holders S M key bytes) ≡ option_to_list (Some serial) → IsHeld S M key bytes
   held serial e = (serial, (kept.keys key bytes serial).0 (found_is (Some serial) e))

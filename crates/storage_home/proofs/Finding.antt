@@ -27,10 +27,10 @@ none_listed : (test : Object → Bool) (M : Catalog) → ((t : ℕ) (object : Ob
 none_listed test M never = empty_both (pids_where test M) ((only_listed test M 0).1 (λ t x found passes. absurd (never t x found passes))) ((only_listed test M 1).1 (λ t x found passes. absurd (never t x found passes)))
 
 module _ (S : Schema) (M : Catalog) (homes : Parts) (kept : IsKept S M homes) (key : KeyNo) (bytes : List ℕ) where
-  pub holder_is : map (λ pid. pid.serial) (holders S M key bytes) ≡ option_to_list (found_at homes.keys.entries key.0 bytes)
-  holder_is = by (found_at homes.keys.entries key.0 bytes) refl
+  pub holder_is : map (λ pid. pid.serial) (holders S M key bytes) ≡ option_to_list (found_at homes.keys key.0 bytes)
+  holder_is = by (found_at homes.keys key.0 bytes) refl
     where
-      by : (o : Option ℕ) → found_at homes.keys.entries key.0 bytes ≡ o → map (λ (pid : Pid). pid.serial) (holders S M key bytes) ≡ option_to_list o
+      by : (o : Option ℕ) → found_at homes.keys key.0 bytes ≡ o → map (λ (pid : Pid). pid.serial) (holders S M key bytes) ≡ option_to_list o
       by None is = ap (map (λ (pid : Pid). pid.serial)) (none_listed (holds S key bytes) M (λ t x found passes. (let here = (kept.keys key bytes t).1 (x, found, passes) in let no : Some t ≡ None = sym here ∙ is in cc)))
       by (Some s) is =
           let holder = (kept.keys key bytes s).0 is in
@@ -43,13 +43,13 @@ same_option (Some s) None e = cc
 same_option (Some s) (Some t) e = cc
 
 -- who is told as the holder is found
-pub told_is : (S : Schema) (M : Catalog) (homes : Parts) → IsKept S M homes → (key : KeyNo) (bytes : List ℕ) (o : Option ℕ) → map (λ pid. pid.serial) (holders S M key bytes) ≡ option_to_list o → found_at homes.keys.entries key.0 bytes ≡ o
+pub told_is : (S : Schema) (M : Catalog) (homes : Parts) → IsKept S M homes → (key : KeyNo) (bytes : List ℕ) (o : Option ℕ) → map (λ pid. pid.serial) (holders S M key bytes) ≡ option_to_list o → found_at homes.keys key.0 bytes ≡ o
 told_is S M homes kept key bytes o told = same_option _ o (sym (holder_is S M homes kept key bytes) ∙ told)
 
 -- a key has one holder
 pub unique_kept : (S : Schema) (M : Catalog) (homes : Parts) → IsKept S M homes → IsUnique S M
 unique_kept S M homes kept k bytes s t x y at_s at_t of_x of_y =
-    let held : found_at homes.keys.entries k.0 bytes ≡ Some s = (kept.keys k bytes s).1 (x, at_s, of_x) in
-    let also : found_at homes.keys.entries k.0 bytes ≡ Some t = (kept.keys k bytes t).1 (y, at_t, of_y) in
+    let held : found_at homes.keys k.0 bytes ≡ Some s = (kept.keys k bytes s).1 (x, at_s, of_x) in
+    let also : found_at homes.keys k.0 bytes ≡ Some t = (kept.keys k bytes t).1 (y, at_t, of_y) in
     let one : Some s ≡ Some t = sym held ∙ also in
     cc

@@ -41,7 +41,7 @@ pub nothing_kept :
     (S : Schema) → IsSoundSchema S → (homes : Parts) → homes.families ≡ bases_of S → homes.rows.chunks ≡ [] → homes.total ≡ 0 → homes.objects ≡ 0
     → ((h s : ℕ) → is_held_in homes.extents.items h s ≡ false) → length homes.extents.items ≡ length S.homes
     → homes.counts.items ≡ replicate (length S.homes) 0
-    → ((key : ℕ) (bytes : List ℕ) → found_at homes.keys.entries key bytes ≡ None) → IsKept S empty homes
+    → ((key : ℕ) (bytes : List ℕ) → found_at homes.keys key bytes ≡ None) → IsKept S empty homes
 nothing_kept S sound homes families rows sum_is number held size counts found = record {
   sound = sound;
   each = λ s x at. absurd (let no : None ≡ Some x = sym (get-empty nat_cmp s) ∙ at in cc);
@@ -182,7 +182,7 @@ module _ (S : Schema) (homes : Parts) (serial : ℕ) (row : Stored) (m : MayLoad
   pub loaded_home : row.home.0 ≤ length homes.extents.items
   loaded_home = subst (λ (r : Stored). r.home.0 ≤ length homes.extents.items) (sym m.is) (subst (λ (n : ℕ). m.object.home.0 ≤ n) (sym m.kept.extents_size) (some_there S.homes m.object.home.0 m.is_sound.0).1)
 
-  abbrev pub may_put_loaded : (new : Parts) → IsKept S m.catalog new → (pairs : List (KeyNo × List ℕ)) → AreKeysOf S (Some m.object) pairs → IsReserved new m.object.home serial → AreKeysReserved new.keys.entries pairs → MayPutObject new serial row pairs
+  abbrev pub may_put_loaded : (new : Parts) → IsKept S m.catalog new → (pairs : List (KeyNo × List ℕ)) → AreKeysOf S (Some m.object) pairs → IsReserved new m.object.home serial → AreKeysReserved new.keys pairs → MayPutObject new serial row pairs
   may_put_loaded new kept pairs keys reserved keys_reserved = record {
     schema = S;
     catalog = m.catalog;

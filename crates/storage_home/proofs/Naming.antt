@@ -14,5 +14,5 @@ module _ (S : Schema) (M : Catalog) (homes : Parts) (kept : IsKept S M homes) wh
   pub placed : (change : Change) → IsNamed S change → IsPlaced homes change
   placed change named some = let there = some_there S.homes change.put.home (named some) in (there.0, subst (λ (n : ℕ). change.put.home ≤ n) (sym kept.extents_size) there.1)
 
-pub change_stays : (old new : Parts) (change : Change) → AllStay old new → StayReserved old.keys.entries new.keys.entries → IsChangeReserved old change → IsChangeReserved new change
+pub change_stays : (old new : Parts) (change : Change) → AllStay old new → StayReserved old.keys new.keys → IsChangeReserved old change → IsChangeReserved new change
 change_stays old new change stay keys reserved = ((λ some. stay (record { 0 = change.put.home }) change.put.serial (reserved.0 some)), λ key bytes has. keys key bytes (reserved.1 key bytes has))

@@ -72,12 +72,12 @@ module _ (homes : Parts) (s : ℕ) (row : Stored) (had has : List (KeyNo × List
 
   -- ---- keys
 
-  pub may_put_new : (indexes : KeyIndexes) → TurnsFound homes.keys.entries indexes had None → KeepsKeysReserved homes.keys.entries indexes → MayPut indexes has
+  pub may_put_new : (indexes : KeyIndexes) → TurnsFound homes.keys indexes had None → KeepsKeysReserved homes.keys indexes → MayPut indexes has
   may_put_new indexes found reserved =
       may_put_keys S (remove M s) indexes (keys_without S M s may.before may.there had may.old_keys.listed _ indexes may.kept.keys found) s may.object (gone M s s refl) (subst (IsUnique S) (sym same_map_after) may.unique) has may.new_keys
       (λ key bytes listed. reserved key bytes ∙ may.keys_reserved key bytes listed)
 
-  keys_after : (between after : KeyIndexes) → TurnsFound homes.keys.entries between had None → TurnsFound between after has (Some s) → KeysAre S (insert M s may.object) after
+  keys_after : (between after : KeyIndexes) → TurnsFound homes.keys between had None → TurnsFound between after has (Some s) → KeysAre S (insert M s may.object) after
   keys_after between after taken put =
       subst (λ N. KeysAre S N after) same_map_after
       (keys_with S (remove M s) s may.object (gone M s s refl) (subst (IsUnique S) (sym same_map_after) may.unique) has may.new_keys.listed between after
@@ -96,7 +96,7 @@ module _ (homes : Parts) (s : ℕ) (row : Stored) (had has : List (KeyNo × List
   pub kept_replaced :
       (new : Parts) (old : Stored) → object_at s homes.rows.chunks ≡ Some old → (between : KeyIndexes) → new.families ≡ homes.families → TurnsObject homes.rows.chunks new.rows.chunks s (Some row)
       → new.total ≡ homes.total - length old.bytes + length row.bytes → new.objects ≡ homes.objects → new.extents.items ≡ homes.extents.items → new.counts.items ≡ homes.counts.items
-      → TurnsFound homes.keys.entries between had None → TurnsFound between new.keys.entries has (Some s) → IsKept S (insert M s may.object) new
+      → TurnsFound homes.keys between had None → TurnsFound between new.keys has (Some s) → IsKept S (insert M s may.object) new
   kept_replaced new old is between families rows sum number extents counts taken put = record {
     sound = may.kept.sound;
     each = λ t x found. sound_at t x found (same_or_not t s);
@@ -120,7 +120,7 @@ module _ (homes : Parts) (s : ℕ) (row : Stored) (had has : List (KeyNo × List
     extents_size = ap length extents ∙ may.kept.extents_size;
     counts = λ home. ap (λ l. number_at l home) counts ∙ may.kept.counts home ∙ sym (same_count home);
     counts_size = ap length counts ∙ may.kept.counts_size;
-    keys = keys_after between new.keys.entries taken put;
+    keys = keys_after between new.keys taken put;
   }
     where
       sound_at : (t : ℕ) (x : Object) → get (insert M s may.object) t ≡ Some x → (t ≡ s) ⊎ (t ≡ s → ⊥) → IsSound S x

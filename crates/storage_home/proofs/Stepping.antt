@@ -94,15 +94,15 @@ unique_before S N steps fresh unique key bytes s t x y at_s at_t hold_x hold_y =
 
 -- ---- what stays reserved
 
-pub all_stay : (old new : Parts) (changes : List Change) → AllStay old new → KeepsKeysReserved old.keys.entries new.keys.entries → AreReserved old changes → AreReserved new changes
+pub all_stay : (old new : Parts) (changes : List Change) → AllStay old new → KeepsKeysReserved old.keys new.keys → AreReserved old changes → AreReserved new changes
 all_stay old new [] stay keys reserved = tt
 all_stay old new (c ∷ cs) stay keys reserved =
     ((λ some. stay (record { 0 = c.put.home }) c.put.serial (reserved.0.0 some), λ key bytes has. keys key bytes ∙ reserved.0.1 key bytes has), all_stay old new cs stay keys reserved.1)
 
 module _ (S : Schema) (F : Catalog) (unique : IsUnique S F) (s : ℕ) (object : Object) (at : get F s ≡ Some object) (pairs : List (KeyNo × List ℕ)) (keys : AreKeysOf S (Some object) pairs) (original : Catalog) (old new : Parts)
-    (stay : OthersStay old new s) (turn : TurnsKeysReserved old.keys.entries new.keys.entries pairs false) where
+    (stay : OthersStay old new s) (turn : TurnsKeysReserved old.keys new.keys pairs false) where
   -- another object holds none of these keys
-  apart_keys : (t : ℕ) → (s ≡ t → ⊥) → (state : Option Object) → ((x : Object) → state ≡ Some x → get F t ≡ Some x) → (others : List (KeyNo × List ℕ)) → AreKeysOf S state others → AreKeysReserved old.keys.entries others → AreKeysReserved new.keys.entries others
+  apart_keys : (t : ℕ) → (s ≡ t → ⊥) → (state : Option Object) → ((x : Object) → state ≡ Some x → get F t ≡ Some x) → (others : List (KeyNo × List ℕ)) → AreKeysOf S state others → AreKeysReserved old.keys others → AreKeysReserved new.keys others
   apart_keys t other state there others of reserved key bytes has =
       turn key bytes ∙ by (lists pairs key bytes) refl
     where
@@ -113,7 +113,7 @@ module _ (S : Schema) (F : Catalog) (unique : IsUnique S F) (s : ℕ) (object : 
       clash listed None is held = cc
       clash listed (Some x) is held = other (unique (record { 0 = key }) bytes s t object x at (there x is) (sym (keys.listed (record { 0 = key }) bytes) ∙ listed) held)
 
-      by : (b : Bool) → lists pairs key bytes ≡ b → cond b false (is_key_reserved old.keys.entries key bytes) ≡ true
+      by : (b : Bool) → lists pairs key bytes ≡ b → cond b false (is_key_reserved old.keys key bytes) ≡ true
       by true listed = absurd (clash listed state refl (sym (of.listed (record { 0 = key }) bytes) ∙ has))
       by false listed = reserved key bytes has
 
@@ -275,7 +275,7 @@ module _ (S : Schema) (F : Catalog) (homes : Parts) (change : Change) (rest : Li
   -- one is put
   pub put_on :
       (bytes : List ℕ) → change.put.bytes ≡ Some bytes → (new : Parts) → ((p : MayPutObject homes change.put.serial (row_of bytes) change.new_keys) → IsKept p.schema (insert p.catalog change.put.serial p.object) new)
-      → OthersStay homes new change.put.serial → TurnsKeysReserved homes.keys.entries new.keys.entries change.new_keys false → MayPutAll S F new rest
+      → OthersStay homes new change.put.serial → TurnsKeysReserved homes.keys new.keys change.new_keys false → MayPutAll S F new rest
   put_on bytes is new after stay turn = by m.steps m.are m.apart m.fresh m.ends
     where
       at :
@@ -350,7 +350,7 @@ module _ (homes : Parts) (changes : List Change) (rise : Rises 0 changes) (m : M
   pub may_take_all : MayTakeAll m.schema (bare m.catalog m.steps) homes changes
   may_take_all = record { original = m.catalog; catalog = m.catalog; steps = m.steps; kept = m.kept; are = m.are; apart = apart; same = agree_self m.catalog m.steps; ends = refl }
 
-  pub may_put_all : (new : Parts) → IsKept m.schema (bare m.catalog m.steps) new → AllStay homes new → KeepsKeysReserved homes.keys.entries new.keys.entries → MayPutAll m.schema (over m.catalog m.steps) new changes
+  pub may_put_all : (new : Parts) → IsKept m.schema (bare m.catalog m.steps) new → AllStay homes new → KeepsKeysReserved homes.keys new.keys → MayPutAll m.schema (over m.catalog m.steps) new changes
   may_put_all new kept stay keys = record {
     original = m.catalog;
     catalog = bare m.catalog m.steps;

@@ -91,7 +91,7 @@ module _ (S : Schema) (M : Catalog) (homes : Parts) (kept : IsKept S M homes) wh
         → new.total ≡ homes.total - weight S object → new.objects ≡ homes.objects - 1
         → TurnsHeldIn homes.extents.items new.extents.items object.home.0 s false → length new.extents.items ≡ length homes.extents.items
         → IsRaised new.counts.items homes.counts.items object.home.0 → length new.counts.items ≡ length homes.counts.items
-        → TurnsFound homes.keys.entries new.keys.entries pairs None
+        → TurnsFound homes.keys new.keys pairs None
         → IsKept S (remove M s) new
     kept_without new pairs keys families rows sum number held size counted long found = record {
       sound = kept.sound;
@@ -109,7 +109,7 @@ module _ (S : Schema) (M : Catalog) (homes : Parts) (kept : IsKept S M homes) wh
           let change = counted home in
           omega (arith, before, less, change));
       counts_size = long ∙ kept.counts_size;
-      keys = keys_without S M s object is pairs keys.listed _ new.keys.entries kept.keys found;
+      keys = keys_without S M s object is pairs keys.listed _ new.keys kept.keys found;
     }
 
   -- ---- putting
@@ -139,7 +139,7 @@ module _ (S : Schema) (M : Catalog) (homes : Parts) (kept : IsKept S M homes) wh
         → new.total ≡ homes.total + weight S object → new.objects ≡ homes.objects + 1
         → TurnsHeldIn homes.extents.items new.extents.items object.home.0 s true → length new.extents.items ≡ length homes.extents.items
         → IsRaised homes.counts.items new.counts.items object.home.0 → length new.counts.items ≡ length homes.counts.items
-        → TurnsFound homes.keys.entries new.keys.entries pairs (Some s)
+        → TurnsFound homes.keys new.keys pairs (Some s)
         → IsKept S (insert M s object) new
     kept_with new pairs keys unique families rows sum number held size counted long found = record {
       sound = kept.sound;
@@ -157,7 +157,7 @@ module _ (S : Schema) (M : Catalog) (homes : Parts) (kept : IsKept S M homes) wh
           let change = counted home in
           omega (arith, before, more, change));
       counts_size = long ∙ kept.counts_size;
-      keys = keys_with S M s object none unique pairs keys.listed _ new.keys.entries kept.keys found;
+      keys = keys_with S M s object none unique pairs keys.listed _ new.keys kept.keys found;
     }
       where
         by : (t : ℕ) (x : Object) → get (insert M s object) t ≡ Some x → (t ≡ s) ⊎ (t ≡ s → ⊥) → IsSound S x
@@ -222,7 +222,7 @@ module _ (S : Schema) (M : Catalog) (homes : Parts) (kept : IsKept S M homes) (s
       → new.total ≡ homes.total - (16 + length row.bytes) → new.objects ≡ homes.objects - 1
       → TurnsHeldIn homes.extents.items new.extents.items row.home.0 s false → length new.extents.items ≡ length homes.extents.items
       → IsRaised new.counts.items homes.counts.items row.home.0 → length new.counts.items ≡ length homes.counts.items
-      → TurnsFound homes.keys.entries new.keys.entries pairs None
+      → TurnsFound homes.keys new.keys pairs None
       → IsKept S (remove M s) new
   row_without new pairs keys families rows sum number held size counted long found =
       kept_without S M homes kept s behind.0 behind.1 new pairs (subst (λ o. AreKeysOf S o pairs) behind.1 keys) families rows
@@ -248,15 +248,15 @@ module _ (homes : Parts) (s : ℕ) (row : Stored) (pairs : List (KeyNo × List �
   pub row_counts_fit : number_at homes.counts.items row.home.0 < most
   row_counts_fit = subst (λ (r : Stored). number_at homes.counts.items r.home.0 < most) (sym may.is) (counts_fit may.schema may.catalog homes may.kept s may.object may.none may.is_sound may.bounded)
 
-  pub may_put_row : MayPut homes.keys.entries pairs
-  may_put_row = may_put_keys may.schema may.catalog homes.keys.entries may.kept.keys s may.object may.none may.unique pairs may.keys may.keys_reserved
+  pub may_put_row : MayPut homes.keys pairs
+  may_put_row = may_put_keys may.schema may.catalog homes.keys may.kept.keys s may.object may.none may.unique pairs may.keys may.keys_reserved
 
   pub row_with :
       (new : Parts) → new.families ≡ homes.families → TurnsObject homes.rows.chunks new.rows.chunks s (Some row)
       → new.total ≡ homes.total + (16 + length row.bytes) → new.objects ≡ homes.objects + 1
       → TurnsHeldIn homes.extents.items new.extents.items row.home.0 s true → length new.extents.items ≡ length homes.extents.items
       → IsRaised homes.counts.items new.counts.items row.home.0 → length new.counts.items ≡ length homes.counts.items
-      → TurnsFound homes.keys.entries new.keys.entries pairs (Some s)
+      → TurnsFound homes.keys new.keys pairs (Some s)
       → IsKept may.schema (insert may.catalog s may.object) new
   row_with new families rows sum number held size counted long found =
       kept_with may.schema may.catalog homes may.kept s may.object may.none may.is_sound may.bounded new pairs may.keys may.unique families
@@ -275,7 +275,7 @@ lent_items v old new is same = with_items_is v new (same ∙ ap length is ∙ sy
 pub kept_same :
     (S : Schema) (M : Catalog) (old new : Parts) → new.families ≡ old.families → KeepsObjects old.rows.chunks new.rows.chunks → new.total ≡ old.total → new.objects ≡ old.objects
     → KeepsHeldIn old.extents.items new.extents.items → length new.extents.items ≡ length old.extents.items → new.counts.items ≡ old.counts.items
-    → KeepsFound old.keys.entries new.keys.entries → IsKept S M old → IsKept S M new
+    → KeepsFound old.keys new.keys → IsKept S M old → IsKept S M new
 kept_same S M old new families rows sum number held size counts found kept = record {
   sound = kept.sound;
   each = kept.each;

@@ -55,7 +55,7 @@ AreChanges S M _ _ = ⊥
 
 -- the serial of a new record is reserved for its home, and the new keys are
 abbrev pub IsChangeReserved : Parts → Change → Type 0
-IsChangeReserved homes change = (IsSome change.put.bytes → IsReserved homes (record { 0 = change.put.home }) change.put.serial) × AreKeysReserved homes.keys.entries change.new_keys
+IsChangeReserved homes change = (IsSome change.put.bytes → IsReserved homes (record { 0 = change.put.home }) change.put.serial) × AreKeysReserved homes.keys change.new_keys
 
 abbrev pub AreReserved : Parts → List Change → Type 0
 AreReserved homes [] = Unit {0}

@@ -59,7 +59,7 @@ pub record IsKept (S : Schema) (M : Catalog) (homes : Parts) : Type 0 where
   pub extents_size : length homes.extents.items ≡ length S.homes
   pub counts : (home : ℕ) → number_at homes.counts.items home ≡ length (pids_where (is_own home) M)
   pub counts_size : length homes.counts.items ≡ length S.homes
-  pub keys : (key : KeyNo) (bytes : List ℕ) (serial : ℕ) → (found_at homes.keys.entries key.0 bytes ≡ Some serial) ↔ IsHolder S M key bytes serial
+  pub keys : (key : KeyNo) (bytes : List ℕ) (serial : ℕ) → (found_at homes.keys key.0 bytes ≡ Some serial) ↔ IsHolder S M key bytes serial
 
 -- room is kept for an object of this home with this serial
 abbrev pub IsReserved : Parts → HomeNo → ℕ → Type 0

@@ -48,7 +48,7 @@ impl Parts {
         requires { AnyTakeAll self.old changes.now }
         ensures kept { (S : Schema) (F : Catalog) → MayTakeAll S F self.old changes.now → IsKept S F self.new }
         ensures reserved { AllStay self.old self.new }
-        ensures keys { KeepsKeysReserved self.old.keys.entries self.new.keys.entries }
+        ensures keys { KeepsKeysReserved self.old.keys self.new.keys }
     {
         for change in changes {
             self.take_object(change.put.serial, change.old_keys.as_slice());
@@ -87,7 +87,7 @@ impl Parts {
         requires { MayTake self.old serial keys.now }
         ensures kept { (m : MayTake self.old serial keys.now) → IsKept m.schema (remove m.catalog serial) self.new }
         ensures reserved { AllStay self.old self.new }
-        ensures keys { KeepsKeysReserved self.old.keys.entries self.new.keys.entries }
+        ensures keys { KeepsKeysReserved self.old.keys self.new.keys }
     {
         let Some(object) = object_of(&self.rows, serial) else {
             return;
@@ -107,7 +107,7 @@ impl Parts {
         requires { MayPutObject self.old serial object keys.now }
         ensures kept { (m : MayPutObject self.old serial object keys.now) → IsKept m.schema (insert m.catalog serial m.object) self.new }
         ensures reserved { OthersStay self.old self.new serial }
-        ensures keys { TurnsKeysReserved self.old.keys.entries self.new.keys.entries keys.now false }
+        ensures keys { TurnsKeysReserved self.old.keys self.new.keys keys.now false }
     {
         let home = object.home;
         self.total += OBJECT_WEIGHT + object.bytes.as_slice().len() as u64;

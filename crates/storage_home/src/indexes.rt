@@ -1,47 +1,25 @@
 // Who holds which key, by an index for each key that is used: what is committed has one such table, and what an owner changed there another.
-ghost use Rattle.std.specs.Prelude.{◌≡◌, [], Some, None, true, false, IfOk, OnOk};
+ghost use Rattle.std.specs.Prelude.{◌≡◌, Some, None, true, false, IfOk, OnOk};
 ghost use Rattle.std.specs.FinMap as map;
 ghost use Rattle.std.specs.FinSet as set;
 ghost use Rattle.storage_home.specs.Indexes.{index_at, found_at, is_key_reserved, MayPut, KeepsFound, TurnsFoundAt, TurnsKeyReservedAt, KeepsKeysReserved, TurnsFound, TurnsKeysReserved, StayReserved};
 
-use indexmap::IndexMap;
 use key_index::KeyIndex;
 use pss_base::{Bytes, NoMemory};
+use recent_table::RecentTable;
 use std::alloc::Global;
-use std::hash::BuildHasherDefault;
 use table_hash::NumberHasher;
 use type_layout::KeyNo;
 
 /// Indexes by the numbers of their keys. A schema may have thousands of keys, of which few are used: an index comes to be when
 /// its key is first reserved.
-pub type KeyIndexes = IndexMap<u32, KeyIndex, BuildHasherDefault<NumberHasher>>;
-
-/// No index. It takes no memory.
-pub fn none(alloc: Global) -> KeyIndexes
-    ensures { result.entries ≡ [] }
-{
-    IndexMap::with_hasher(alloc, BuildHasherDefault::new())
-}
-
-/// The most indexes whose places stay when all are taken away.
-const MOST_KEPT: usize = 64;
-
-/// Takes all indexes away. The memory of a few places stays for those that come next.
-pub fn clear(indexes: &mut KeyIndexes, alloc: Global)
-    ensures { indexes.new.entries ≡ [] }
-{
-    if indexes.capacity() <= MOST_KEPT {
-        indexes.clear();
-    } else {
-        *indexes = none(alloc);
-    }
-}
+pub type KeyIndexes = RecentTable<u32, KeyIndex, NumberHasher>;
 
 /// The serial of the object that holds a key with these bytes, none where nothing does.
 pub fn find(indexes: &KeyIndexes, key: KeyNo, bytes: &[u8]) -> Option<u64>
-    ensures { result ≡ found_at indexes.now.entries key.0 bytes.now }
+    ensures { result ≡ found_at indexes.now key.0 bytes.now }
 {
-    match indexes.get(&key.0) {
+    match indexes.get(key.0) {
         Some(index) => index.find(bytes),
         None => None,
     }
@@ -56,9 +34,9 @@ pub fn reserve_all(
     indexes: &mut KeyIndexes,
     pairs: &[(KeyNo, Bytes)],
 ) -> Result<(), NoMemory>
-    ensures found { KeepsFound indexes.old.entries indexes.new.entries }
-    ensures ok { OnOk result (TurnsKeysReserved indexes.old.entries indexes.new.entries pairs.now true) }
-    ensures stay { StayReserved indexes.old.entries indexes.new.entries }
+    ensures found { KeepsFound indexes.old indexes.new }
+    ensures ok { OnOk result (TurnsKeysReserved indexes.old indexes.new pairs.now true) }
+    ensures stay { StayReserved indexes.old indexes.new }
 {
     for (key, bytes) in pairs {
         reserve(alloc, indexes, *key, bytes.as_slice())?;
@@ -72,11 +50,11 @@ fn reserve(
     key: KeyNo,
     bytes: &[u8],
 ) -> Result<(), NoMemory>
-    ensures found { KeepsFound indexes.old.entries indexes.new.entries }
-    ensures ok { OnOk result (TurnsKeyReservedAt indexes.old.entries indexes.new.entries key.0 bytes.now true) }
-    ensures stay { StayReserved indexes.old.entries indexes.new.entries }
+    ensures found { KeepsFound indexes.old indexes.new }
+    ensures ok { OnOk result (TurnsKeyReservedAt indexes.old indexes.new key.0 bytes.now true) }
+    ensures stay { StayReserved indexes.old indexes.new }
 {
-    match indexes.get_mut(&key.0) {
+    match indexes.get_mut(key.0) {
         Some(index) => index.reserve(bytes),
         None => add(alloc, indexes, key, bytes),
     }
@@ -84,10 +62,10 @@ fn reserve(
 
 // Reserves a key that has no index yet.
 fn add(alloc: Global, indexes: &mut KeyIndexes, key: KeyNo, bytes: &[u8]) -> Result<(), NoMemory>
-    requires { index_at key.0 indexes.old.entries ≡ None }
-    ensures found { KeepsFound indexes.old.entries indexes.new.entries }
-    ensures ok { OnOk result (TurnsKeyReservedAt indexes.old.entries indexes.new.entries key.0 bytes.now true) }
-    ensures stay { StayReserved indexes.old.entries indexes.new.entries }
+    requires { index_at key.0 indexes.old ≡ None }
+    ensures found { KeepsFound indexes.old indexes.new }
+    ensures ok { OnOk result (TurnsKeyReservedAt indexes.old indexes.new key.0 bytes.now true) }
+    ensures stay { StayReserved indexes.old indexes.new }
 {
     let index = reserved(alloc, bytes)?;
     indexes.insert(key.0, index)?;
@@ -107,8 +85,8 @@ fn reserved(alloc: Global, bytes: &[u8]) -> Result<KeyIndex, NoMemory>
 /// Takes keys from their holders, where they have some. What is reserved stays so. It takes no memory.
 #[inline(always)]
 pub fn take_all(indexes: &mut KeyIndexes, pairs: &[(KeyNo, Bytes)])
-    ensures found { TurnsFound indexes.old.entries indexes.new.entries pairs.now None }
-    ensures reserved { KeepsKeysReserved indexes.old.entries indexes.new.entries }
+    ensures found { TurnsFound indexes.old indexes.new pairs.now None }
+    ensures reserved { KeepsKeysReserved indexes.old indexes.new }
 {
     for (key, bytes) in pairs {
         take(indexes, *key, bytes.as_slice());
@@ -116,10 +94,10 @@ pub fn take_all(indexes: &mut KeyIndexes, pairs: &[(KeyNo, Bytes)])
 }
 
 fn take(indexes: &mut KeyIndexes, key: KeyNo, bytes: &[u8])
-    ensures found { TurnsFoundAt indexes.old.entries indexes.new.entries key.0 bytes.now None }
-    ensures reserved { KeepsKeysReserved indexes.old.entries indexes.new.entries }
+    ensures found { TurnsFoundAt indexes.old indexes.new key.0 bytes.now None }
+    ensures reserved { KeepsKeysReserved indexes.old indexes.new }
 {
-    if let Some(index) = indexes.get_mut(&key.0) {
+    if let Some(index) = indexes.get_mut(key.0) {
         let _ = index.take(bytes);
     }
 }
@@ -127,9 +105,9 @@ fn take(indexes: &mut KeyIndexes, key: KeyNo, bytes: &[u8])
 /// Gives reserved keys that nothing holds to the object with a serial, and ends their reservations. It takes no memory.
 #[inline(always)]
 pub fn put_all(indexes: &mut KeyIndexes, pairs: &[(KeyNo, Bytes)], serial: u64)
-    requires { MayPut indexes.old.entries pairs.now }
-    ensures found { TurnsFound indexes.old.entries indexes.new.entries pairs.now (Some serial) }
-    ensures reserved { TurnsKeysReserved indexes.old.entries indexes.new.entries pairs.now false }
+    requires { MayPut indexes.old pairs.now }
+    ensures found { TurnsFound indexes.old indexes.new pairs.now (Some serial) }
+    ensures reserved { TurnsKeysReserved indexes.old indexes.new pairs.now false }
 {
     for (key, bytes) in pairs {
         put(indexes, *key, bytes.as_slice(), serial);
@@ -137,12 +115,12 @@ pub fn put_all(indexes: &mut KeyIndexes, pairs: &[(KeyNo, Bytes)], serial: u64)
 }
 
 fn put(indexes: &mut KeyIndexes, key: KeyNo, bytes: &[u8], serial: u64)
-    requires reserved { is_key_reserved indexes.old.entries key.0 bytes.now ≡ true }
-    requires free { found_at indexes.old.entries key.0 bytes.now ≡ None }
-    ensures found { TurnsFoundAt indexes.old.entries indexes.new.entries key.0 bytes.now (Some serial) }
-    ensures reserved { TurnsKeyReservedAt indexes.old.entries indexes.new.entries key.0 bytes.now false }
+    requires reserved { is_key_reserved indexes.old key.0 bytes.now ≡ true }
+    requires free { found_at indexes.old key.0 bytes.now ≡ None }
+    ensures found { TurnsFoundAt indexes.old indexes.new key.0 bytes.now (Some serial) }
+    ensures reserved { TurnsKeyReservedAt indexes.old indexes.new key.0 bytes.now false }
 {
-    if let Some(index) = indexes.get_mut(&key.0) {
+    if let Some(index) = indexes.get_mut(key.0) {
         index.put_reserved(bytes, serial);
     }
 }

@@ -12,7 +12,7 @@ ghost use Rattle.storage_home.specs.Extents.{is_held_in};
 
 use crate::extents::Extent;
 use crate::homes::Homes;
-use crate::indexes;
+use crate::indexes::KeyIndexes;
 use crate::keys::keys_of_octets;
 use crate::parts::Parts;
 use crate::rows::{self, Stored};
@@ -99,7 +99,7 @@ fn none(alloc: Global, schema: &Schema) -> Result<Parts, NoMemory>
         objects: 0,
         extents: no_extents(alloc, homes.len())?,
         counts: vec![in alloc; 0; homes.len()]?,
-        keys: indexes::none(alloc),
+        keys: KeyIndexes::new(alloc),
     })
 }
 

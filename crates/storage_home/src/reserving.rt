@@ -24,7 +24,7 @@ impl Homes {
         ensures kept { Keeping self.old (λ S M. IsKept S M self.new) }
         ensures ok { OnOk result (AreReserved self.new changes.now) }
         ensures stay { AllStay self.old self.new }
-        ensures keys_stay { StayReserved self.old.keys.entries self.new.keys.entries }
+        ensures keys_stay { StayReserved self.old.keys self.new.keys }
     {
         self.parts.reserve_changes(changes.as_slice())
     }
@@ -36,7 +36,7 @@ impl Parts {
         ensures kept { Keeping self.old (λ S M. IsKept S M self.new) }
         ensures ok { OnOk result (AreReserved self.new changes.now) }
         ensures stay { AllStay self.old self.new }
-        ensures keys_stay { StayReserved self.old.keys.entries self.new.keys.entries }
+        ensures keys_stay { StayReserved self.old.keys self.new.keys }
     {
         for change in changes {
             self.reserve_change(change)?;
@@ -49,7 +49,7 @@ impl Parts {
         ensures kept { Keeping self.old (λ S M. IsKept S M self.new) }
         ensures ok { OnOk result (IsChangeReserved self.new change.now) }
         ensures stay { AllStay self.old self.new }
-        ensures keys_stay { StayReserved self.old.keys.entries self.new.keys.entries }
+        ensures keys_stay { StayReserved self.old.keys self.new.keys }
     {
         self.reserve_keys(change.new_keys.as_slice())?;
         match change.put.bytes {
@@ -73,10 +73,10 @@ impl Parts {
 
     pub(crate) fn reserve_keys(&mut self, keys: &[(KeyNo, Bytes)]) -> Result<(), NoMemory>
         ensures kept { Keeping self.old (λ S M. IsKept S M self.new) }
-        ensures ok { OnOk result (AreKeysReserved self.new.keys.entries keys.now) }
+        ensures ok { OnOk result (AreKeysReserved self.new.keys keys.now) }
         ensures stay { AllStay self.old self.new }
         ensures extents { self.new.extents ≡ self.old.extents }
-        ensures keys_stay { StayReserved self.old.keys.entries self.new.keys.entries }
+        ensures keys_stay { StayReserved self.old.keys self.new.keys }
     {
         reserve_all(self.alloc, &mut self.keys, keys)
     }

@@ -43,4 +43,4 @@ pub record MayReplace (homes : Parts) (serial : ℕ) (row : Stored) (old_pairs n
   pub unique : IsUnique schema (insert catalog serial object)
   pub bounded : total schema (insert catalog serial object) ≤ most
   pub reserved : is_reserved_at serial homes.rows.chunks ≡ true
-  pub keys_reserved : AreKeysReserved homes.keys.entries new_pairs
+  pub keys_reserved : AreKeysReserved homes.keys new_pairs

@@ -45,7 +45,7 @@ pub record MayPutObject (homes : Parts) (serial : ℕ) (row : Stored) (pairs : L
   pub unique : IsUnique schema (insert catalog serial object)
   pub bounded : total schema (insert catalog serial object) ≤ most
   pub reserved : IsReserved homes object.home serial
-  pub keys_reserved : AreKeysReserved homes.keys.entries pairs
+  pub keys_reserved : AreKeysReserved homes.keys pairs
 
 -- what is reserved for other serials stays so
 abbrev pub OthersStay : Parts → Parts → ℕ → Type 0

@@ -4,6 +4,6 @@ use Rattle.storage_home.proofs.indexes.put_all.Given as goal
 
 abbrev pub invariant-loop-key : goal.invariant-loop-key
 invariant-loop-key l =
-    ((key : ℕ) (bytes : List ℕ) → cond (lists (drop l.key-index l.pairs) key bytes) (Some l.serial) (found_at l.indexes.entries key bytes) ≡ cond (lists l.pairs key bytes) (Some l.serial) (found_at l.initial.indexes.entries key bytes))
-    × ((key : ℕ) (bytes : List ℕ) → cond (lists (drop l.key-index l.pairs) key bytes) false (is_key_reserved l.indexes.entries key bytes) ≡ cond (lists l.pairs key bytes) false (is_key_reserved l.initial.indexes.entries key bytes))
-    × MayPut l.indexes.entries (drop l.key-index l.pairs)
+    ((key : ℕ) (bytes : List ℕ) → cond (lists (drop l.key-index l.pairs) key bytes) (Some l.serial) (found_at l.indexes key bytes) ≡ cond (lists l.pairs key bytes) (Some l.serial) (found_at l.initial.indexes key bytes))
+    × ((key : ℕ) (bytes : List ℕ) → cond (lists (drop l.key-index l.pairs) key bytes) false (is_key_reserved l.indexes key bytes) ≡ cond (lists l.pairs key bytes) false (is_key_reserved l.initial.indexes key bytes))
+    × MayPut l.indexes (drop l.key-index l.pairs)

@@ -7,7 +7,7 @@ use Rattle.storage_home.proofs.indexes.take_all.Goals as goal
 pub loop-key-preserved : goal.loop-key-preserved
 loop-key-preserved c =
     let front : drop c.loop-key.key-index c.args.pairs.now ≡ c.loop-key-item.result ∷ drop (c.loop-key.key-index + 1) c.args.pairs.now = drop_more c.args.pairs.now c.loop-key.key-index c.loop-key-item.result c.loop-key-test.true ∙ ap (λ p. p ∷ drop (c.loop-key.key-index + 1) c.args.pairs.now) (sym c.loop-key-item.is) in
-    let found = subst (λ b. TurnsFoundAt c.loop-key.indexes.entries c.take.new.indexes.entries c.loop-key-item.result.0.0 b None) c.as_slice.ensures c.take.ensures.found in (
+    let found = subst (λ b. TurnsFoundAt c.loop-key.indexes c.take.new.indexes c.loop-key-item.result.0.0 b None) c.as_slice.ensures c.take.ensures.found in (
       λ key q. turn_on _ _ c.loop-key-item.result None key q _ _ _ front (found key q) (c.loop-key.invariant.0 key q),
       λ key q. c.take.ensures.reserved key q ∙ c.loop-key.invariant.1 key q,
     )

@@ -4,5 +4,5 @@ use Rattle.storage_home.proofs.indexes.take_all.Given as goal
 
 abbrev pub invariant-loop-key : goal.invariant-loop-key
 invariant-loop-key l =
-    ((key : ℕ) (bytes : List ℕ) → cond (lists (drop l.key-index l.pairs) key bytes) None (found_at l.indexes.entries key bytes) ≡ cond (lists l.pairs key bytes) None (found_at l.initial.indexes.entries key bytes))
-    × KeepsKeysReserved l.initial.indexes.entries l.indexes.entries
+    ((key : ℕ) (bytes : List ℕ) → cond (lists (drop l.key-index l.pairs) key bytes) None (found_at l.indexes key bytes) ≡ cond (lists l.pairs key bytes) None (found_at l.initial.indexes key bytes))
+    × KeepsKeysReserved l.initial.indexes l.indexes

@@ -10,7 +10,7 @@ use Rattle.storage_home.proofs.Finding.{told_is}
 use Rattle.owner_view.specs.Views.{IsHolder}
 use Rattle.owner_view.proofs.committed_homes.HomesCommitted.holder.Goals as goal
 
-is_holder : (S : Schema) (M : Catalog) (homes : Parts) → IsKept S M homes → (key : KeyNo) (bytes : List ℕ) (o : Option ℕ) → found_at homes.keys.entries key.0 bytes ≡ o → IsHolder S M key bytes o
+is_holder : (S : Schema) (M : Catalog) (homes : Parts) → IsKept S M homes → (key : KeyNo) (bytes : List ℕ) (o : Option ℕ) → found_at homes.keys key.0 bytes ≡ o → IsHolder S M key bytes o
 is_holder S M homes kept key bytes (Some s) found = (kept.keys key bytes s).0 found
 is_holder S M homes kept key bytes None found = λ s x at. by s x at (holds S key bytes x) refl
   where

@@ -27,7 +27,7 @@ within value parts changes list is same m = record {
 }
 
 -- all is taken out, and then put
-in_two : (parts middle after : Parts) (list : List Change) (rise : Rises 0 list) (m : MayApply parts list) → ((S : Schema) (F : Catalog) → MayTakeAll S F parts list → IsKept S F middle) → AllStay parts middle → KeepsKeysReserved parts.keys.entries middle.keys.entries
+in_two : (parts middle after : Parts) (list : List Change) (rise : Rises 0 list) (m : MayApply parts list) → ((S : Schema) (F : Catalog) → MayTakeAll S F parts list → IsKept S F middle) → AllStay parts middle → KeepsKeysReserved parts.keys middle.keys
     → ((S : Schema) (F : Catalog) → MayPutAll S F middle list → IsKept S F after) → IsKept m.schema (over m.catalog m.steps) after
 in_two parts middle after list rise m taken stay keys put =
     put m.schema (over m.catalog m.steps) (may_put_all parts list rise m middle (taken m.schema (bare m.catalog m.steps) (may_take_all parts list rise m)) stay keys)

@@ -17,7 +17,7 @@ put_object-requires c =
     c.in_ok-keys.keys
     (loaded_keys c.args.schema.now c.args.self.now c.args.serial c.args.object c.requires c.as_slice.result.now c.as_slice.ensures c.in_ok-keys.keys c.in_ok-keys.ensures)
     (loaded_reserved c.args.schema.now c.args.self.now c.args.serial c.args.object c.requires c.reserve_keys.new.self (c.reserve_keys.ensures.stay c.args.object.home c.args.serial c.in_ok-reserve_serial.ensures.ok))
-    (subst (AreKeysReserved c.reserve_keys.new.self.keys.entries) c.as_slice-2.ensures c.in_ok-reserve_keys.ensures.ok))
+    (subst (AreKeysReserved c.reserve_keys.new.self.keys) c.as_slice-2.ensures c.in_ok-reserve_keys.ensures.ok))
 
 pub returns : goal.returns
 returns c m =
@@ -28,4 +28,4 @@ returns c m =
     c.in_ok-keys.keys
     (loaded_keys c.args.schema.now c.args.self.now c.args.serial c.args.object m c.as_slice.result.now c.as_slice.ensures c.in_ok-keys.keys c.in_ok-keys.ensures)
     (loaded_reserved c.args.schema.now c.args.self.now c.args.serial c.args.object m c.reserve_keys.new.self (c.reserve_keys.ensures.stay c.args.object.home c.args.serial c.in_ok-reserve_serial.ensures.ok))
-    (subst (AreKeysReserved c.reserve_keys.new.self.keys.entries) c.as_slice-2.ensures c.in_ok-reserve_keys.ensures.ok))
+    (subst (AreKeysReserved c.reserve_keys.new.self.keys) c.as_slice-2.ensures c.in_ok-reserve_keys.ensures.ok))

@@ -15,7 +15,7 @@ returns-in-Some c rest S F m =
     put_on S F c.args.self.now c.args.change rest m c.in-Some.bytes c.in-Some.is c.put_object.new.self
     (subst (λ k. (p : MayPutObject c.args.self.now c.args.change.put.serial (record { home = record { 0 = c.args.change.put.home }; bytes = c.in-Some.bytes }) k) → IsKept p.schema (insert p.catalog c.args.change.put.serial p.object) c.put_object.new.self) c.as_slice.ensures c.put_object.ensures.kept)
     c.put_object.ensures.reserved
-    (subst (λ k. TurnsKeysReserved c.args.self.now.keys.entries c.put_object.new.self.keys.entries k false) c.as_slice.ensures c.put_object.ensures.keys)
+    (subst (λ k. TurnsKeysReserved c.args.self.now.keys c.put_object.new.self.keys k false) c.as_slice.ensures c.put_object.ensures.keys)
 
 pub returns : goal.returns
 returns c rest S F m = none_put S F c.args.self.now c.args.change rest m c.in_default.is

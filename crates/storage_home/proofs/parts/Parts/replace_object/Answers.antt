@@ -16,10 +16,10 @@ overflow_add-self c =
     omega (arith, old, new, fits)
 
 pub put_all-requires : goal.put_all-requires
-put_all-requires c = may_put_new c.args.self.now c.args.serial c.args.object c.args.old_keys.now c.args.new_keys.now c.requires c.take_all.new.indexes.entries c.take_all.ensures.found c.take_all.ensures.reserved
+put_all-requires c = may_put_new c.args.self.now c.args.serial c.args.object c.args.old_keys.now c.args.new_keys.now c.requires c.take_all.new.indexes c.take_all.ensures.found c.take_all.ensures.reserved
 
 pub returns : goal.returns
 returns c m =
     kept_replaced c.args.self.now c.args.serial c.args.object c.args.old_keys.now c.args.new_keys.now m
-    _ c.in-Some.old.now (sym c.in-Some.ensures) c.take_all.new.indexes.entries refl c.put.ensures.objects
+    _ c.in-Some.old.now (sym c.in-Some.ensures) c.take_all.new.indexes refl c.put.ensures.objects
     (let old = ap length c.as_slice.ensures in let new = ap length c.as_slice-2.ensures in omega (arith, old, new)) refl refl refl c.take_all.ensures.found c.put_all.ensures.found

@@ -10,6 +10,6 @@ abbrev pub invariant-loop-change : goal.invariant-loop-change
 invariant-loop-change l =
     Keeping l.initial.self (λ S M. IsKept S M l.self)
     × AllStay l.initial.self l.self
-    × StayReserved l.initial.self.keys.entries l.self.keys.entries
+    × StayReserved l.initial.self.keys l.self.keys
     × ((S : Schema) → AreNamed S l.changes → AreNamed S (drop l.change-index l.changes))
-    × ((later : Parts) → AllStay l.self later → StayReserved l.self.keys.entries later.keys.entries → AreReserved later (drop l.change-index l.changes) → AreReserved later l.changes)
+    × ((later : Parts) → AllStay l.self later → StayReserved l.self.keys later.keys → AreReserved later (drop l.change-index l.changes) → AreReserved later l.changes)

@@ -10,4 +10,4 @@ abbrev pub invariant-loop-change : goal.invariant-loop-change
 invariant-loop-change l =
     ((S : Schema) (F : Catalog) → MayTakeAll S F l.initial.self l.changes → MayTakeAll S F l.self (drop l.change-index l.changes))
     × AllStay l.initial.self l.self
-    × KeepsKeysReserved l.initial.self.keys.entries l.self.keys.entries
+    × KeepsKeysReserved l.initial.self.keys l.self.keys

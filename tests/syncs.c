@@ -5,6 +5,7 @@
 #define _GNU_SOURCE
 #include <dlfcn.h>
 #include <errno.h>
+#include <libgen.h>
 #include <stdio.h>
 #include <stdlib.h>
 #include <sys/stat.h>
@@ -31,16 +32,25 @@ static void tell(char letter, const void *octets, size_t count, off64_t at) {
     }
 }
 
+/* Whether a descriptor is of the file or folder that has a name. */
+static int is_of(int fd, const char *name) {
+    struct stat here, there;
+    return fstat(fd, &here) == 0 && stat(name, &there) == 0 && here.st_dev == there.st_dev && here.st_ino == there.st_ino;
+}
+
 /* Whether a descriptor is of the store's file. */
 static int is_store(int fd) {
     const char *name = getenv("STORE");
-    struct stat here, there;
-    return name != NULL && fstat(fd, &here) == 0 && stat(name, &there) == 0 && here.st_dev == there.st_dev && here.st_ino == there.st_ino;
+    return name != NULL && is_of(fd, name);
 }
 
+/* Whether a descriptor is of the folder of the store's file, to which symbolic links may lead. */
 static int is_folder(int fd) {
-    struct stat here;
-    return fstat(fd, &here) == 0 && S_ISDIR(here.st_mode);
+    const char *name = getenv("STORE");
+    char *file = name != NULL ? realpath(name, NULL) : NULL;
+    int is = file != NULL && is_of(fd, dirname(file));
+    free(file);
+    return is;
 }
 
 /* Counts a sync, by the call that the system has for it. */

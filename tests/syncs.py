@@ -126,6 +126,18 @@ def mounts(watched, words):
         expect_kept(f"a mount whose sync {number} fails", words, 3 + number, 3 + number)
 
 
+def behind_links(watched, schema, folder):
+    """Stores that are made by the name of a symbolic link: the folder that is synced is that of the file."""
+    elsewhere, link, further = (os.path.join(folder, name) for name in ("elsewhere", "link", "further"))
+    os.mkdir(elsewhere)
+    os.symlink(os.path.join("elsewhere", "store"), link)
+    os.symlink(link, further)
+    for name in (link, further):
+        run, order = watched.run(["init", schema, name])
+        tell("a new store by a symbolic link", (run, order) == ((0, b"", b""), INIT), (run, order))
+        os.unlink(os.path.join(elsewhere, "store"))
+
+
 def syncs(folder):
     watched, schema = Watched(folder), written(folder, CELLS)
     first, store = (os.path.join(folder, name) for name in ("first", "store"))
@@ -135,6 +147,7 @@ def syncs(folder):
         os.unlink(store)
     run, order = watched.run(["init", schema, first])
     tell("the order of the calls for a new store", (run, order) == ((0, b"", b""), INIT), (run, order))
+    behind_links(watched, schema, folder)
     words = ["run", schema, store]
     failing(watched, first, words)
     interrupted(watched, first, words)

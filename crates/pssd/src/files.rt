@@ -41,11 +41,19 @@ fn folder_of(name: &str) -> &str {
     }
 }
 
-// Makes sure that a file is in its folder, where that folder can be opened.
-fn settle_in_folder(rt: &HostRuntime, name: &str) -> io::Result<()> {
+// Syncs the folder that has a name, where it can be opened.
+fn sync_folder_of(rt: &HostRuntime, name: &str) -> io::Result<()> {
     match fs::open(rt, folder_of(name)) {
         Ok(folder) => folder.sync_all(),
         Err(_) => Ok(()),
+    }
+}
+
+// Makes sure that a file is in its folder. Where its name is a symbolic link, that is the folder to which the link leads.
+fn settle_in_folder(rt: &HostRuntime, name: &str) -> io::Result<()> {
+    match fs::canonicalize(rt, name) {
+        Ok(path) => sync_folder_of(rt, path.as_str()),
+        Err(_) => sync_folder_of(rt, name),
     }
 }
 

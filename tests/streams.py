@@ -2,6 +2,8 @@
 import itertools
 import os
 import re
+import shutil
+import subprocess
 
 from running import USAGE, cells, contents, dialogue, each, ended, examples, fresh, program, shortened, tell
 
@@ -112,6 +114,22 @@ def make_each(folder, closed):
     os.unlink(made)
 
 
+def without_null_device(folder):
+    """Below a root folder that has no null device nothing is done, and the status is 7. None but root may change that folder."""
+    if os.geteuid():
+        return
+    root, name = os.path.join(folder, "root"), os.path.abspath(program)
+    libraries = subprocess.run(["ldd", name], stdout=subprocess.PIPE, text=True, check=True).stdout
+    for needed in [name, *re.findall(r"(/\S+) \(", libraries)]:
+        os.makedirs(os.path.dirname(root + needed), exist_ok=True)
+        shutil.copy(needed, root + needed)
+    put(root, "cells.psdl", contents(cells))
+    for words in (["check", "/cells.psdl"], ["init", "/cells.psdl", "/made"], []):
+        run = ended(["chroot", root, name, *words])
+        made = os.path.exists(os.path.join(root, "made"))
+        tell(f"without a null device: {words[:1]}", (run, made) == ((7, b"", b""), False), (run, made))
+
+
 def closed_descriptors(folder):
     """Each descriptor alone, two of them, and all. No file that a run opens gets what it speaks."""
     put(folder, "cells.psdl", contents(cells))
@@ -126,3 +144,4 @@ def closed_descriptors(folder):
     for name, before in [("cells.psdl", contents(cells)), ("store", store)]:
         after = contents(os.path.join(folder, name))
         tell(f"{name} behind runs with closed descriptors", after == before, after[:200])
+    without_null_device(folder)

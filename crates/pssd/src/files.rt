@@ -49,7 +49,7 @@ fn sync_folder_of(rt: &HostRuntime, name: &str) -> io::Result<()> {
     }
 }
 
-// Makes sure that a file is in its folder. Where its name is a symbolic link, that is the folder to which the link leads.
+// Makes sure that a file is in its folder. Where its name is a symbolic link, that is the folder of the file to which it leads.
 fn settle_in_folder(rt: &HostRuntime, name: &str) -> io::Result<()> {
     match fs::canonicalize(rt, name) {
         Ok(path) => sync_folder_of(rt, path.as_str()),
